@@ -1,0 +1,3 @@
+pub mod Ast
+pub mod Choice
+pub mod Lookups
