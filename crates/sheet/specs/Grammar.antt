@@ -1,0 +1,209 @@
+-- Which sheets fit, and where one does not: the first row that doesn't (document 01, Sheets).
+-- First the shape of a row by its kind, the table's columns; then what may follow what.
+use mathlib.Core.List.{List, [], _∷_}
+use mathlib.Core.Bool.{Bool, true, false, not, _&&_, _||_}
+use Prim.Native.Nat.{ℕ, suc, _-_}
+use lib.ListN.{getD}
+use lib.Dec.{ltb, leb, eqb}
+use Rattle.ast.specs.Choice.{choose}
+use Rattle.sheet.specs.declared.row.Row.{Row}
+use Rattle.sheet.specs.declared.grammar.Form.{Form}
+use Rattle.sheet.specs.declared.grammar.Form.the-variants.{Root, Library, Expanded}
+use Rattle.sheet.specs.declared.grammar.State.{State}
+use Rattle.sheet.specs.declared.grammar.Role.{Role}
+use Rattle.sheet.specs.declared.grammar.Role.the-variants.{Starts, Opens, Inner, Files, Owed, Never}
+use Rattle.sheet.specs.declared.grammar.Next.{Next}
+use Rattle.sheet.specs.declared.grammar.Next.the-variants.{Go, No}
+use Rattle.sheet.specs.declared.Checked.{Checked}
+use Rattle.sheet.specs.declared.Checked.the-variants.{Fits, Bad}
+
+-- ---- the table: the columns of a row, by its kind
+
+-- "None" is 4294967295; names and ids are below it
+abbrev pub none# : ℕ
+none# = 4294967295
+
+abbrev pub isName : ℕ → Bool
+isName n = ltb n none#
+
+-- "unused ones are 0"
+abbrev pub zeroFromE : Row → Bool
+zeroFromE r = eqb (r .e) 0 && eqb (r .f) 0 && eqb (r .g) 0
+
+abbrev pub zeroFromC : Row → Bool
+zeroFromC r = eqb (r .c) 0 && eqb (r .d) 0 && zeroFromE r
+
+abbrev pub zeroFromB : Row → Bool
+zeroFromB r = eqb (r .b) 0 && zeroFromC r
+
+-- "v", with a value: a type tag 0 to 41, class 1 payload or 2 nodes, and the payload or the count. Without: e, f, g are 0
+abbrev pub hasValue : Row → Bool
+hasValue r = leb (r .e) 41 && leb 1 (r .f) && leb (r .f) 2
+
+-- c: 0 Builtin, 1 Proto, 2 ExternProto, 3 Unknown; d: the id of 1 and 2
+abbrev pub originFits : Row → Bool
+originFits r =
+    leb (r .c) 3 && ((eqb (r .c) 1 || eqb (r .c) 2) && isName (r .d) || not (eqb (r .c) 1 || eqb (r .c) 2) && eqb (r .d) 0)
+
+abbrev pub nodeFits : Row → Bool
+nodeFits r = isName (r .a) && originFits r && zeroFromE r
+
+-- a value, or the IS target and class 0
+abbrev pub fieldFits : Row → Bool
+fieldFits r =
+    isName (r .a) && leb (r .d) 1 && (eqb (r .b) 0 && eqb (r .c) 0 && hasValue r || eqb (r .b) 1 && isName (r .c) && zeroFromE r)
+
+abbrev pub interfaceFits : Row → Bool
+interfaceFits r = leb (r .a) 3 && leb (r .b) 41 && isName (r .c) && (hasValue r || zeroFromE r)
+
+abbrev pub routeFits : Row → Bool
+routeFits r = eqb (r .a) 3 && isName (r .b) && isName (r .c) && isName (r .d) && isName (r .e)
+
+-- Node, Proto, ExternProto with an id; Route; other with a payload
+abbrev pub statementFits : Row → Bool
+statementFits r = leb (r .a) 2 && isName (r .b) && zeroFromC r || routeFits r || eqb (r .a) 4 && zeroFromC r
+
+abbrev pub orderFits : Row → Bool
+orderFits r = leb (r .a) 2 && zeroFromB r
+
+-- a name, a base or an id alone: kinds 7, 8, 9 and 12
+abbrev pub nameFits : Row → Bool
+nameFits r = isName (r .a) && zeroFromB r
+
+abbrev pub urlFits : Row → Bool
+urlFits r = isName (r .a) && zeroFromC r
+
+abbrev pub topFits : Row → Bool
+topFits r = eqb (r .a) 0 && zeroFromB r
+
+abbrev pub instanceFits : Row → Bool
+instanceFits r = isName (r .a) && zeroFromE r
+
+abbrev pub associationFits : Row → Bool
+associationFits r = isName (r .a) && isName (r .b) && isName (r .c) && eqb (r .d) 0 && zeroFromE r
+
+-- "Column 1 decides the row's shape": kinds 0 to 14 in order; no row has kind 0, nor one above 14
+abbrev pub shapes : List (Row → Bool)
+shapes =
+    (λ r. false) ∷
+    zeroFromB ∷
+    nodeFits ∷
+    fieldFits ∷
+    interfaceFits ∷
+    statementFits ∷
+    orderFits ∷ nameFits ∷ nameFits ∷ nameFits ∷ urlFits ∷ topFits ∷ nameFits ∷ instanceFits ∷ associationFits ∷ []
+
+unfoldable pub shapeFits : Row → Bool
+shapeFits r = getD shapes (r .kind) (λ x. false) r
+
+-- ---- what may follow what
+
+-- what a row of each kind, 0 to 14, does; no other does anything
+abbrev pub roles : List Role
+roles =
+    Never ∷ Starts ∷ Opens ∷ Inner ∷ Inner ∷ Inner ∷ Inner ∷ Opens ∷ Opens ∷ Owed ∷ Inner ∷ Opens ∷ Files ∷ Inner ∷ Owed ∷ []
+
+unfoldable pub roleOf : ℕ → Role
+roleOf k = getD roles k Never
+
+-- part: 0 before a document, 1 after its row, 2 in a node, 7 in a proto, 8 in an extern, 11 in the top, 12 before a library's first file
+-- last: the kind of the part's last row but those owed, or 0; ids, routes, associations: how many such rows are owed, in this order
+abbrev pub opened : ℕ → State
+opened k = record { part = k; last = 0; ids = 0; routes = 0; associations = 0 }
+
+abbrev pub goIf : Bool → State → Next
+goIf b s = choose b (Go s) No
+
+-- "A node is row 2, fields, interfaces, statements, body order, at most one instance. A proto is row 7, interfaces, body statements. An extern is row 8, interfaces of class 0, urls."
+abbrev pub standsIn : ℕ → Row → Bool
+standsIn part r =
+    eqb part 2 && (ltb (r .kind) 7 || eqb (r .kind) 13) ||
+    eqb part 7 && (eqb (r .kind) 4 || eqb (r .kind) 5) ||
+    eqb part 8 && (eqb (r .kind) 4 && eqb (r .f) 0 || eqb (r .kind) 10) ||
+    eqb part 11 && eqb (r .kind) 5
+
+-- "in this order": the rows of a part do not go back, and there is one instance
+abbrev pub comesIn : State → Row → Bool
+comesIn s r = standsIn (s .part) r && leb (s .last) (r .kind) && ltb (s .last) 13
+
+-- the state after a row inside a part: an instance owes what its row counts, a field or an interface the ids of a class 2 value
+abbrev pub afterInner : State → Row → State
+afterInner s r =
+    choose (eqb (r .kind) 13)
+    (record { part = s .part; last = r .kind; ids = r .b; routes = r .c; associations = r .d })
+    (record { part = s .part; last = r .kind; ids = choose (ltb (r .kind) 5 && eqb (r .f) 2) (r .g) 0; routes = 0; associations = 0 })
+
+-- "A document is row 1; nodes; protos; externs; row 11; top statements. A library is any number of files, row 12 then a document."
+abbrev pub byRole : Bool → State → Row → Role → Next
+byRole library s r Starts = goIf (eqb (s .part) 0) (opened 1)
+byRole library s r Opens = goIf (leb 1 (s .part) && leb (s .part) (r .kind) && ltb (s .part) 11) (opened (r .kind))
+byRole library s r Inner = goIf (comesIn s r) (afterInner s r)
+byRole library s r Files = goIf (library && leb 11 (s .part)) (opened 0)
+byRole library s r Owed = No
+byRole library s r Never = No
+
+abbrev pub lessId : State → State
+lessId s =
+    record { part = s .part; last = s .last; ids = s .ids - 1; routes = s .routes; associations = s .associations }
+
+abbrev pub lessRoute : State → State
+lessRoute s =
+    record { part = s .part; last = s .last; ids = s .ids; routes = s .routes - 1; associations = s .associations }
+
+abbrev pub lessAssociation : State → State
+lessAssociation s =
+    record { part = s .part; last = s .last; ids = s .ids; routes = s .routes; associations = s .associations - 1 }
+
+-- the state after a row of the right shape: "its counted id, Route and association rows" first
+unfoldable pub moves : Bool → State → Row → Next
+moves library s r =
+    choose (ltb 0 (s .ids)) (goIf (eqb (r .kind) 9) (lessId s))
+    (choose (ltb 0 (s .routes)) (goIf (eqb (r .kind) 5 && eqb (r .a) 3) (lessRoute s))
+    (choose (ltb 0 (s .associations)) (goIf (eqb (r .kind) 14) (lessAssociation s))
+    (byRole library s r (roleOf (r .kind)))))
+
+-- a row of a root sheet or of a library
+abbrev pub rowFits : Bool → State → Row → Next
+rowFits library s r = choose (shapeFits r) (moves library s r) No
+
+-- "An expanded document is a root sheet without kind 7, Proto statements or origin Proto, whose nodes hold only Route and ExternProto statements and whose interfaces with an IS have class 0."
+abbrev pub staysExpanded : State → Row → Bool
+staysExpanded s r =
+    not
+    (eqb (r .kind) 7 ||
+    eqb (r .kind) 2 && eqb (r .c) 1 ||
+    eqb (r .kind) 5 && eqb (r .a) 1 ||
+    eqb (r .kind) 5 && eqb (s .part) 2 && (eqb (r .a) 0 || eqb (r .a) 4) ||
+    eqb (r .kind) 4 && isName (r .d) && ltb 0 (r .f))
+
+abbrev pub allowed : Form → State → Row → Bool
+allowed Root s r = true
+allowed Library s r = true
+allowed Expanded s r = staysExpanded s r
+
+abbrev pub isLibrary : Form → Bool
+isLibrary Root = false
+isLibrary Library = true
+isLibrary Expanded = false
+
+unfoldable pub fits : Form → State → Row → Next
+fits form s r = choose (allowed form s r) (rowFits (isLibrary form) s r) No
+
+-- a sheet may end in the top, or before a library's first file, with nothing owed
+abbrev pub hasEnded : State → Bool
+hasEnded s = leb 11 (s .part) && eqb (s .ids) 0 && eqb (s .routes) 0 && eqb (s .associations) 0
+
+abbrev pub goOn : Next → (State → Checked) → ℕ → Checked
+goOn (Go s) k n = k s
+goOn No k n = Bad n
+
+-- the first row that doesn't fit, counted from n; the count of all, where the sheet ends early
+unfoldable pub run : Form → State → ℕ → List Row → Checked
+run form s n [] = choose (hasEnded s) Fits (Bad n)
+run form s n (r ∷ l) = goOn (fits form s r) (λ t. run form t (suc n) l) n
+
+abbrev pub start : Form → State
+start form = opened (choose (isLibrary form) 12 0)
+
+abbrev pub checked : Form → List Row → Checked
+checked form l = run form (start form) 0 l
