@@ -1,0 +1,4 @@
+pub mod Walk
+pub mod Index
+pub mod Lookup
+pub mod Part

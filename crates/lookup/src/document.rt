@@ -1,0 +1,42 @@
+// Lookups by id in document 0 or in the n-th file. Node, prototype and extern ids are three numberings kept apart.
+use super::walk;
+use super::walk::Found;
+use ast::ExternProtoId;
+use ast::NodeId;
+use ast::ProtoId;
+use sheet::part::Part;
+ghost use Rattle.sheet.specs.Rows.{rows};
+ghost use Rattle.sheet.specs.Parse.{nodeOf, protoOf, externProtoOf};
+ghost use Rattle.lookup.specs.Lookup.{Begins, documentAt, Looked};
+
+// The row where a document begins, in the sheet that its number selects.
+pub fn document(library: &[u32], doc: u32) -> Found
+    ensures { λ x. ⌜ Begins (now (library .entry)) doc x ⌝ }
+{
+    if doc == 0 {
+        return Found::At(0);
+    }
+    let Found::At(q) = walk::nth(library, Part::Files, 0, doc - 1) else {
+        return Found::Nothing;
+    };
+    Found::At(q + 1)
+}
+
+// Of the document that begins at a row.
+pub fn node_row(sheet: &[u32], document: usize, id: NodeId) -> Found
+    ensures { λ x. ⌜ Looked nodeOf (documentAt (rows (now (sheet .entry))) document .nodes) (rows (now (sheet .entry))) (id .0) x ⌝ }
+{
+    walk::child(sheet, Part::Nodes, document, id.0)
+}
+
+pub fn proto_row(sheet: &[u32], document: usize, id: ProtoId) -> Found
+    ensures { λ x. ⌜ Looked protoOf (documentAt (rows (now (sheet .entry))) document .protos) (rows (now (sheet .entry))) (id .0) x ⌝ }
+{
+    walk::child(sheet, Part::Protos, document, id.0)
+}
+
+pub fn extern_row(sheet: &[u32], document: usize, id: ExternProtoId) -> Found
+    ensures { λ x. ⌜ Looked externProtoOf (documentAt (rows (now (sheet .entry))) document .externProtos) (rows (now (sheet .entry))) (id .0) x ⌝ }
+{
+    walk::child(sheet, Part::Externs, document, id.0)
+}
