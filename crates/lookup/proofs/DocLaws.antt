@@ -7,7 +7,7 @@ use native.Mathlib.Omega.{arith}
 use lib.ListN.{drop, getElem?}
 use borrow.Author.Tests.{ne-eqb}
 use Rattle.ast.specs.Ast.{Document}
-use Rattle.ast.specs.Choice.{mapO}
+use Rattle.ast.specs.Choice.{andThen, mapO}
 use Rattle.sheet.specs.declared.row.Row.{Row}
 use Rattle.sheet.specs.declared.part.Part.the-variants.{Files}
 use Rattle.sheet.specs.Rows.{rows, rest}
@@ -15,7 +15,7 @@ use Rattle.sheet.specs.Parse.{elements, documentOf, fileOf, filesOf}
 use Rattle.lookup.specs.declared.walk.Found.{Found}
 use Rattle.lookup.specs.declared.walk.Found.the-variants.{At, Nothing}
 use Rattle.lookup.specs.Walk.{Nth, rowsAt}
-use Rattle.lookup.specs.Lookup.{documentsOf, Begins}
+use Rattle.lookup.specs.Lookup.{sheetOf, documentsOf, documentAt, Begins, Looked, Located}
 use Rattle.lookup.proofs.WalkLaws.{at-map, rest-drop}
 
 -- document 0 is the root's
@@ -50,3 +50,22 @@ begins-file library (suc k) x y h s e root =
     let s′ : Nth Files (rows library) 0 k x = rw z at s in
     rw (ne-eqb (suc k) 0 (λ z. omega arith))
     (file-document root library k ∙ ap (mapO (λ l. documentOf (rest l))) (s′ .is) ∙ after (rows library) x ∙ ap (λ (f : Found). mapO documentOf (rowsAt (rows library) f)) (sym e))
+
+-- ---- a lookup in the document that begins at a row is one in the document of that number; g is the group of ids
+
+module _ {A : Type 0} (f : List Row → A) (g : Document → List A) (root library : List ℕ) (doc id : ℕ) where
+  abbrev R : List Row
+  R = rows (sheetOf root library doc)
+
+  abbrev wanted : Option A
+  wanted = andThen (getElem? (documentsOf root library) doc) (λ x. getElem? (g x) id)
+
+  pub located : {d x : Found} (p : ℕ) → Begins library doc d → d ≡ At p → Looked f (g (documentAt R p)) R id x → Located f wanted R x
+  located p b e s =
+      let z : getElem? (documentsOf root library) doc ≡ some (documentAt R p) = b root ∙ ap (λ (y : Found). mapO documentOf (rowsAt R y)) e in
+      record { is = rw z (s .is); below = s .below }
+
+  pub unlocated : {d : Found} → Begins library doc d → d ≡ Nothing → Located f wanted R Nothing
+  unlocated b e =
+      let z : getElem? (documentsOf root library) doc ≡ none = b root ∙ ap (λ (y : Found). mapO documentOf (rowsAt R y)) e in
+      record { is = rw z; below = tt }

@@ -1,4 +1,5 @@
 // Lookups by id in document 0 or in the n-th file. Node, prototype and extern ids are three numberings kept apart.
+use super::rows;
 use super::walk;
 use super::walk::Found;
 use ast::ExternProtoId;
@@ -7,7 +8,8 @@ use ast::ProtoId;
 use sheet::part::Part;
 ghost use Rattle.sheet.specs.Rows.{rows};
 ghost use Rattle.sheet.specs.Parse.{nodeOf, protoOf, externProtoOf};
-ghost use Rattle.lookup.specs.Lookup.{Begins, documentAt, Looked};
+ghost use Rattle.lookup.specs.Lookup.{Begins, documentAt, documentsOf, sheetOf, Looked, Located};
+ghost use Rattle.ast.specs.Lookups.{nodeAt, protoAt, externProtoAt};
 
 // The row where a document begins, in the sheet that its number selects.
 pub fn document(library: &[u32], doc: u32) -> Found
@@ -39,4 +41,34 @@ pub fn extern_row(sheet: &[u32], document: usize, id: ExternProtoId) -> Found
     ensures { λ x. ⌜ Looked externProtoOf (documentAt (rows (now (sheet .entry))) document .externProtos) (rows (now (sheet .entry))) (id .0) x ⌝ }
 {
     walk::child(sheet, Part::Externs, document, id.0)
+}
+
+// Document::node, of a document by its number.
+pub fn node<'a>(root: &'a [u32], library: &'a [u32], doc: u32, id: NodeId) -> Found
+    ensures { λ x. ⌜ Located nodeOf (nodeAt (documentsOf (now (root .entry)) (now (library .entry))) doc (id .0)) (rows (sheetOf (now (root .entry)) (now (library .entry)) doc)) x ⌝ }
+{
+    let Found::At(at) = document(library, doc) else {
+        return Found::Nothing;
+    };
+    node_row(rows::select(root, library, doc), at, id)
+}
+
+// Document::proto, of a document by its number.
+pub fn proto<'a>(root: &'a [u32], library: &'a [u32], doc: u32, id: ProtoId) -> Found
+    ensures { λ x. ⌜ Located protoOf (protoAt (documentsOf (now (root .entry)) (now (library .entry))) doc (id .0)) (rows (sheetOf (now (root .entry)) (now (library .entry)) doc)) x ⌝ }
+{
+    let Found::At(at) = document(library, doc) else {
+        return Found::Nothing;
+    };
+    proto_row(rows::select(root, library, doc), at, id)
+}
+
+// Document::extern_proto, of a document by its number.
+pub fn extern_proto<'a>(root: &'a [u32], library: &'a [u32], doc: u32, id: ExternProtoId) -> Found
+    ensures { λ x. ⌜ Located externProtoOf (externProtoAt (documentsOf (now (root .entry)) (now (library .entry))) doc (id .0)) (rows (sheetOf (now (root .entry)) (now (library .entry)) doc)) x ⌝ }
+{
+    let Found::At(at) = document(library, doc) else {
+        return Found::Nothing;
+    };
+    extern_row(rows::select(root, library, doc), at, id)
 }

@@ -3,6 +3,13 @@ ghost use mathlib.Core.Path.{_≡_};
 ghost use Rattle.lookup.specs.Lookup.{sheetOf};
 ghost use Rattle.lookup.specs.Part.{partOf};
 
+// The sheet that a document number selects: 0 the root, any other the library.
+pub fn select<'a>(root: &'a [u32], library: &'a [u32], doc: u32) -> &'a [u32]
+    ensures { λ r. ⌜ now r ≡ sheetOf (now (root .entry)) (now (library .entry)) doc ⌝ }
+{
+    if doc == 0 { root } else { library }
+}
+
 // The rows from one to another of the sheet that a document number selects: 0 the root, any other the library.
 pub fn rows_of<'a>(
     root: &'a [u32],
