@@ -1,3 +1,4 @@
 pub mod WalkLaws
 pub mod DocLaws
 pub mod IndexLaws
+pub mod PartLaws

@@ -1,7 +1,15 @@
-// A part of one of two sheets.
+// A part of one of two sheets, and the rows of a prototype as such a part.
+use super::document;
+use super::walk::Found;
+use ast::ProtoId;
+use sheet::part;
+use sheet::part::Part;
+use sheet::row;
 ghost use mathlib.Core.Path.{_≡_};
-ghost use Rattle.lookup.specs.Lookup.{sheetOf};
-ghost use Rattle.lookup.specs.Part.{partOf};
+ghost use Rattle.ast.specs.Lookups.{protoAt};
+ghost use Rattle.sheet.specs.Rows.{rows};
+ghost use Rattle.lookup.specs.Lookup.{sheetOf, documentsOf};
+ghost use Rattle.lookup.specs.Part.{partOf, ProtoEnd, HandedBack};
 
 // The sheet that a document number selects: 0 the root, any other the library.
 pub fn select<'a>(root: &'a [u32], library: &'a [u32], doc: u32) -> &'a [u32]
@@ -38,4 +46,33 @@ fn rows_between(sheet: &[u32], from: usize, to: usize) -> &[u32]
         }
     }
     &sheet[..0]
+}
+
+// The first row from a row on that stands in no prototype.
+fn proto_end(sheet: &[u32], from: usize) -> usize
+    ensures { λ x. ⌜ ProtoEnd (rows (now (sheet .entry))) from x ⌝ }
+{
+    let count = sheet.len() / 8;
+    let mut at = from;
+    while at < count {
+        let kind = row::row_at(sheet, at).kind;
+        if kind != 5 {
+            if !part::passes(Part::Statements, kind) {
+                return at;
+            }
+        }
+        at += 1;
+    }
+    at
+}
+
+// A prototype's rows, handed back as a part of the root sheet or of the library; none where there is no such prototype.
+pub fn proto_rows<'a>(root: &'a [u32], library: &'a [u32], doc: u32, id: ProtoId) -> &'a [u32]
+    ensures { λ r. ⌜ HandedBack (protoAt (documentsOf (now (root .entry)) (now (library .entry))) doc (id .0)) (sheetOf (now (root .entry)) (now (library .entry)) doc) (now r) ⌝ }
+{
+    let Found::At(from) = document::proto(root, library, doc, id) else {
+        return rows_of(root, library, doc, 0, 0);
+    };
+    let to = proto_end(select(root, library, doc), from + 1);
+    rows_of(root, library, doc, from, to)
 }

@@ -18,7 +18,7 @@ up n = suc (suc (suc (suc (suc (suc (suc (suc n)))))))
 skip : (p j : ℕ) → up (8 * p + j) ≡ 8 * suc p + j
 skip p j = omega arith
 
-skip0 : (p : ℕ) → up (8 * p) ≡ 8 * suc p
+pub skip0 : (p : ℕ) → up (8 * p) ≡ 8 * suc p
 skip0 p = omega arith
 
 next : (s : List ℕ) (k a b c d e f g p : ℕ) → rowOf s p ≡ rowOf (k ∷ a ∷ b ∷ c ∷ d ∷ e ∷ f ∷ g ∷ s) (suc p)
