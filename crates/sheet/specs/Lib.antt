@@ -2,3 +2,4 @@ pub mod Rows
 pub mod Grammar
 pub mod Parse
 pub mod Print
+pub mod Examples
