@@ -1,7 +1,7 @@
 -- The loops of the reader: what is left, from here, comes to what all comes to from the start.
 use mathlib.Core.Path.{_≡_, refl, sym, ap, _∙_}
 use mathlib.Core.Bool.{Bool, true, false, _&&_}
-use mathlib.Core.List.{List, [], _∷_, _++_}
+use mathlib.Core.List.{List}
 use Prim.Native.Nat.{ℕ, zero, suc, _+_, _*_, _-_, _/_, _%_, _≤_, _<_}
 use native.Mathlib.Omega.{arith}
 use lib.ListN.{length, take, drop, getD, set, length-append}
@@ -139,7 +139,7 @@ module _ (l w : List ℕ) where
       unfolding readLines
       first-bad h = rw (eq-eqb (length l % 89) 0 even, le-ltb (length w / 8) count room, lt-ltb (goodLines count l) count h)
 
-      pub all-good : count ≤ goodLines count l → {v : List ℕ} → v ≡ sets w 0 (wordsOf count l) → readLines l w ≡ (accepted count, v)
+      pub all-good : count ≤ goodLines count l → (v : List ℕ) → v ≡ sets w 0 (wordsOf count l) → readLines l w ≡ (accepted count, v)
       unfolding readLines
-      all-good h e =
+      all-good h v e =
           rw (eq-eqb (length l % 89) 0 even, le-ltb (length w / 8) count room, le-ltb (goodLines count l) count h, e, sets-front w (wordsOf count l) (8 * count) (words-length count l) (omega arith))

@@ -1,6 +1,6 @@
 -- The loops of the writer: what is left, from here, comes to what all comes to from the start.
 use mathlib.Core.Path.{_≡_, refl, sym, ap, _∙_}
-use mathlib.Core.List.{List, [], _∷_, _++_, append-assoc}
+use mathlib.Core.List.{List, [], _∷_, append-assoc}
 use Prim.Native.Nat.{ℕ, zero, suc, _+_, _*_, _-_, _/_, _%_, _≤_, _<_}
 use native.Mathlib.Omega.{arith}
 use lib.ListN.{length, take, drop, getD, set, length-append, length-take, length-drop}
@@ -106,7 +106,7 @@ module _ (w l : List ℕ) where
     unfolding writeLines
     too-few h = rw (eq-eqb (length w % 8) 0 even, lt-ltb (length l) (89 * count) (omega arith))
 
-    pub all-fit : count ≤ length l / 89 → {m : List ℕ} → m ≡ sets l 0 (linesOf count w) → writeLines w l ≡ (accepted (89 * count), m)
+    pub all-fit : count ≤ length l / 89 → (m : List ℕ) → m ≡ sets l 0 (linesOf count w) → writeLines w l ≡ (accepted (89 * count), m)
     unfolding writeLines
-    all-fit h e =
+    all-fit h m e =
         rw (eq-eqb (length w % 8) 0 even, le-ltb (length l) (89 * count) (omega arith), e, sets-front l (linesOf count w) (89 * count) (lines-length count w (omega arith)) (omega arith))

@@ -12,6 +12,8 @@ use Rattle.lines.specs.Answer.{Answer, accepted, refused, choose}
 
 -- ---- Lines: "each without leading zeros, right-justified with spaces in 11 bytes"
 
+-- What bytes come to, from left to right, is a Field: Spaces, spaces alone; a Number; or Bad.
+
 -- a number with the digit b (48 is '0') after it; a word is at most 4294967295
 unfoldable pub withDigit : ℕ → ℕ → Field
 withDigit n b = choose (leb 48 b && leb b 57 && leb (10 * n + (b - 48)) 4294967295) (Number (10 * n + (b - 48))) Bad
@@ -22,6 +24,7 @@ next Spaces b = choose (eqb b 32) Spaces (withDigit 0 b)
 next (Number n) b = choose (eqb n 0) Bad (withDigit n b)
 next Bad b = Bad
 
+-- the bytes of a list, one after the other
 abbrev pub reads : Field → List ℕ → Field
 reads f [] = f
 reads f (b ∷ l) = reads (next f b) l
@@ -55,7 +58,7 @@ numbers (suc n) l = valueOf (fieldOf (take 11 l)) ∷ numbers n (drop 11 l)
 unfoldable pub goodLine : List ℕ → Bool
 goodLine l = areNumbers 8 l && eqb (getD l 88 0) 10
 
--- how many of n lines come before the first bad one: its number, from 0
+-- how many of n lines come before the first bad one: n if all are good, else its number from 0
 abbrev pub goodLines : ℕ → List ℕ → ℕ
 goodLines zero l = 0
 goodLines (suc n) l = choose (goodLine l) (suc (goodLines n (drop 89 l))) 0
@@ -76,6 +79,7 @@ readLines l w =
     (refused 12 0, w)
     (choose (ltb (goodLines n l) n) (refused 13 (goodLines n l), w) (accepted n, wordsOf n l ++ drop (8 * n) w))
 
+-- document 01's numbers for each case
 abbrev pub readAnswer : Read → Answer
 readAnswer (Rows n) = accepted n
 readAnswer WrongLength = refused 12 0

@@ -14,12 +14,12 @@ use Rattle.lines.specs.Answer.{Answer, accepted, refused, choose}
 unfoldable pub digitLeft : ℕ → ℕ
 digitLeft n = choose (eqb n 0) 32 (48 + n % 10)
 
--- what is left of a number, right-justified in k bytes
+-- what is left of a number, right-justified with spaces in k bytes
 unfoldable pub before : ℕ → ℕ → List ℕ
 before zero n = []
 before (suc k) n = before k (n / 10) ++ (digitLeft n ∷ [])
 
--- a number ends in its last digit
+-- a number in 11 bytes ends in its last digit, which may be 0
 unfoldable pub field : ℕ → List ℕ
 field n = before 10 (n / 10) ++ ((48 + n % 10) ∷ [])
 
@@ -48,6 +48,7 @@ writeLines w l =
     (refused 14 0, l)
     (accepted (89 * n), linesOf n w ++ drop (89 * n) l)
 
+-- document 01's numbers for each case
 abbrev pub writeAnswer : Written → Answer
 writeAnswer (Bytes n) = accepted n
 writeAnswer Refused = refused 14 0

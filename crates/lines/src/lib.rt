@@ -51,14 +51,12 @@ fn step(f: Field, b: u8) -> Field
     ensures { λ r. ⌜ r ≡ next f b ⌝ }
 {
     match f {
-        Field::Spaces => {
-            if b == b' ' {
-                Field::Spaces
-            } else {
-                with_digit(0, b)
-            }
-        }
-        Field::Number(n) => { if n == 0 { Field::Bad } else { with_digit(n, b) } }
+        Field::Spaces => if b == b' ' {
+            Field::Spaces
+        } else {
+            with_digit(0, b)
+        },
+        Field::Number(n) => if n == 0 { Field::Bad } else { with_digit(n, b) },
         Field::Bad => Field::Bad,
     }
 }
@@ -151,6 +149,7 @@ fn take_rows(lines: &[u8], words: &mut [u32], n: usize)
     }
 }
 
+// The rows of a text, into the lent words; they stay if a line is bad.
 pub fn read_lines(lines: &[u8], words: &mut [u32]) -> Read
     ensures { λ r. ⌜ readLines (now (lines .entry)) (now (words .entry)) ≡ (readAnswer r, now (words .exit)) ⌝ }
 {
@@ -225,6 +224,7 @@ fn put_rows(words: &[u32], lines: &mut [u8], n: usize)
     }
 }
 
+// Rows of words, as lines into the lent bytes.
 pub fn write_lines(words: &[u32], lines: &mut [u8]) -> Written
     ensures { λ r. ⌜ writeLines (now (words .entry)) (now (lines .entry)) ≡ (writeAnswer r, now (lines .exit)) ⌝ }
 {

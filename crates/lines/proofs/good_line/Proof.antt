@@ -5,7 +5,7 @@ use Rattle.lines.proofs.good_line.Reads as reads
 use Rattle.lines.proofs.good_line.Lts as lts
 use Rattle.lines.proofs.field_at.Reads as field-at-reads
 use Rattle.lines.proofs.is_number.Reads as is-number-reads
-use mathlib.Core.Path.{_≡_, sym, ap, _∙_}
+use mathlib.Core.Path.{_≡_, sym, _∙_}
 use mathlib.Core.Bool.{true, false}
 use Prim.Native.Nat.{_≤_, _-_}
 use borrow.Author.Tests.{not-true, not-false}

@@ -4,12 +4,10 @@ use Rattle.lines.proofs.good_lines.Tie as tie
 use Rattle.lines.proofs.good_lines.Reads as reads
 use Rattle.lines.proofs.good_lines.Lts as lts
 use Rattle.lines.proofs.good_line.Reads as good-line-reads
-use mathlib.Core.Path.{_≡_, sym, ap, _∙_}
-use mathlib.Core.Bool.{true, false}
-use Prim.Native.Nat.{_≤_, _-_, _*_}
+use mathlib.Core.Path.{_≡_, sym, _∙_}
+use Prim.Native.Nat.{_≤_, _-_}
 use borrow.Author.Tests.{not-true, not-false}
 use denote.Ref.{now}
-use lib.ListN.{drop}
 use Rattle.lines.specs.Read.{goodLines}
 use Rattle.lines.proofs.ReadLaws.{goodLeft, good-start, good-turn, good-bad, good-end}
 use native.Mathlib.Omega.{arith}

@@ -10,7 +10,7 @@ use Prim.Native.Nat.{_≤_}
 use denote.Ref.{now}
 use lib.ListN.{length, length-set}
 use lib.Seq.{sets}
-use Rattle.lines.specs.Write.{before, field}
+use Rattle.lines.specs.Write.{before}
 use Rattle.lines.proofs.WriteLaws.{field-put, before-put, before-end}
 use native.Mathlib.Omega.{arith}
 use borrow.Author.Needs.{needs}

@@ -4,11 +4,10 @@ use Rattle.lines.proofs.put_row.Tie as tie
 use Rattle.lines.proofs.put_row.Reads as reads
 use Rattle.lines.proofs.put_row.Lts as lts
 use Rattle.lines.proofs.put_number.Reads as put-number-reads
-use mathlib.Core.Path.{_≡_, refl, sym, ap, _∙_}
+use mathlib.Core.Path.{_≡_, refl, sym, _∙_}
 use Prim.Native.Nat.{_≤_, _-_}
-use denote.Ref.{now}
 use lib.ListN.{length, take, drop, length-set}
-use lib.Seq.{sets, length-sets}
+use lib.Seq.{sets}
 use Rattle.lines.specs.Write.{line}
 use Rattle.lines.proofs.WriteLaws.{lineLeft, line-start, line-turn, line-end}
 use native.Mathlib.Omega.{arith}

@@ -6,11 +6,7 @@ use Rattle.lines.proofs.read_lines.Reads as reads
 use Rattle.lines.proofs.read_lines.Lts as lts
 use Rattle.lines.proofs.good_lines.Reads as good-lines-reads
 use Rattle.lines.proofs.take_rows.Reads as take-rows-reads
-use mathlib.Core.Path.{_≡_, ap, sym, _∙_}
-use mathlib.Core.List.{List}
-use Prim.Native.Nat.{ℕ, _*_}
 use denote.Ref.{now}
-use Rattle.lines.specs.Answer.{Answer, accepted, refused}
 use Rattle.lines.proofs.ReadLaws.{uneven, too-many, first-bad, all-good}
 use native.Mathlib.Omega.{arith}
 
@@ -33,7 +29,7 @@ same-length : tie.Need-same-length
 same-length c = c .before .before .take-rows .kept .1 .0
 
 returns-4 : tie.Need-returns-4
-returns-4 c = all-good (now (c .before .before .before .before .before .before .before .before .before .before .args .lines)) (now (c .before .before .before .before .before .before .before .before .before .before .args .words)) (c .before .before .before .before .before .before .before .if1 .left) (c .before .before .before .before .before .before .if2 .left) (rw (c .before .before .before .before .before .good-lines .ensures) at (c .before .before .before .before .if3 .left)) (c .before .before .take-rows .ensures)
+returns-4 c = all-good (now (c .before .before .before .before .before .before .before .before .before .before .args .lines)) (now (c .before .before .before .before .before .before .before .before .before .before .args .words)) (c .before .before .before .before .before .before .before .if1 .left) (c .before .before .before .before .before .before .if2 .left) (rw (c .before .before .before .before .before .good-lines .ensures) at (c .before .before .before .before .if3 .left)) _ (c .before .before .take-rows .ensures)
 
 pub read-lines-spec : {M : Type 1} → statement M
 read-lines-spec =

@@ -5,7 +5,7 @@ use Rattle.lines.proofs.take_row.Reads as reads
 use Rattle.lines.proofs.take_row.Lts as lts
 use Rattle.lines.proofs.field_at.Reads as field-at-reads
 use Rattle.lines.proofs.value_of.Reads as value-of-reads
-use mathlib.Core.Path.{_≡_, refl, sym, ap, _∙_}
+use mathlib.Core.Path.{_≡_, refl, sym, _∙_}
 use Prim.Native.Nat.{_≤_, _-_}
 use denote.Ref.{now}
 use lib.ListN.{length, drop, length-set}

@@ -4,7 +4,7 @@ use Rattle.lines.proofs.take_rows.Tie as tie
 use Rattle.lines.proofs.take_rows.Reads as reads
 use Rattle.lines.proofs.take_rows.Lts as lts
 use Rattle.lines.proofs.take_row.Reads as take-row-reads
-use mathlib.Core.Path.{_≡_, refl, sym, ap, _∙_}
+use mathlib.Core.Path.{_≡_, refl, sym, _∙_}
 use Prim.Native.Nat.{_≤_, _-_}
 use denote.Ref.{now}
 use lib.ListN.{length}

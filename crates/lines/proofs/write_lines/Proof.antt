@@ -5,7 +5,6 @@ use Rattle.lines.proofs.write_lines.Tie as tie
 use Rattle.lines.proofs.write_lines.Reads as reads
 use Rattle.lines.proofs.write_lines.Lts as lts
 use Rattle.lines.proofs.put_rows.Reads as put-rows-reads
-use mathlib.Core.Path.{_≡_, ap, sym, _∙_}
 use denote.Ref.{now}
 use Rattle.lines.proofs.WriteLaws.{uneven, too-few, all-fit}
 use native.Mathlib.Omega.{arith}
@@ -26,7 +25,7 @@ same-length : tie.Need-same-length
 same-length c = c .before .before .put-rows .kept .1 .0
 
 returns-3 : tie.Need-returns-3
-returns-3 c = all-fit (now (c .before .before .before .before .before .before .before .before .args .words)) (now (c .before .before .before .before .before .before .before .before .args .lines)) (c .before .before .before .before .before .if1 .left) (c .before .before .before .before .if2 .left) (c .before .before .put-rows .ensures)
+returns-3 c = all-fit (now (c .before .before .before .before .before .before .before .before .args .words)) (now (c .before .before .before .before .before .before .before .before .args .lines)) (c .before .before .before .before .before .if1 .left) (c .before .before .before .before .if2 .left) _ (c .before .before .put-rows .ensures)
 
 pub write-lines-spec : {M : Type 1} → statement M
 write-lines-spec = tie.close (tie.spec returns returns-2 put-rows-requires mul-t4 same-length returns-3)
