@@ -1,0 +1,112 @@
+-- The loops of the writer: what is left, from here, comes to what all comes to from the start.
+use mathlib.Core.Path.{_≡_, refl, sym, ap, _∙_}
+use mathlib.Core.List.{List, [], _∷_, append-assoc}
+use Prim.Native.Nat.{ℕ, zero, suc, _+_, _*_, _-_, _/_, _%_, _≤_, _<_}
+use native.Mathlib.Omega.{arith}
+use lib.ListN.{length, take, drop, getD, set, length-append, length-take, length-drop}
+use lib.Seq.{sets}
+use borrow.Author.Tests.{eq-eqb, ne-eqb, lt-ltb, le-ltb}
+use Rattle.lines.specs.Answer.{accepted, refused}
+use Rattle.lines.specs.Write.{digitLeft, before, field, fields, line, linesOf, writeLines}
+use Rattle.lines.proofs.ListLaws.{turn, over, hop, part, sets-append, sets-last, sets-front}
+
+-- ---- the bytes of a number
+
+pub before-length : (k n : ℕ) → length (before k n) ≡ k
+unfolding before
+before-length zero n = refl
+before-length (suc k) n = simp length-append (let h = before-length k (n / 10) in omega arith)
+
+pub field-length : (n : ℕ) → length (field n) ≡ 11
+unfolding field
+field-length n = simp length-append (let h = before-length 10 (n / 10) in omega arith)
+
+-- the last digit, stored first
+pub field-put : (l : List ℕ) (at n : ℕ) → sets (set l (at + 10) (48 + n % 10)) at (before 10 (n / 10)) ≡ sets l at (field n)
+unfolding field
+field-put l at n = sym (sets-last l at (at + 10) (before 10 (n / 10)) _ (ap (λ (k : ℕ). at + k) (before-length 10 (n / 10))))
+
+-- and each byte before the one stored last
+pub before-put : (l : List ℕ) (at i n : ℕ) → 0 < i → sets (set l (at + (i - 1)) (digitLeft n)) at (before (i - 1) (n / 10)) ≡ sets l at (before i n)
+unfolding before
+before-put l at i n h =
+    let e : i ≡ suc (i - 1) = omega arith in
+    sym
+    (ap (λ (k : ℕ). sets l at (before k n)) e ∙
+    sets-last l at (at + (i - 1)) (before (i - 1) (n / 10)) _ (ap (λ (k : ℕ). at + k) (before-length (i - 1) (n / 10))))
+
+pub before-end : (l : List ℕ) (at i n : ℕ) → i ≤ 0 → sets l at (before i n) ≡ l
+unfolding before
+before-end l at i n h = let e : i ≡ 0 = omega arith in rw e
+
+-- ---- the fields of a line, and the lines of a text
+
+pub fields-length : (w : List ℕ) → length (fields w) ≡ 11 * length w
+fields-length [] = refl
+fields-length (n ∷ w) = simp length-append (let h = field-length n in let k = fields-length w in omega arith)
+
+pub line-length : (w : List ℕ) → length w ≡ 8 → length (line w) ≡ 89
+line-length w h = simp length-append (let k = fields-length w in omega arith)
+
+pub lines-length : (n : ℕ) (w : List ℕ) → 8 * n ≤ length w → length (linesOf n w) ≡ 89 * n
+lines-length zero w h = refl
+lines-length (suc n) w h =
+    let a : length (take 8 w) ≡ 8 = length-take 8 w ∙ omega arith in
+    let k = line-length (take 8 w) a in
+    let t = lines-length n (drop 8 w) (rw length-drop (omega arith)) in
+    length-append (line (take 8 w)) _ ∙ omega arith
+
+module _ (w : List ℕ) where
+  abbrev pub lineLeft : ℕ → ℕ → ℕ → List ℕ → List ℕ
+  lineLeft from at i l = sets l (at + 11 * i) (line (take (8 - i) (drop (from + i) w)))
+
+  pub line-start : (from at : ℕ) (l : List ℕ) → lineLeft from at 0 l ≡ sets l at (line (take 8 (drop from w)))
+  line-start from at l = let e : at + 11 * 0 ≡ at = omega arith in let f : from + 0 ≡ from = omega arith in rw (e, f)
+
+  pub line-turn : (from at i : ℕ) (l : List ℕ) → i < 8 → from + i < length w → lineLeft from at (i + 1) (sets l (at + 11 * i) (field (getD w (from + i) 0))) ≡ lineLeft from at i l
+  line-turn from at i l h k =
+      let e : from + (i + 1) ≡ from + i + 1 = omega arith in
+      let g = field-length (getD w (from + i) 0) in
+      sym
+      (rw (turn 8 i h, part w (from + i) (8 - (i + 1)) 0 k, ← e, append-assoc (field (getD w (from + i) 0)))
+      (sets-append l (at + 11 * i) (at + 11 * (i + 1)) (field (getD w (from + i) 0)) (line (take (8 - (i + 1)) (drop (from + (i + 1)) w))) (omega arith)))
+
+  pub line-end : (from at i : ℕ) (l : List ℕ) → 8 ≤ i → i ≤ 8 → lineLeft from at i l ≡ set l (at + 88) 10
+  line-end from at i l h k = let e : i ≡ 8 = omega arith in rw e
+
+  abbrev pub linesLeft : ℕ → ℕ → List ℕ → List ℕ
+  linesLeft n i l = sets l (89 * i) (linesOf (n - i) (drop (8 * i) w))
+
+  pub lines-start : (n : ℕ) (l : List ℕ) → linesLeft n 0 l ≡ sets l 0 (linesOf n w)
+  lines-start n l = let e : n - 0 ≡ n = omega arith in rw e
+
+  pub lines-turn : (n i : ℕ) (l : List ℕ) → i < n → 8 * n ≤ length w → linesLeft n (i + 1) (sets l (89 * i) (line (take 8 (drop (8 * i) w)))) ≡ linesLeft n i l
+  lines-turn n i l h k =
+      let a : length (take 8 (drop (8 * i) w)) ≡ 8 = simp (length-take, length-drop) (omega arith) in
+      let b = line-length (take 8 (drop (8 * i) w)) a in
+      sym
+      (rw (turn n i h, hop 8 (8 * i) (8 * (i + 1)) w (omega arith))
+      (sets-append l (89 * i) (89 * (i + 1)) (line (take 8 (drop (8 * i) w))) (linesOf (n - (i + 1)) (drop (8 * (i + 1)) w)) (omega arith)))
+
+  pub lines-end : (n i : ℕ) (l : List ℕ) → n ≤ i → linesLeft n i l ≡ l
+  lines-end n i l h = rw (over n i h)
+
+-- ---- the answer, by the tests that led to it
+
+module _ (w l : List ℕ) where
+  abbrev count : ℕ
+  count = length w / 8
+
+  pub uneven : (length w % 8 ≡ 0 → ⊥) → writeLines w l ≡ (refused 14 0, l)
+  unfolding writeLines
+  uneven h = rw (ne-eqb (length w % 8) 0 h)
+
+  module _ (even : length w % 8 ≡ 0) where
+    pub too-few : length l / 89 < count → writeLines w l ≡ (refused 14 0, l)
+    unfolding writeLines
+    too-few h = rw (eq-eqb (length w % 8) 0 even, lt-ltb (length l) (89 * count) (omega arith))
+
+    pub all-fit : count ≤ length l / 89 → (m : List ℕ) → m ≡ sets l 0 (linesOf count w) → writeLines w l ≡ (accepted (89 * count), m)
+    unfolding writeLines
+    all-fit h m e =
+        rw (eq-eqb (length w % 8) 0 even, le-ltb (length l) (89 * count) (omega arith), e, sets-front l (linesOf count w) (89 * count) (lines-length count w (omega arith)) (omega arith))

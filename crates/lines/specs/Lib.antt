@@ -1,0 +1,4 @@
+pub mod Answer
+pub mod Read
+pub mod Write
+pub mod Examples
