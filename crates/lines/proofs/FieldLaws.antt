@@ -12,7 +12,7 @@ use lib.ListN.{length, take, getD}
 use lib.Seq.{take-suc}
 use Rattle.lines.specs.declared.Field.{Field}
 use Rattle.lines.specs.declared.Field.the-variants.{Spaces, Number, Bad}
-use Rattle.lines.specs.Answer.{choose}
+use Rattle.ast.specs.Choice.{choose}
 use Rattle.lines.specs.Read.{withDigit, next, reads, fieldOf}
 use Rattle.lines.specs.Write.{digitLeft, before, field}
 

@@ -9,7 +9,8 @@ use borrow.Author.Tests.{eqb-true, ltb-false, not-false}
 use lib.Dec.{ltb, eqb}
 use lib.ListN.{length, take, drop}
 use lib.Seq.{take-at, take-all}
-use Rattle.lines.specs.Answer.{Answer, accepted, refused, choose}
+use Rattle.ast.specs.Choice.{choose}
+use Rattle.lines.specs.Answer.{Answer, accepted, refused}
 use Rattle.lines.specs.Read.{goodLine, numbers, goodLines, wordsOf, readLines}
 use Rattle.lines.specs.Write.{line, linesOf, writeLines}
 use Rattle.lines.proofs.ListLaws.{sets-front}

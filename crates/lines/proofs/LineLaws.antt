@@ -10,7 +10,7 @@ use lib.ListN.{length, take, drop, getD, length-take, length-drop, take-append-d
 use lib.Seq.{take-at, drop-at, getD-at, getD-drop, take-add, take-suc}
 use Rattle.lines.specs.declared.Field.{Field}
 use Rattle.lines.specs.declared.Field.the-variants.{Spaces, Number, Bad}
-use Rattle.lines.specs.Answer.{choose}
+use Rattle.ast.specs.Choice.{choose}
 use Rattle.lines.specs.Read.{fieldOf, isNumber, valueOf, areNumbers, numbers, goodLine, goodLines, wordsOf}
 use Rattle.lines.specs.Write.{field, fields, line, linesOf}
 use Rattle.lines.proofs.WriteLaws.{field-length, fields-length, line-length}

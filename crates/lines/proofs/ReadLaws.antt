@@ -9,7 +9,8 @@ use lib.Dec.{eqb}
 use borrow.Author.Tests.{eq-eqb, ne-eqb, lt-ltb, le-ltb}
 use lib.Seq.{getD-drop, sets}
 use Rattle.lines.specs.declared.Field.{Field}
-use Rattle.lines.specs.Answer.{accepted, refused, choose}
+use Rattle.ast.specs.Choice.{choose}
+use Rattle.lines.specs.Answer.{accepted, refused}
 use Rattle.lines.specs.Read.{next, reads, fieldOf, isNumber, valueOf, areNumbers, numbers, goodLine, goodLines, wordsOf, readLines}
 use Rattle.lines.proofs.ListLaws.{turn, over, hop, part, sets-append, sets-front}
 

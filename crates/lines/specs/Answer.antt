@@ -1,5 +1,4 @@
 -- What reading and writing answer, in document 01's numbers.
-use mathlib.Core.Bool.{Bool, true, false}
 use Prim.Native.Nat.{ℕ}
 
 -- the refusal, or 0 if accepted; the place of a refusal, and the count of what is accepted, where there is one
@@ -13,7 +12,3 @@ accepted n = record { refusal = 0; place = 0; count = n }
 
 abbrev pub refused : ℕ → ℕ → Answer
 refused n at = record { refusal = n; place = at; count = 0 }
-
-abbrev pub choose : {A : Type 0} → Bool → A → A → A
-choose true x y = x
-choose false x y = y

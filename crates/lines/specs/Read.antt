@@ -8,7 +8,8 @@ use Rattle.lines.specs.declared.Field.{Field}
 use Rattle.lines.specs.declared.Field.the-variants.{Spaces, Number, Bad}
 use Rattle.lines.specs.declared.Read.{Read}
 use Rattle.lines.specs.declared.Read.the-variants.{Rows, WrongLength, BadLine}
-use Rattle.lines.specs.Answer.{Answer, accepted, refused, choose}
+use Rattle.ast.specs.Choice.{choose}
+use Rattle.lines.specs.Answer.{Answer, accepted, refused}
 
 -- ---- Lines: "each without leading zeros, right-justified with spaces in 11 bytes"
 

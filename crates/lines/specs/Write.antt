@@ -6,7 +6,8 @@ use lib.Dec.{ltb, eqb}
 use lib.ListN.{length, take, drop}
 use Rattle.lines.specs.declared.Written.{Written}
 use Rattle.lines.specs.declared.Written.the-variants.{Bytes, Refused}
-use Rattle.lines.specs.Answer.{Answer, accepted, refused, choose}
+use Rattle.ast.specs.Choice.{choose}
+use Rattle.lines.specs.Answer.{Answer, accepted, refused}
 
 -- ---- Lines: "each without leading zeros, right-justified with spaces in 11 bytes"
 
