@@ -1,0 +1,4 @@
+pub mod Back
+pub mod Whole
+pub mod Accepted
+pub mod RoundTrip
