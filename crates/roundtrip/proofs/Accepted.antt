@@ -35,12 +35,12 @@ pub record Good (s : State) : Type 0 where
 abbrev Shows : State → Row → List Row → State → Type 0
 Shows s r l t = Good t × (Rest t l → Rest s (r ∷ l))
 
-never : {A : Type 0} → false ≡ true → A
+pub never : {A : Type 0} → false ≡ true → A
 never h = let z : _≡_ {A = ℕ} 0 1 = cc in absurd (omega arith)
 
 -- ---- taking an accepting step apart
 
-no-go : {A : Type 0} {t : State} → No ≡ Go t → A
+pub no-go : {A : Type 0} {t : State} → No ≡ Go t → A
 no-go h = let z : _≡_ {A = ℕ} 0 1 = cc in absurd (omega arith)
 
 go-l : (b : Bool) (x : Next) (t : State) → choose b x No ≡ Go t → b ≡ true
@@ -59,7 +59,7 @@ skip-r : (b : Bool) (x : Next) (t : State) → choose b No x ≡ Go t → x ≡ 
 skip-r true x t h = no-go h
 skip-r false x t h = h
 
-go-inj : {u t : State} → Go u ≡ Go t → u ≡ t
+pub go-inj : {u t : State} → Go u ≡ Go t → u ≡ t
 go-inj h = cc
 
 kindOf : (b : Bool) (u t : State) (P : State → Type 0) → goIf b u ≡ Go t → (b ≡ true → P u) → P t
@@ -285,10 +285,10 @@ module _ (lib : Bool) (p la i ro ass a b c d e f g : ℕ) (l : List Row) (t : St
 
 -- ---- a whole sheet
 
-bad-fits : {A : Type 0} {n : ℕ} → Bad n ≡ Fits → A
+pub bad-fits : {A : Type 0} {n : ℕ} → Bad n ≡ Fits → A
 bad-fits h = let z : _≡_ {A = ℕ} 0 1 = cc in absurd (omega arith)
 
-end-of : (b : Bool) (n : ℕ) → choose b Fits (Bad n) ≡ Fits → b ≡ true
+pub end-of : (b : Bool) (n : ℕ) → choose b Fits (Bad n) ≡ Fits → b ≡ true
 end-of true n h = refl
 end-of false n h = bad-fits h
 

@@ -1,4 +1,9 @@
 pub mod Back
 pub mod Whole
 pub mod Accepted
+pub mod Passes
+pub mod Steps
+pub mod Walk
+pub mod Present
+pub mod Sheets
 pub mod RoundTrip
