@@ -6,4 +6,7 @@ pub mod Steps
 pub mod Walk
 pub mod Present
 pub mod Sheets
+pub mod Scan
+pub mod Parsed
+pub mod Words
 pub mod RoundTrip
