@@ -174,7 +174,7 @@ staysExpanded s r =
     eqb (r .kind) 2 && eqb (r .c) 1 ||
     eqb (r .kind) 5 && eqb (r .a) 1 ||
     eqb (r .kind) 5 && eqb (s .part) 2 && (eqb (r .a) 0 || eqb (r .a) 4) ||
-    eqb (r .kind) 4 && isName (r .d) && ltb 0 (r .f))
+    eqb (r .kind) 4 && not (eqb (r .d) none#) && ltb 0 (r .f))
 
 abbrev pub allowed : Form → State → Row → Bool
 allowed Root s r = true

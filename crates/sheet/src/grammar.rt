@@ -178,7 +178,7 @@ fn stays_expanded(s: State, r: Row) -> bool
 {
     let prototype = (r.kind == 7) | (r.kind == 2) & (r.c == 1) | (r.kind == 5) & (r.a == 1);
     let statement = (r.kind == 5) & (s.part == 2) & ((r.a == 0) | (r.a == 4));
-    let is_and_value = (r.kind == 4) & (r.d < shape::NONE) & (0 < r.f);
+    let is_and_value = (r.kind == 4) & (r.d != shape::NONE) & (0 < r.f);
     !(prototype | statement | is_and_value)
 }
 

@@ -1,0 +1,12 @@
+pub mod Back
+pub mod Whole
+pub mod Accepted
+pub mod Passes
+pub mod Steps
+pub mod Walk
+pub mod Present
+pub mod Sheets
+pub mod Scan
+pub mod Parsed
+pub mod Words
+pub mod RoundTrip

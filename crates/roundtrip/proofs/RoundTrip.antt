@@ -1,0 +1,104 @@
+-- A sheet and the document that it says determine each other (document 01, Sheets).
+use mathlib.Core.Path.{_≡_, refl, sym, ap, _∙_}
+use mathlib.Core.List.{List, [], append-nil}
+use mathlib.Core.Logic.{_↔_}
+use Prim.Native.Nat.{ℕ, _*_}
+use native.Mathlib.Omega.{arith}
+use lib.ListN.{length}
+use Rattle.sheet.specs.declared.row.Row.{Row}
+use Rattle.sheet.specs.declared.grammar.Form.the-variants.{Root, Library, Expanded}
+use Rattle.sheet.specs.declared.Checked.the-variants.{Fits}
+use Rattle.ast.specs.Ast.{Document, File}
+use Rattle.sheet.specs.Rows.{rows, words}
+use Rattle.sheet.specs.Grammar.{checked}
+use Rattle.sheet.specs.Parse.{documentOf, filesOf}
+use Rattle.sheet.specs.Print.{documentRows, libraryRows}
+use Rattle.roundtrip.specs.Each.{Each}
+use Rattle.roundtrip.specs.Ranges.{InRange, FileInRange}
+use Rattle.roundtrip.specs.Expanded.{IsExpanded}
+use Rattle.roundtrip.proofs.Accepted.{document-back, library-back}
+use Rattle.roundtrip.proofs.Walk.{document-passes, library-passes}
+use Rattle.roundtrip.proofs.Present.{document-given, files-given}
+use Rattle.roundtrip.proofs.Sheets.{fits-if, fits-only}
+use Rattle.roundtrip.proofs.Parsed.{document-parsed, library-parsed}
+use Rattle.roundtrip.proofs.Words.{rows-words, words-rows}
+
+-- ---- accepted, then printed back
+
+-- a root sheet that is accepted is written in its own rows: nothing is lost
+pub root-printed-back : (R : List Row) → checked Root R ≡ Fits → documentRows (documentOf R) ≡ R
+root-printed-back = document-back Root refl
+
+-- so is an expanded document
+pub expanded-printed-back : (R : List Row) → checked Expanded R ≡ Fits → documentRows (documentOf R) ≡ R
+expanded-printed-back = document-back Expanded refl
+
+-- and a library
+pub library-printed-back : (R : List Row) → checked Library R ≡ Fits → libraryRows (filesOf R) ≡ R
+library-printed-back = library-back
+
+-- ---- in range, then accepted
+
+-- a document in range is written in a root sheet that is accepted
+pub root-fits : (D : Document) → InRange D → checked Root (documentRows D) ≡ Fits
+root-fits D r = fits-if Root (document-passes Root D) (omega arith) (omega arith) r tt
+
+-- and files in range in a library that is
+pub library-fits : (L : List File) → Each FileInRange L → checked Library (libraryRows L) ≡ Fits
+library-fits L r = fits-if Library (library-passes L) (omega arith) (omega arith) r tt
+
+-- ---- in range, then parsed back
+
+-- a document in range is what its rows say: nothing is read in two ways
+pub root-parsed-back : (D : Document) → InRange D → documentOf (documentRows D) ≡ D
+root-parsed-back D r = rw append-nil at (document-parsed D [] r tt)
+
+-- and so are files
+pub library-parsed-back : (L : List File) → Each FileInRange L → filesOf (libraryRows L) ≡ L
+library-parsed-back = library-parsed
+
+-- ---- accepted, then in range
+
+-- what an accepted root sheet says is in range
+pub root-in-range : (R : List Row) → checked Root R ≡ Fits → InRange (documentOf R)
+root-in-range R h = fits-only Root (document-passes Root (documentOf R)) (omega arith) (omega arith) (document-given R) (ap (checked Root) (root-printed-back R h) ∙ h) .0
+
+-- and what an accepted library says
+pub library-in-range : (R : List Row) → checked Library R ≡ Fits → Each FileInRange (filesOf R)
+library-in-range R h = fits-only Library (library-passes (filesOf R)) (omega arith) (omega arith) (files-given R) (ap (checked Library) (library-printed-back R h) ∙ h) .0
+
+-- so the accepted root sheets are the prints of the documents in range
+pub root-sheets : (R : List Row) → (checked Root R ≡ Fits) ↔ ((D : Document) × InRange D × (documentRows D ≡ R))
+root-sheets R = ((λ h. (documentOf R, root-in-range R h, root-printed-back R h)), (λ w. ap (checked Root) (sym (w .2)) ∙ root-fits (w .0) (w .1)))
+
+-- and the accepted libraries those of the files in range
+pub library-sheets : (R : List Row) → (checked Library R ≡ Fits) ↔ ((L : List File) × Each FileInRange L × (libraryRows L ≡ R))
+library-sheets R = ((λ h. (filesOf R, library-in-range R h, library-printed-back R h)), (λ w. ap (checked Library) (sym (w .2)) ∙ library-fits (w .0) (w .1)))
+
+-- ---- expanded documents
+
+-- a document in range that is expanded is written in a sheet that is accepted as one
+pub expanded-fits : (D : Document) → InRange D → IsExpanded D → checked Expanded (documentRows D) ≡ Fits
+expanded-fits D r k = fits-if Expanded (document-passes Expanded D) (omega arith) (omega arith) r k
+
+-- what a sheet says that is accepted as one is in range, and expanded
+pub expanded-in-range : (R : List Row) → checked Expanded R ≡ Fits → InRange (documentOf R) × IsExpanded (documentOf R)
+expanded-in-range R h = fits-only Expanded (document-passes Expanded (documentOf R)) (omega arith) (omega arith) (document-given R) (ap (checked Expanded) (expanded-printed-back R h) ∙ h)
+
+-- so the sheet is a root sheet that says an expanded document
+pub expanded-is-root : (R : List Row) → checked Expanded R ≡ Fits → (checked Root R ≡ Fits) × IsExpanded (documentOf R)
+expanded-is-root R h = let w = expanded-in-range R h in (ap (checked Root) (sym (expanded-printed-back R h)) ∙ root-fits (documentOf R) (w .0), w .1)
+
+-- and every such root sheet is accepted as one
+pub root-is-expanded : (R : List Row) → (checked Root R ≡ Fits) × IsExpanded (documentOf R) → checked Expanded R ≡ Fits
+root-is-expanded R h = ap (checked Expanded) (sym (root-printed-back R (h .0))) ∙ expanded-fits (documentOf R) (root-in-range R (h .0)) (h .1)
+
+-- ---- words
+
+-- the rows of a sheet's words are its rows
+pub words-read-back : (R : List Row) → rows (words R) ≡ R
+words-read-back = rows-words
+
+-- and the words of its rows its words, where there are eight to a row
+pub rows-written-back : (s : List ℕ) (n : ℕ) → length s ≡ 8 * n → words (rows s) ≡ s
+rows-written-back = words-rows

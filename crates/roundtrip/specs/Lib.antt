@@ -1,0 +1,3 @@
+pub mod Each
+pub mod Ranges
+pub mod Expanded

@@ -1,0 +1,1 @@
+// A sheet and the document that it says determine each other: theorems only.
