@@ -5,7 +5,7 @@ use mathlib.Core.Option.{Option, none, some}
 use Prim.Native.Nat.{ℕ}
 use Rattle.ast.specs.Ast.{Statement, Document}
 use Rattle.expansion.specs.Input.{Input}
-use Rattle.expansion.specs.Expand.{Answer}
+use Rattle.expansion.specs.Expand.{Answer, expand}
 use Rattle.expansion.specs.Scenes.{ids, field, interface, leaf, group, instanceOf, proto, document, limits, usual, scene, counts, seen, computed}
 
 -- "Instance I, its body one plain node, whose given field holds plain P, whose child is I": I is node 0, P node 1; s is what the top mentions
@@ -35,7 +35,7 @@ flights =
 
 -- The number and the places of a refusal; or 0, nodes, scopes, body scopes, charges.
 pub the-ten-flights :
-    map (λ I. counts (computed I)) flights
+    map (λ I. counts (expand I)) flights
     ≡ (
     (0 ∷ 0 ∷ 1 ∷ 0 ∷ 3 ∷ [])
     ∷ (8 ∷ 0 ∷ 0 ∷ [])
@@ -57,6 +57,6 @@ abbrev example : Input
 example = scene usual (leaf ∷ []) [] (Statement.Node 0 ∷ [])
 
 -- It gives `0 0 0 0 1 1 6 0` and the same four rows.
-pub the-program's-example : (counts (computed example) ≡ (0 ∷ 1 ∷ 1 ∷ 0 ∷ 6 ∷ [])) × (seen (λ e. e .document) (computed example) ≡ some (example .root))
+pub the-program's-example : (counts (expand example) ≡ (0 ∷ 1 ∷ 1 ∷ 0 ∷ 6 ∷ [])) × (seen (λ e. e .document) (expand example) ≡ some (example .root))
 unfolding computed
 the-program's-example = (refl, refl)

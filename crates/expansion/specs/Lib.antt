@@ -11,3 +11,6 @@ pub mod Copy
 pub mod Expand
 pub mod Scenes
 pub mod Flights
+pub mod Reached
+pub mod Expanded
+pub mod Proofs

@@ -95,7 +95,7 @@ abbrev pub seen : {A : Type 0} → (Expansion → A) → Answer → Option A
 seen g (Answer.Refused c d i) = none
 seen g (Answer.Expanded e) = some (g e)
 
--- the definition, to be computed
+-- a proof that unfolds this computes the definition
 unfoldable pub computed : Input → Answer
 unfolding nodeAt protoAt externProtoAt firstFile topProtos firstNamed pickIn pickUrl member remember pickUrls picksFrom picks pickOf protoOf lastField bindR mapM foldM lookup chargeIf charge chargeEach paid valueOf copyData value clone lookupExtern declare externProto reserveIf reserve copyOrigin associate isField copyBinding copyField isInterface copyTarget copyInterface copyRoute copyExtern copyStatement somes keptOrder contents copyPlain pushScope openScope takeDefault cloneOption interfaceValue store values place bodyStatement rootOf associationsOf recordInstance instantiate copyNode mappedOr copy statement statements answer expand
 computed I = expand I

@@ -1,0 +1,4 @@
+-- The proofs; no definition rests on a module below.
+pub mod Outcome
+pub mod Walk
+pub mod Agrees
