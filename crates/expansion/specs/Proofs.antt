@@ -2,3 +2,4 @@
 pub mod Outcome
 pub mod Walk
 pub mod Agrees
+pub mod Output

@@ -499,7 +499,7 @@ module _ (I : Input) where
       last n vs s1 s2 rv q x s3 (rootless y) none er = refused tt
       last n vs s1 s2 rv q x s3 (rootless y) (some root) er = absurd (let z : _≡_ {A = ℕ} 0 1 = cc in omega arith)
       last n vs s1 s2 rv q x s3 (rooted y) none er = refused tt
-      last n vs s1 s2 rv q x s3 (rooted y) (some root) er = 
+      last n vs s1 s2 rv q x s3 (rooted y) (some root) er =
           bindOut (charge-keep I s3) (λ u s4 q4. mapOut (recordInstance-keep (decl .name) (node .defName) n x root s4) (λ o s5 q5. upto (q5 ∙ q4) (whole n vs s1 s2 (s3 .world) rv q y)))
 
   -- ---- the copier
