@@ -117,9 +117,10 @@ pub record Expanded (I : Input) (e : Expansion) : Type 0 where
   pub nodeCount : e .nodeCount ≡ length (e .document .nodes)
   pub nodeLimit : e .nodeCount ≤ I .limits .maxNodes
   -- "the scope list has one entry for each scope that these steps open, and no other"
+  -- The steps come to their end, and whichever run of them does opens these scopes.
   pub world : World Scope
   pub steps : WholeRun (graph I) world
-  pub scopes : e .scopes ≡ Scope.Root ∷ opened steps
+  pub scopes : (w : World Scope) (r : WholeRun (graph I) w) → e .scopes ≡ Scope.Root ∷ opened r
   pub scopeCount : e .scopeCount ≡ length (e .scopes)
   -- "The node count = the sum, over all these scopes, of the plain nodes reached in each, by document 01's closure."
   pub nodesReached : Total (graph I) (Plain (graph I)) (e .scopes) (e .nodeCount)
@@ -136,3 +137,15 @@ pub record Expanded (I : Input) (e : Expansion) : Type 0 where
   pub scopesPaid : e .scopeCount ≤ e .charges
   pub chargeLimit : e .charges ≤ I .limits .maxRows
   pub externs : (x : ExternProtoDecl) → List·Memᴰ x (e .document .externProtos) → (d : InterfaceDecl) → List·Memᴰ d (x .interface) → d .value ≡ none
+
+-- ---- refusals
+
+-- every refusal of the steps: "4 dangling EXTERNPROTO id, 5 dangling node id, 6 dangling PROTO id, 7 body without a root, each with document and id"; "8 nodes; 9 depth; 10 rows", with 0 and 0; 11 never
+pub data Refusal : ℕ → ℕ → ℕ → Type 0 where
+  four : (d i : ℕ) → Refusal 4 d i
+  five : (d i : ℕ) → Refusal 5 d i
+  six : (d i : ℕ) → Refusal 6 d i
+  seven : (d i : ℕ) → Refusal 7 d i
+  eight : Refusal 8 0 0
+  nine : Refusal 9 0 0
+  ten : Refusal 10 0 0

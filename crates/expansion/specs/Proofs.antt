@@ -3,3 +3,5 @@ pub mod Outcome
 pub mod Walk
 pub mod Agrees
 pub mod Output
+pub mod Rows
+pub mod Demand

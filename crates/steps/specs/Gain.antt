@@ -29,7 +29,8 @@ module _ (G : Graph) where
   reached-bind h (start m) = h _ m
   reached-bind h (step r m) = step (reached-bind h r) m
 
-  apart : {e : G .Scope} {j : ℕ} → Plain G e j → Instance G e j → ⊥
+  -- No node is both plain and an instance.
+  pub apart : {e : G .Scope} {j : ℕ} → Plain G e j → Instance G e j → ⊥
   apart {e} {j} p q = never (q .0) (q .1)
     where
       never : (b : ℕ → G .Scope) → G .kind e j ≡ instanceNode b → ⊥
