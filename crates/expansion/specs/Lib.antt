@@ -11,6 +11,7 @@ pub mod Copy
 pub mod Expand
 pub mod Scenes
 pub mod Flights
+pub mod Readings
 pub mod Reached
 pub mod Expanded
 pub mod Proofs

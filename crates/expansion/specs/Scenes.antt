@@ -4,7 +4,7 @@ use mathlib.Core.List.{List, [], _∷_, map}
 use mathlib.Core.Option.{Option, none, some}
 use Prim.Native.Nat.{ℕ, _+_}
 use lib.ListN.{length}
-use Rattle.ast.specs.Ast.{NodeOrigin, FieldData, FieldValue, FieldBinding, Field, InterfaceDecl, Route, Statement, Node, ProtoDecl, ExternProtoDecl, Url, Document, File}
+use Rattle.ast.specs.Ast.{NodeOrigin, BodyElement, FieldData, FieldValue, FieldBinding, Field, InterfaceDecl, Route, Statement, Node, ProtoDecl, ExternProtoDecl, Url, Document, File}
 use Rattle.ast.specs.Lookups.{nodeAt, protoAt, externProtoAt}
 use Rattle.picks.specs.Picks.{firstFile, topProtos, firstNamed, pickIn, pickUrl, member, remember, pickUrls, picksFrom, picks}
 use Rattle.expansion.specs.Input.{Limits, Input, pickOf, protoOf, lastField}
@@ -51,6 +51,10 @@ leaf = node NodeOrigin.Builtin []
 abbrev pub group : List ℕ → Node
 group l = node NodeOrigin.Builtin (field 1 (ids l) ∷ [])
 
+-- a plain node with all that a node may hold
+abbrev pub plain : List Field → List InterfaceDecl → List Statement → List BodyElement → Node
+plain fs is ss order = record { typeName = 7; defName = none; origin = NodeOrigin.Builtin; fields = fs; interface = is; statements = ss; bodyOrder = order; instance = none }
+
 -- an instance of PROTO p
 abbrev pub instanceOf : ℕ → List Field → Node
 instanceOf p fs = node (NodeOrigin.Proto p) fs
@@ -66,6 +70,10 @@ document ns ps xs l = record { header = 5; nodes = ns; protos = ps; externProtos
 
 abbrev pub limits : ℕ → ℕ → ℕ → Limits
 limits n d k = record { maxNodes = n; maxDepth = d; maxRows = k }
+
+-- one file, of base 20, and a root whose node 0 is of its extern 0, picked from that file if it can be
+abbrev pub scattered : Limits → Option ℕ → List Field → Document → List Statement → Input
+scattered l fragment fs file s = record { root = document (node (NodeOrigin.ExternProto 0) fs ∷ []) [] (extern (record { base = 20; fragment = fragment } ∷ []) ∷ []) s; library = record { base = 20; document = file } ∷ []; limits = l }
 
 -- the program's limits
 abbrev pub usual : Limits
