@@ -27,18 +27,21 @@ nodup-append (y ∷ l) x d h = (λ m. at (List·Memᴰ·append-cases l m), nodup
     at (inl m) = d .0 m
     at (inr m) = end (List·Memᴰ·cases-cons m)
 
--- ---- no element twice, and all in another list: no longer than that one
+-- ---- no element twice, and all in another list
 
 module _ {A : Type 0} where
+  -- a list without one of its elements
   without : {x : A} {l : List A} → List·Memᴰ x l → List A
   without (List·Memᴰ·head {xs = xs} e) = xs
   without (List·Memᴰ·tail {x = y} m) = y ∷ without m
 
+  -- It is one shorter.
   without-length : {x : A} {l : List A} (m : List·Memᴰ x l) → length l ≡ suc (length (without m))
   unfolding without
   without-length (List·Memᴰ·head e) = refl
   without-length (List·Memᴰ·tail m) = ap suc (without-length m)
 
+  -- Any other element is still there.
   without-mem : {x : A} {l : List A} (m : List·Memᴰ x l) (y : A) → (y ≡ x → ⊥) → List·Memᴰ y l → List·Memᴰ y (without m)
   unfolding without
   without-mem (List·Memᴰ·head {x = z} {xs = zs} e) y ne h = at (List·Memᴰ·cases-cons h)
@@ -52,6 +55,7 @@ module _ {A : Type 0} where
       at (inl q) f = List·Memᴰ·head q
       at (inr q) f = List·Memᴰ·tail (f q)
 
+  -- A list with no element twice is no longer than one that holds all its elements.
   pub nodup-length : (l k : List A) → Nodup l → ((x : A) → List·Memᴰ x l → List·Memᴰ x k) → length l ≤ length k
   nodup-length [] k d f = zero-le
   nodup-length (x ∷ l) k d f =
@@ -60,18 +64,22 @@ module _ {A : Type 0} where
 
 -- ---- sums
 
+-- f 0 + … + f (n - 1)
 abbrev pub sumTo : ℕ → (ℕ → ℕ) → ℕ
 sumTo zero f = 0
 sumTo (suc n) f = sumTo n f + f n
 
+-- Equal terms, equal sums.
 pub sum-same : (n : ℕ) (f g : ℕ → ℕ) → ((s : ℕ) → s < n → f s ≡ g s) → sumTo n f ≡ sumTo n g
 sum-same zero f g h = refl
 sum-same (suc n) f g h = omega (arith, sum-same n f g (λ s q. h s (omega arith)), h n (omega arith))
 
+-- A sum of zeros.
 sum-zero : (n : ℕ) → sumTo n (λ s. 0) ≡ 0
 sum-zero zero = refl
 sum-zero (suc n) = omega (arith, sum-zero n)
 
+-- One term one more, the sum one more.
 sum-bump : (n a : ℕ) (f g : ℕ → ℕ) → a < n → ((s : ℕ) → (s ≡ a → ⊥) → f s ≡ g s) → f a ≡ suc (g a) → sumTo n f ≡ suc (sumTo n g)
 sum-bump zero a f g h same up = absurd (omega arith)
 sum-bump (suc n) a f g h same up = go (decLt a n) (λ q. sum-bump n a f g q same up)
@@ -86,16 +94,18 @@ sum-bump (suc n) a f g h same up = go (decLt a n) (λ q. sum-bump n a f g q same
         top : f n ≡ suc (g n)
         top = subst (λ (x : ℕ). f x ≡ suc (g x)) an up
 
--- ---- the second parts of the pairs whose first part is s
+-- ---- fibers
 
 abbrev keep : Bool → ℕ → List ℕ → List ℕ
 keep true j l = j ∷ l
 keep false j l = l
 
+-- the second parts of the pairs whose first part is s
 unfoldable pub fiber : ℕ → List (ℕ × ℕ) → List ℕ
 fiber s [] = []
 fiber s (x ∷ l) = keep (eqb (x .0) s) (x .1) (fiber s l)
 
+-- What is in a list with j kept or not.
 keep-mem : (b : Bool) (i j : ℕ) (l : List ℕ) → List·Memᴰ j (keep b i l) → (T b × (j ≡ i)) ⊎ List·Memᴰ j l
 keep-mem true i j l m = at (List·Memᴰ·cases-cons m)
   where
@@ -104,6 +114,7 @@ keep-mem true i j l m = at (List·Memᴰ·cases-cons m)
     at (inr h) = inr h
 keep-mem false i j l m = inr m
 
+-- An element of a fiber is a pair of the list.
 pub fiber-out : (s j : ℕ) (l : List (ℕ × ℕ)) → List·Memᴰ j (fiber s l) → List·Memᴰ (s, j) l
 unfolding fiber
 fiber-out s j [] m = absurd (List·Memᴰ·not-nil m)
@@ -113,14 +124,17 @@ fiber-out s j (x ∷ l) m = at (keep-mem (eqb (x .0) s) (x .1) j (fiber s l) m) 
     at (inl h) f = List·Memᴰ·head (λ i. (sym (eqb→eq (x .0) s (h .0)) i, (h .1) i))
     at (inr h) f = List·Memᴰ·tail (f h)
 
+-- An element stays, whether j is kept or not.
 keep-tail : (b : Bool) (i j : ℕ) (l : List ℕ) → List·Memᴰ j l → List·Memᴰ j (keep b i l)
 keep-tail true i j l m = List·Memᴰ·tail m
 keep-tail false i j l m = m
 
+-- What is kept is there.
 keep-here : (b : Bool) (i j : ℕ) (l : List ℕ) → T b → j ≡ i → List·Memᴰ j (keep b i l)
 keep-here true i j l t e = List·Memᴰ·head e
 keep-here false i j l t e = absurd t
 
+-- A pair of the list is in its fiber.
 pub fiber-in : (s j : ℕ) (l : List (ℕ × ℕ)) → List·Memᴰ (s, j) l → List·Memᴰ j (fiber s l)
 unfolding fiber
 fiber-in s j [] m = absurd (List·Memᴰ·not-nil m)
@@ -130,6 +144,7 @@ fiber-in s j (x ∷ l) m = at (List·Memᴰ·cases-cons m) (fiber-in s j l)
     at (inl e) f = keep-here (eqb (x .0) s) (x .1) j (fiber s l) (subst (λ (y : ℕ × ℕ). T (eqb (y .0) s)) e (eqb-refl s)) (ap (λ (y : ℕ × ℕ). y .1) e)
     at (inr h) f = keep-tail (eqb (x .0) s) (x .1) j (fiber s l) (f h)
 
+-- No pair twice, nothing twice in a fiber.
 pub fiber-nodup : (s : ℕ) (l : List (ℕ × ℕ)) → Nodup l → Nodup (fiber s l)
 unfolding fiber
 fiber-nodup s [] d = tt
@@ -139,7 +154,7 @@ fiber-nodup s (x ∷ l) d = go (eqb (x .0) s) (eqb→eq (x .0) s) (fiber-nodup s
     go false f n = n
     go true f n = (λ m. d .0 (subst (λ (y : ℕ). List·Memᴰ {A = ℕ × ℕ} (y, x .1) l) (sym (f tt)) (fiber-out s (x .1) l m)), n)
 
--- a list of pairs is as long as its fibers together
+-- A list of pairs is as long as its fibers together.
 pub fiber-sum : (n : ℕ) (l : List (ℕ × ℕ)) → ((x : ℕ × ℕ) → List·Memᴰ x l → x .0 < n) → length l ≡ sumTo n (λ s. length (fiber s l))
 unfolding fiber
 fiber-sum n [] h = sym (sum-zero n)

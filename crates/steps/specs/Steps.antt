@@ -130,6 +130,11 @@ opened (thenDefault {n} b tb x y) = (b n ∷ opened x) ++ opened y
 
 -- ---- first laws
 
+-- Copying ids copies these ids.
+pub copies-map : (S : Type 0) (l : List ℕ) → copies {S = S} (map copyId l) ≡ l
+copies-map S [] = refl
+copies-map S (i ∷ l) = ap (λ (k : List ℕ). i ∷ k) (copies-map S l)
+
 append-append : {A : Type 0} {c d : List A} (a x y : List A) → c ≡ a ++ x → d ≡ c ++ y → d ≡ a ++ (x ++ y)
 append-append a x y p q = q ∙ ap (λ l. l ++ y) p ∙ append-assoc a x y
 

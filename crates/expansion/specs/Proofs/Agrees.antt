@@ -5,15 +5,11 @@ use mathlib.Core.Option.{Option, none, some}
 use Prim.Native.Nat.{ℕ, suc}
 use Rattle.ast.specs.Ast.{FieldValue, FieldBinding, Field, InterfaceDecl, Node, ProtoDecl}
 use Rattle.picks.specs.Picks.{Pick}
-use Rattle.steps.specs.Steps.{Action, copyId, openDefault, copies}
+use Rattle.steps.specs.Steps.{Action, copyId, openDefault, copies, copies-map}
 use Rattle.expansion.specs.Input.{Input, protoOf, lastField}
 use Rattle.expansion.specs.Scopes.{Scope, documentOf}
 use Rattle.expansion.specs.Ids.{bindingIds, flat}
 use Rattle.expansion.specs.Reached.{declOf, plainNexts, givenIds, instanceNexts, nextsBy, nextsOf, valueActions, interfaceActions, instanceActions, actionsBy, actionsOf, nodeIn, graph}
-
-copies-map : (l : List ℕ) → copies {S = Scope} (map copyId l) ≡ l
-copies-map [] = refl
-copies-map (i ∷ l) = ap (λ (k : List ℕ). i ∷ k) (copies-map l)
 
 copies-append : (l k : List (Action Scope)) → copies (l ++ k) ≡ copies l ++ copies k
 copies-append [] k = refl
@@ -23,7 +19,7 @@ copies-append (openDefault b ∷ l) k = copies-append l k
 value-agrees : (e : ℕ → Scope) (default : Option FieldValue) (given : Option FieldBinding) → copies (valueActions e default given) ≡ givenIds given
 value-agrees e none none = refl
 value-agrees e (some v) none = refl
-value-agrees e default (some b) = copies-map (bindingIds b)
+value-agrees e default (some b) = copies-map Scope (bindingIds b)
 
 interface-agrees : (p : Pick) (fields : List Field) (k : ℕ) (l : List InterfaceDecl) → copies (interfaceActions p fields k l) ≡ flat (λ d. givenIds (lastField (d .name) fields)) l
 interface-agrees p fields k [] = refl
@@ -34,7 +30,7 @@ instance-agrees p fields none = refl
 instance-agrees p fields (some decl) = interface-agrees p fields 0 (decl .interface)
 
 node-agrees : (I : Input) (node : Node) (p : Option Pick) → copies (actionsBy I node p) ≡ nextsBy I node p
-node-agrees I node none = copies-map (plainNexts node)
+node-agrees I node none = copies-map Scope (plainNexts node)
 node-agrees I node (some p) = instance-agrees p (node .fields) (declOf I p)
 
 lookup-agrees : (I : Input) (d : ℕ) (node : Option Node) → copies (actionsOf I d node) ≡ nextsOf I d node
