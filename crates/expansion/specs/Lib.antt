@@ -1,0 +1,17 @@
+pub mod Input
+pub mod Scopes
+pub mod Ids
+pub mod State
+pub mod Charges
+pub mod Values
+pub mod Externs
+pub mod PlainCopy
+pub mod Instances
+pub mod Copy
+pub mod Expand
+pub mod Scenes
+pub mod Flights
+pub mod Readings
+pub mod Reached
+pub mod Expanded
+pub mod Proofs

@@ -1,0 +1,56 @@
+-- What is to hold of the world after a whole run: the ledger, and sums over the scopes.
+use mathlib.Core.Path.{_≡_, refl, sym, _∙_}
+use mathlib.Core.Logic.{_↔_}
+use mathlib.Core.List.{List, [], _∷_, List·Memᴰ}
+use mathlib.Core.Bool.{Bool, true, false}
+use Prim.Native.Nat.{ℕ, _+_, _<_}
+use native.Mathlib.Nat.{le-antisymm}
+use lib.ListN.{length, getD}
+use Rattle.steps.specs.Lists.{Nodup, nodup-length, sumTo, sum-same}
+use Rattle.steps.specs.Steps.{Graph, Plain, Instance, ReachedIn, ReachesItself, World, Listed}
+
+abbrev pub oneIf : Bool → ℕ
+oneIf true = 1
+oneIf false = 0
+
+module _ (G : Graph) where
+  -- the entry of scope number s
+  abbrev pub entry : List (G .Scope) → ℕ → G .Scope
+  entry scopes s = getD scopes s (G .root)
+
+  -- k is the number of the ids with P that the scope e reaches: as many as a list has that holds these ids, each once, and no other
+  pub record Count (P : G .Scope → ℕ → Type 0) (e : G .Scope) (k : ℕ) : Type 0 where
+    pub list : List ℕ
+    pub once : Nodup list
+    pub exact : (j : ℕ) → List·Memᴰ j list ↔ (P e j × ReachedIn G e j)
+    pub size : length list ≡ k
+
+  -- n is the sum, over the scopes, of the ids with P reached in each
+  pub record Total (P : G .Scope → ℕ → Type 0) (scopes : List (G .Scope)) (n : ℕ) : Type 0 where
+    pub each : ℕ → ℕ
+    pub counts : (s : ℕ) → s < length scopes → Count P (entry scopes s) (each s)
+    pub total : n ≡ sumTo (length scopes) each
+
+  -- how many of the scopes are bodies'
+  abbrev pub bodies : List (G .Scope) → ℕ
+  bodies [] = 0
+  bodies (e ∷ l) = oneIf (G .isBody e) + bodies l
+
+  -- no instance reached in any of the scopes reaches itself
+  abbrev pub NoLoop : List (G .Scope) → Type 0
+  NoLoop scopes = (s j : ℕ) → s < length scopes → Instance G (entry scopes s) j → ReachedIn G (entry scopes s) j → ReachesItself G (entry scopes s) j → ⊥
+
+  pub record Exact (w : World (G .Scope)) : Type 0 where
+    pub once : Nodup (w .ledger)
+    pub ledger : (s j : ℕ) → Listed w s j ↔ ((s < length (w .scopes)) × Plain G (entry (w .scopes) s) j × ReachedIn G (entry (w .scopes) s) j)
+    pub nodes : Total (Plain G) (w .scopes) (length (w .ledger))
+    pub pods : NoLoop (w .scopes) → Total (Instance G) (w .scopes) (bodies (w .scopes))
+
+  -- The number of ids reached in a scope is one.
+  pub count-unique : {P : G .Scope → ℕ → Type 0} {e : G .Scope} {k l : ℕ} → Count P e k → Count P e l → k ≡ l
+  count-unique a b =
+      sym (a .size) ∙ le-antisymm (nodup-length _ _ (a .once) (λ x m. b .exact x .1 (a .exact x .0 m))) (nodup-length _ _ (b .once) (λ x m. a .exact x .1 (b .exact x .0 m))) ∙ b .size
+
+  -- The sum over the scopes is one.
+  pub total-unique : {P : G .Scope → ℕ → Type 0} {scopes : List (G .Scope)} {n m : ℕ} → Total P scopes n → Total P scopes m → n ≡ m
+  total-unique {scopes = scopes} a b = a .total ∙ sum-same (length scopes) (a .each) (b .each) (λ s h. count-unique (a .counts s h) (b .counts s h)) ∙ sym (b .total)
