@@ -1,1 +1,4 @@
 pub mod Picks
+pub mod Table
+pub mod File
+pub mod Chosen

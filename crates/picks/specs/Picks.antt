@@ -83,3 +83,15 @@ picksFrom library (x ∷ l) bases = pickUrls library (x .urls) bases .0 ∷ pick
 
 unfoldable pub picks : Document → List File → List (Option Pick)
 picks root library = picksFrom library (root .externProtos) []
+
+-- the pick of an extern by its id
+unfoldable pub pickAt : Document → List File → ℕ → Option Pick
+pickAt root library id = andThen (getElem? (picks root library) id) (λ p. p)
+
+-- the table once the urls of all externs were tried
+unfoldable pub basesFrom : List File → List ExternProtoDecl → Bases → Bases
+basesFrom library [] bases = bases
+basesFrom library (x ∷ l) bases = basesFrom library l (pickUrls library (x .urls) bases .1)
+
+unfoldable pub finalBases : Document → List File → Bases
+finalBases root library = basesFrom library (root .externProtos) []

@@ -1,1 +1,119 @@
-// Picks: for each extern of the root, the document and the PROTO that its urls lead to.
+// Picks (document 01, Modules: Picks): for each extern of the root, the document and the PROTO that its urls lead to.
+pub mod file;
+pub mod table;
+
+use ast::ExternProtoId;
+use ast::ProtoId;
+use file::TopProto;
+use lookup::document;
+use lookup::walk;
+use lookup::walk::Found;
+use sheet::part::Part;
+use sheet::row;
+use table::Source;
+use table::Table;
+ghost use mathlib.Core.Path.{_≡_};
+ghost use Prim.Native.Nat.{_*_, _≤_, _<_};
+ghost use lib.ListN.{length};
+ghost use Rattle.sheet.specs.Rows.{rows};
+ghost use Rattle.sheet.specs.Parse.{documentOf, filesOf};
+ghost use Rattle.picks.specs.Picks.{pickAt};
+ghost use Rattle.picks.specs.Table.{Sound};
+ghost use Rattle.picks.specs.Chosen.{pickOf, Leads, Tried, Final};
+
+// The picked document's number and the PROTO's id in it.
+pub enum Chosen {
+    Proto { document: u32, id: ProtoId },
+    Nothing,
+}
+
+// The pick of an extern beside the table of bases.
+pub struct Choice {
+    pub chosen: Chosen,
+    pub table: Table,
+}
+
+// What a url leads to, by the file of its base.
+fn pick_from(library: &[u32], source: Source, fragment: u32, slots: &mut [u32]) -> Chosen
+    requires { ⌜ length (now library) ≤ 8 * 1048576 ⌝ }
+    ensures { λ x. ⌜ Leads (rows (now (library .entry))) source fragment x ⌝ }
+{
+    let number = source.number;
+    if number == 0 {
+        return Chosen::Nothing;
+    }
+    let TopProto::At { id, next: _ } = file::pick_in(library, source.row, fragment, slots) else {
+        return Chosen::Nothing;
+    };
+    Chosen::Proto {
+        document: number,
+        id: ProtoId(id),
+    }
+}
+
+// The pick of the extern at a row of the root: its urls in order, the table passed through.
+pub fn pick_urls(
+    root: &[u32],
+    row: usize,
+    library: &[u32],
+    table: Table,
+    slots: &mut [u32],
+) -> Choice
+    requires { ⌜ (length (now library) ≤ 8 * 1048576) × (row < length (rows (now root))) × Sound (rows (now library)) table ⌝ }
+    ensures { λ x. ⌜ Tried (rows (now (root .entry))) row (rows (now (library .entry))) table x ⌝ }
+{
+    let mut table = table;
+    let mut at = row + 1;
+    loop {
+        let Found::At(q) = walk::seek(root, Part::Urls, at) else {
+            return Choice {
+                chosen: Chosen::Nothing,
+                table,
+            };
+        };
+        at = q + 1;
+        let url = row::row_at(root, q);
+        let looked = table::remember(library, table, url.a);
+        table = looked.table;
+        let source = looked.source;
+        let chosen = pick_from(library, source, url.b, slots);
+        if let Chosen::Proto { document: _, id: _ } = chosen {
+            return Choice { chosen, table };
+        }
+    }
+}
+
+// The table once the urls of every extern of the root were tried, in order.
+pub fn bases_of(root: &[u32], library: &[u32], slots: &mut [u32]) -> Table
+    requires { ⌜ length (now library) ≤ 8 * 1048576 ⌝ }
+    ensures { λ t. ⌜ Final (rows (now (root .entry))) (rows (now (library .entry))) t ⌝ }
+{
+    let mut table = table::empty();
+    let mut at = 1;
+    loop {
+        let Found::At(q) = walk::seek(root, Part::Externs, at) else {
+            return table;
+        };
+        at = q + 1;
+        let choice = pick_urls(root, q, library, table, slots);
+        table = choice.table;
+    }
+}
+
+// The pick of an extern of the root by its id, from that table alone.
+pub fn pick(
+    root: &[u32],
+    library: &[u32],
+    table: Table,
+    id: ExternProtoId,
+    slots: &mut [u32],
+) -> Chosen
+    requires { ⌜ (length (now library) ≤ 8 * 1048576) × Final (rows (now root)) (rows (now library)) table ⌝ }
+    ensures { λ x. ⌜ pickOf x ≡ pickAt (documentOf (rows (now (root .entry)))) (filesOf (rows (now (library .entry)))) (id .0) ⌝ }
+{
+    let Found::At(q) = document::extern_row(root, 0, id) else {
+        return Chosen::Nothing;
+    };
+    let choice = pick_urls(root, q, library, table, slots);
+    choice.chosen
+}

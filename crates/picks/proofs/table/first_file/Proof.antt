@@ -1,0 +1,74 @@
+-- Written by `needs write`, from answers.txt: edit that. The proof.
+use Rattle.picks.proofs.table.first_file.Statement.{statement}
+use Rattle.picks.proofs.table.first_file.Tie as tie
+use Rattle.picks.proofs.table.first_file.Reads as reads
+use Rattle.picks.proofs.table.first_file.Lts as lts
+use Rattle.lookup.proofs.walk.seek.Reads as seek-reads
+use Rattle.sheet.proofs.row.row_at.Reads as row-at-reads
+use Prim.Native.Nat.{_-_}
+use denote.Ref.{now}
+use lib.ListN.{length}
+use Rattle.sheet.specs.declared.part.Part.the-variants.{Files}
+use Rattle.sheet.specs.Rows.{rows}
+use Rattle.sheet.proofs.RowLaws.{rows-length}
+use Rattle.lookup.proofs.WalkLaws.{stands, missing}
+use Rattle.picks.proofs.SourceLaws.{Seeking, seek-start, seek-none, seek-here, seek-next}
+use native.Mathlib.Omega.{arith}
+use borrow.Author.Needs.{needs}
+
+abbrev Inv-loop : tie.InvT-loop
+Inv-loop library base number₀ at₀ number at = Seeking (rows library) base number at
+
+abbrev μ-loop : tie.MeasureT-loop
+μ-loop library base number₀ at₀ number at = length (rows library) - at
+
+loop-holds : tie.Need-loop-holds Inv-loop μ-loop
+loop-holds c = seek-start (rows (now (c .before .args .library))) (c .before .args .base)
+
+seek-requires : tie.Need-seek-requires Inv-loop μ-loop
+seek-requires c κs = search needs
+
+enum-known-q : tie.Need-enum-known-q Inv-loop μ-loop
+enum-known-q c = search needs
+
+enum-told : tie.Need-enum-told Inv-loop μ-loop
+enum-told c = search needs
+
+returns : tie.Need-returns Inv-loop μ-loop
+returns c = seek-none _ _ (c .before .before .before .loop .inv) (missing Files (rows (now (c .before .before .before .before .before .args .library))) (c .before .before .before .loop .at) (c .before .before .seek .ensures) (c .enum-told .given .1))
+
+add-at : tie.Need-add-at Inv-loop μ-loop
+add-at c = omega (arith, stands Files (rows (now (c .before .before .before .before .before .before .args .library))) (c .before .before .before .before .loop .at) (c .before .before .before .seek .ensures) (c .before .q .given .1) .below, rows-length (now (c .before .before .before .before .before .before .args .library)))
+
+row-at-requires : tie.Need-row-at-requires Inv-loop μ-loop
+row-at-requires c κs = search needs
+
+returns-2 : tie.Need-returns-2 Inv-loop μ-loop
+returns-2 c = seek-here _ _ (c .before .before .before .before .before .before .before .loop .inv) (stands Files (rows (now (c .before .before .before .before .before .before .before .before .before .args .library))) (c .before .before .before .before .before .before .before .loop .at) (c .before .before .before .before .before .before .seek .ensures) (c .before .before .before .before .q .given .1)) (c .before .before .row-at .ensures) (c .if1 .taken)
+
+add-number : tie.Need-add-number Inv-loop μ-loop
+add-number c = omega (arith, c .before .before .before .before .before .before .before .loop .inv .ahead, c .before .before .before .before .before .before .before .loop .inv .upto, rows-length (now (c .before .before .before .before .before .before .before .before .before .args .library)), c .before .before .before .before .before .before .before .before .before .pre)
+
+loop-less : tie.Need-loop-less Inv-loop μ-loop
+loop-less c = omega (arith, stands Files (rows (now (c .before .before .before .before .before .before .before .before .before .args .library))) (c .before .before .before .before .before .before .before .loop .at) (c .before .before .before .before .before .before .seek .ensures) (c .before .before .before .before .q .given .1) .from, stands Files (rows (now (c .before .before .before .before .before .before .before .before .before .args .library))) (c .before .before .before .before .before .before .before .loop .at) (c .before .before .before .before .before .before .seek .ensures) (c .before .before .before .before .q .given .1) .below)
+
+loop-again : tie.Need-loop-again Inv-loop μ-loop
+loop-again c = seek-next _ _ (c .before .before .before .before .before .before .before .loop .inv) (stands Files (rows (now (c .before .before .before .before .before .before .before .before .before .args .library))) (c .before .before .before .before .before .before .before .loop .at) (c .before .before .before .before .before .before .seek .ensures) (c .before .before .before .before .q .given .1)) (c .before .before .row-at .ensures) (c .if1 .left)
+
+pub first-file-spec : {M : Type 1} → statement M
+first-file-spec =
+    tie.close
+    (tie.spec
+    Inv-loop
+    μ-loop
+    loop-holds
+    seek-requires
+    enum-known-q
+    enum-told
+    returns
+    add-at
+    row-at-requires
+    returns-2
+    add-number
+    loop-less
+    loop-again)

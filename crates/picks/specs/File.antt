@@ -1,0 +1,39 @@
+-- The pick within a file, at the rows of its document.
+use mathlib.Core.Path.{_≡_}
+use mathlib.Core.List.{List, [], _∷_, map}
+use mathlib.Core.Option.{Option, none, some}
+use Prim.Native.Nat.{ℕ, _≤_, _<_}
+use lib.ListN.{length, drop}
+use Rattle.ast.specs.Ast.{ProtoDecl, Document}
+use Rattle.sheet.specs.declared.row.Row.{Row}
+use Rattle.sheet.specs.declared.part.Part.the-variants.{Protos}
+use Rattle.sheet.specs.Parse.{elements, protoOf, statementsOf}
+use Rattle.picks.specs.declared.file.TopProto.{TopProto}
+use Rattle.picks.specs.declared.file.TopProto.the-variants.{At, Nothing}
+use Rattle.picks.specs.Picks.{topProtos, firstNamed}
+
+abbrev pub idOf : TopProto → Option ℕ
+idOf (At id next) = some id
+idOf Nothing = none
+
+-- the ids of the Proto statements from a row on
+abbrev pub protosFrom : List Row → ℕ → List ℕ
+protosFrom R p = topProtos (statementsOf (drop p R))
+
+-- the first Proto statement from row p on names an id, and the next row is past it
+pub record StandsProto (R : List Row) (p id next : ℕ) : Type 0 where
+  pub after : p < next
+  pub below : next ≤ length R
+  pub is : protosFrom R p ≡ id ∷ protosFrom R next
+
+abbrev pub NextProto : List Row → ℕ → TopProto → Type 0
+NextProto R p (At id next) = StandsProto R p id next
+NextProto R p Nothing = protosFrom R p ≡ []
+
+-- the prototypes from a row on
+abbrev pub protosAt : List Row → ℕ → List ProtoDecl
+protosAt R p = map protoOf (elements Protos (drop p R))
+
+-- x is the first Proto statement from row p on whose prototype, of those from row q on, has a name
+abbrev pub FirstNamed : List Row → ℕ → ℕ → ℕ → TopProto → Type 0
+FirstNamed R q name p x = (file : Document) → file .protos ≡ protosAt R q → idOf x ≡ firstNamed file name (protosFrom R p)

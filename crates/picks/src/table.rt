@@ -1,0 +1,110 @@
+// The table of the bases that were looked for, each with the library's first file of that base.
+use lookup::walk;
+use lookup::walk::Found;
+use sheet::part::Part;
+use sheet::row;
+ghost use Prim.Native.Nat.{_*_, _≤_, _<_};
+ghost use lib.ListN.{length};
+ghost use Rattle.sheet.specs.Rows.{rows};
+ghost use Rattle.picks.specs.Table.{Empty, Position, Sourced, Sound, Added, Remembered};
+
+// A file of the library: its number, from 1, and the row where its document begins. Number 0 stands for no file.
+pub struct Source {
+    pub number: u32,
+    pub row: usize,
+}
+
+// The first `count` bases, in the order in which they were looked for, with the number and the row of each one's file.
+pub struct Table {
+    pub bases: [u32; 64],
+    pub files: [u32; 64],
+    pub rows: [usize; 64],
+    pub count: usize,
+}
+
+// The file of a base, none where the base is skipped, beside the table.
+pub struct Looked {
+    pub source: Source,
+    pub table: Table,
+}
+
+pub fn empty() -> Table
+    ensures { λ t. ⌜ Empty t ⌝ }
+{
+    Table {
+        bases: [0; 64],
+        files: [0; 64],
+        rows: [0; 64],
+        count: 0,
+    }
+}
+
+// Where a base stands in the table, or the count if it doesn't.
+fn position(table: Table, base: u32) -> usize
+    requires { ⌜ table .count ≤ 64 ⌝ }
+    ensures { λ j. ⌜ Position table base j ⌝ }
+{
+    let mut j = 0;
+    while j < table.count {
+        if table.bases[j] == base {
+            return j;
+        }
+        j += 1;
+    }
+    j
+}
+
+// The library's first file of a base.
+fn first_file(library: &[u32], base: u32) -> Source
+    requires { ⌜ length (now library) ≤ 8 * 1048576 ⌝ }
+    ensures { λ s. ⌜ Sourced (rows (now (library .entry))) base s ⌝ }
+{
+    let mut number = 1;
+    let mut at = 0;
+    loop {
+        let Found::At(q) = walk::seek(library, Part::Files, at) else {
+            return Source { number: 0, row: 0 };
+        };
+        at = q + 1;
+        if row::row_at(library, q).a == base {
+            return Source { number, row: at };
+        }
+        number += 1;
+    }
+}
+
+// The table with one base more.
+fn add(table: Table, base: u32, source: Source) -> Table
+    requires { ⌜ table .count < 64 ⌝ }
+    ensures { λ t. ⌜ Added table base source t ⌝ }
+{
+    let at = table.count;
+    let mut t = table;
+    t.bases[at] = base;
+    t.files[at] = source.number;
+    t.rows[at] = source.row;
+    t.count = at + 1;
+    t
+}
+
+// Looks for a base, in the table and else in the library. Unresolved bases count; a new one past the 64th is skipped.
+pub fn remember(library: &[u32], table: Table, base: u32) -> Looked
+    requires { ⌜ (length (now library) ≤ 8 * 1048576) × Sound (rows (now library)) table ⌝ }
+    ensures { λ x. ⌜ Remembered (rows (now (library .entry))) table base x ⌝ }
+{
+    let at = position(table, base);
+    if at < table.count {
+        let source = Source {
+            number: table.files[at],
+            row: table.rows[at],
+        };
+        return Looked { source, table };
+    }
+    if at < 64 {
+        let source = first_file(library, base);
+        let table = add(table, base, source);
+        return Looked { source, table };
+    }
+    let source = Source { number: 0, row: 0 };
+    Looked { source, table }
+}
