@@ -17,21 +17,9 @@ use Rattle.ast.specs.Choice.{choose}
 use Rattle.sheet.specs.Grammar.{none#, isName, hasValue, zeroFromC, zeroFromE, originFits, routeFits, nodeFits, fieldFits, interfaceFits, statementFits, orderFits, nameFits, urlFits, topFits, instanceFits, associationFits, zeroFromB}
 use Rattle.sheet.specs.Parse.{optional, idsOf, fieldOf, interfaceOf, statementOf, routeOf, bodyElementOf, originOf, associationOf, urlOf}
 use Rattle.sheet.specs.Print.{row, class, amount, dataRows, topRow, orNone, idRow, fieldRows, interfaceRows, statementRow, routeRow, bodyElementRow, nodeRow, associationRow, urlRow}
+use Rattle.roundtrip.proofs.Tests.{and-l, and-r, or-e, tests}
 
-pub and-l : (a b : Bool) → (a && b) ≡ true → a ≡ true
-and-l true b h = refl
-and-l false b h = h
-
-pub and-r : (a b : Bool) → (a && b) ≡ true → b ≡ true
-and-r true b h = h
-and-r false b h = let z : false ≡ true = h in cc
-
-pub or-e : (a b : Bool) → (a || b) ≡ true → (a ≡ true) ⊎ (b ≡ true)
-or-e true b h = inl refl
-or-e false b h = inr h
-
-pub ruleset ands = (and-l, and-r, eqb-true, leb-true, ltb-true)
-
+-- a number or none is written as it is read
 num-opt : (n : ℕ) → orNone (optional n) ≡ n
 num-opt n = go (ℕ-discrete n none#)
   where
@@ -43,35 +31,35 @@ num-opt n = go (ℕ-discrete n none#)
 
 pub zero-b : (k a b c d e f g : ℕ) → zeroFromB (row k a b c d e f g) ≡ true → row k a 0 0 0 0 0 0 ≡ row k a b c d e f g
 zero-b k a b c d e f g h =
-    let hb : b ≡ 0 = search ands in
-    let hc : c ≡ 0 = search ands in
-    let hd : d ≡ 0 = search ands in
-    let he : e ≡ 0 = search ands in
-    let hf : f ≡ 0 = search ands in
-    let hg : g ≡ 0 = search ands in
+    let hb : b ≡ 0 = search tests in
+    let hc : c ≡ 0 = search tests in
+    let hd : d ≡ 0 = search tests in
+    let he : e ≡ 0 = search tests in
+    let hf : f ≡ 0 = search tests in
+    let hg : g ≡ 0 = search tests in
     rw (hb, hc, hd, he, hf, hg)
 
 pub zero-c : (k a b c d e f g : ℕ) → zeroFromC (row k a b c d e f g) ≡ true → row k a b 0 0 0 0 0 ≡ row k a b c d e f g
 zero-c k a b c d e f g h =
-    let hc : c ≡ 0 = search ands in
-    let hd : d ≡ 0 = search ands in
-    let he : e ≡ 0 = search ands in
-    let hf : f ≡ 0 = search ands in
-    let hg : g ≡ 0 = search ands in
+    let hc : c ≡ 0 = search tests in
+    let hd : d ≡ 0 = search tests in
+    let he : e ≡ 0 = search tests in
+    let hf : f ≡ 0 = search tests in
+    let hg : g ≡ 0 = search tests in
     rw (hc, hd, he, hf, hg)
 
 pub zero-e : (k a b c d e f g : ℕ) → zeroFromE (row k a b c d e f g) ≡ true → row k a b c d 0 0 0 ≡ row k a b c d e f g
 zero-e k a b c d e f g h =
-    let he : e ≡ 0 = search ands in
-    let hf : f ≡ 0 = search ands in
-    let hg : g ≡ 0 = search ands in
+    let he : e ≡ 0 = search tests in
+    let hf : f ≡ 0 = search tests in
+    let hg : g ≡ 0 = search tests in
     rw (he, hf, hg)
 
 pub name-back : (k a b c d e f g : ℕ) → nameFits (row k a b c d e f g) ≡ true → row k a 0 0 0 0 0 0 ≡ row k a b c d e f g
 name-back k a b c d e f g h = zero-b k a b c d e f g (and-r (isName a) _ h)
 
 pub top-back : (a b c d e f g : ℕ) → topFits (row 11 a b c d e f g) ≡ true → topRow ≡ row 11 a b c d e f g
-top-back a b c d e f g h = let ha : a ≡ 0 = search ands in ap (λ (n : ℕ). row 11 n 0 0 0 0 0 0) (sym ha) ∙ zero-b 11 a b c d e f g (and-r (eqb a 0) _ h)
+top-back a b c d e f g h = let ha : a ≡ 0 = search tests in ap (λ (n : ℕ). row 11 n 0 0 0 0 0 0) (sym ha) ∙ zero-b 11 a b c d e f g (and-r (eqb a 0) _ h)
 
 pub id-back : (a b c d e f g : ℕ) (l : List Row) → nameFits (row 9 a b c d e f g) ≡ true → idRow (front (row 9 a b c d e f g ∷ l) .a) ≡ row 9 a b c d e f g
 id-back a b c d e f g l h = name-back 9 a b c d e f g h
@@ -83,10 +71,10 @@ url-back a b c d e f g l h = rw (num-opt b) (zero-c 10 a b c d e f g (and-r (isN
 pub assoc-back : (a b c d e f g : ℕ) (l : List Row) → associationFits (row 14 a b c d e f g) ≡ true → associationRow (associationOf (row 14 a b c d e f g ∷ l)) ≡ row 14 a b c d e f g
 unfolding associationOf
 assoc-back a b c d e f g l h =
-    let hd : d ≡ 0 = search ands in
-    let he : e ≡ 0 = search ands in
-    let hf : f ≡ 0 = search ands in
-    let hg : g ≡ 0 = search ands in
+    let hd : d ≡ 0 = search tests in
+    let he : e ≡ 0 = search tests in
+    let hf : f ≡ 0 = search tests in
+    let hg : g ≡ 0 = search tests in
     rw (hd, he, hf, hg)
 
 -- ---- marks, statements
@@ -107,15 +95,15 @@ stmt-back a b c d e f g l h = ⊎-elim (λ u. ⊎-elim id-stmt route-stmt (or-e 
   where
     id-stmt : (leb a 2 && isName b && zeroFromC (row 5 a b c d e f g)) ≡ true → statementRow (statementOf (row 5 a b c d e f g ∷ l)) ≡ row 5 a b c d e f g
     id-stmt u =
-        between (λ (n : ℕ). statementRow (statementOf (row 5 n b c d e f g ∷ l)) ≡ row 5 n b 0 0 0 0 0) 3 0 a (refl, (refl, (refl, tt))) (omega arith) (suc-le-suc (search ands)) ∙
+        between (λ (n : ℕ). statementRow (statementOf (row 5 n b c d e f g ∷ l)) ≡ row 5 n b 0 0 0 0 0) 3 0 a (refl, (refl, (refl, tt))) (omega arith) (suc-le-suc (search tests)) ∙
         zero-c 5 a b c d e f g (and-r (leb a 2 && isName b) _ u)
 
     route-stmt : routeFits (row 5 a b c d e f g) ≡ true → statementRow (statementOf (row 5 a b c d e f g ∷ l)) ≡ row 5 a b c d e f g
-    route-stmt u = let ha : a ≡ 3 = search ands in rw (ha, num-opt f, num-opt g)
+    route-stmt u = let ha : a ≡ 3 = search tests in rw (ha, num-opt f, num-opt g)
 
     other-stmt : (eqb a 4 && zeroFromC (row 5 a b c d e f g)) ≡ true → statementRow (statementOf (row 5 a b c d e f g ∷ l)) ≡ row 5 a b c d e f g
     other-stmt u =
-        let ha : a ≡ 4 = search ands in
+        let ha : a ≡ 4 = search tests in
         (let z : statementRow (statementOf (row 5 a b c d e f g ∷ l)) ≡ row 5 a b 0 0 0 0 0 = rw ha in z) ∙ zero-c 5 a b c d e f g (and-r (eqb a 4) _ u)
 
 -- ---- nodes
@@ -123,14 +111,14 @@ stmt-back a b c d e f g l h = ⊎-elim (λ u. ⊎-elim id-stmt route-stmt (or-e 
 pub node-back : (a b c d e f g : ℕ) (l : List Row) → nodeFits (row 2 a b c d e f g) ≡ true → nodeRow a (optional b) (originOf (row 2 a b c d e f g ∷ l)) ≡ row 2 a b c d e f g
 unfolding originOf
 node-back a b c d e f g l h =
-    between P 4 0 c (at0, (at1, (at2, (at3, tt)))) (omega arith) (suc-le-suc (search ands)) (and-r (isName a) _ (and-l _ (zeroFromE (row 2 a b c d e f g)) h)) ∙
+    between P 4 0 c (at0, (at1, (at2, (at3, tt)))) (omega arith) (suc-le-suc (search tests)) (and-r (isName a) _ (and-l _ (zeroFromE (row 2 a b c d e f g)) h)) ∙
     zero-e 2 a b c d e f g (and-r (isName a && originFits (row 2 a b c d e f g)) _ h)
   where
     P : ℕ → Type 0
     P n = originFits (row 2 a b n d e f g) ≡ true → nodeRow a (optional b) (originOf (row 2 a b n d e f g ∷ l)) ≡ row 2 a b n d 0 0 0
 
     at0 : P 0
-    at0 u = let hd : d ≡ 0 = search ands in rw (hd, num-opt b)
+    at0 u = let hd : d ≡ 0 = search tests in rw (hd, num-opt b)
 
     at1 : P 1
     at1 u = rw (num-opt b)
@@ -139,7 +127,7 @@ node-back a b c d e f g l h =
     at2 u = rw (num-opt b)
 
     at3 : P 3
-    at3 u = let hd : d ≡ 0 = search ands in rw (hd, num-opt b)
+    at3 u = let hd : d ≡ 0 = search tests in rw (hd, num-opt b)
 
 -- ---- values: what follows is as many ids as the row owes
 
@@ -171,16 +159,16 @@ field-back a b c d e f g l o h = ⊎-elim by-value by-is (or-e _ _ (and-r (isNam
   where
     by-value : (eqb b 0 && eqb c 0 && hasValue (row 3 a b c d e f g)) ≡ true → fieldRows (fieldOf (row 3 a b c d e f g ∷ l)) ≡ row 3 a b c d e f g ∷ idRows l
     by-value u =
-        let hb : b ≡ 0 = search ands in
-        let hc : c ≡ 0 = search ands in
-        rw (hb, hc) (value-back e f g l o (λ x y z. row 3 a 0 0 d x y z) (search ands) (search ands))
+        let hb : b ≡ 0 = search tests in
+        let hc : c ≡ 0 = search tests in
+        rw (hb, hc) (value-back e f g l o (λ x y z. row 3 a 0 0 d x y z) (search tests) (search tests))
 
     by-is : (eqb b 1 && isName c && zeroFromE (row 3 a b c d e f g)) ≡ true → fieldRows (fieldOf (row 3 a b c d e f g ∷ l)) ≡ row 3 a b c d e f g ∷ idRows l
     by-is u =
-        let hb : b ≡ 1 = search ands in
-        let he : e ≡ 0 = search ands in
-        let hf : f ≡ 0 = search ands in
-        let hg : g ≡ 0 = search ands in
+        let hb : b ≡ 1 = search tests in
+        let he : e ≡ 0 = search tests in
+        let hf : f ≡ 0 = search tests in
+        let hg : g ≡ 0 = search tests in
         let z : length (idsOf l) ≡ 0 = o ∙ rw hf in
         rw (hb, he, hf, hg, empty (idsOf l) z)
 
@@ -190,14 +178,14 @@ iface-back a b c d e f g l o h = ⊎-elim by-value by-none (or-e _ _ (and-r (leb
   where
     by-value : hasValue (row 4 a b c d e f g) ≡ true → interfaceRows (interfaceOf (row 4 a b c d e f g ∷ l)) ≡ row 4 a b c d e f g ∷ idRows l
     by-value u =
-        let hf : 1 ≤ f = search ands in
+        let hf : 1 ≤ f = search tests in
         let n : f ≡ 0 → ⊥ = λ i. omega arith in
-        rw (ne-eqb f 0 n, num-opt d) (value-back e f g l o (λ x y z. row 4 a b c d x y z) hf (search ands))
+        rw (ne-eqb f 0 n, num-opt d) (value-back e f g l o (λ x y z. row 4 a b c d x y z) hf (search tests))
 
     by-none : zeroFromE (row 4 a b c d e f g) ≡ true → interfaceRows (interfaceOf (row 4 a b c d e f g ∷ l)) ≡ row 4 a b c d e f g ∷ idRows l
     by-none u =
-        let he : e ≡ 0 = search ands in
-        let hf : f ≡ 0 = search ands in
-        let hg : g ≡ 0 = search ands in
+        let he : e ≡ 0 = search tests in
+        let hf : f ≡ 0 = search tests in
+        let hg : g ≡ 0 = search tests in
         let z : length (idsOf l) ≡ 0 = o ∙ rw hf in
         rw (he, hf, hg, num-opt d, empty (idsOf l) z)

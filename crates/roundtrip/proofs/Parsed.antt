@@ -22,9 +22,9 @@ use Rattle.roundtrip.proofs.Steps.{Sure, all}
 use Rattle.roundtrip.proofs.Scan.{Kinds, Begins, Heads, kinds-append, begins-as, Passed, Ends, EndsAll, ends-all, pass-all, pass-over, ended, Listed, kinds, begins, passed-over, found, nothing-open, one, rows-map}
 
 -- a number that may be none is read back
-optional-back : (n : Option ℕ) → IsPresent n → optional (orNone n) ≡ n
-optional-back none h = refl
-optional-back (some n) h = rw (ne-eqb n none# h)
+optional-parsed : (n : Option ℕ) → IsPresent n → optional (orNone n) ≡ n
+optional-parsed none h = refl
+optional-parsed (some n) h = rw (ne-eqb n none# h)
 
 -- ---- single rows
 
@@ -37,28 +37,28 @@ idsListed =
       back = λ x l f h. refl;
     }
 
-ids-back : (xs : List ℕ) (l : List Row) → Begins (Ends Ids) l → idsOf (map idRow xs ++ l) ≡ xs
+pub ids-parsed : (xs : List ℕ) (l : List Row) → Begins (Ends Ids) l → idsOf (map idRow xs ++ l) ≡ xs
 unfolding idsOf
-ids-back xs l h = rw (rows-map idRow xs) (found idsListed xs l (all (λ i. tt) xs) (nothing-open l) h)
+ids-parsed xs l h = rw (rows-map idRow xs) (found idsListed xs l (all (λ i. tt) xs) (nothing-open l) h)
 
-route-back : (x : Route) (l : List Row) → RouteInRange x → routeOf (routeRow x ∷ l) ≡ x
+route-parsed : (x : Route) (l : List Row) → RouteInRange x → routeOf (routeRow x ∷ l) ≡ x
 unfolding routeOf
-route-back x l f i = record { fromNode = x .fromNode; fromField = x .fromField; toNode = x .toNode; toField = x .toField; fromId = optional-back (x .fromId) (f .fromId) i; toId = optional-back (x .toId) (f .toId) i }
+route-parsed x l f i = record { fromNode = x .fromNode; fromField = x .fromField; toNode = x .toNode; toField = x .toField; fromId = optional-parsed (x .fromId) (f .fromId) i; toId = optional-parsed (x .toId) (f .toId) i }
 
 routesListed : Listed Routes [] [] (one routeRow) routeOf RouteInRange
-routesListed = record { heads = λ x P Q p q. (p, tt); passed = tt; ends = tt; back = λ x l f h. route-back x l f }
+routesListed = record { heads = λ x P Q p q. (p, tt); passed = tt; ends = tt; back = λ x l f h. route-parsed x l f }
 
 associationsListed : Listed Associations [] [] (one associationRow) associationOf (λ x. Sure)
 unfolding associationOf
 associationsListed = record { heads = λ x P Q p q. (p, tt); passed = tt; ends = tt; back = λ x l f h. refl }
 
-statement-back : (x : Statement) (l : List Row) → StatementInRange x → statementOf (statementRow x ∷ l) ≡ x
+statement-parsed : (x : Statement) (l : List Row) → StatementInRange x → statementOf (statementRow x ∷ l) ≡ x
 unfolding statementOf
-statement-back (Statement.Node i) l f = refl
-statement-back (Statement.Proto i) l f = refl
-statement-back (Statement.ExternProto i) l f = refl
-statement-back (Statement.Route x) l f = ap Statement.Route (route-back x l f)
-statement-back (Statement.Other p) l f = refl
+statement-parsed (Statement.Node i) l f = refl
+statement-parsed (Statement.Proto i) l f = refl
+statement-parsed (Statement.ExternProto i) l f = refl
+statement-parsed (Statement.Route x) l f = ap Statement.Route (route-parsed x l f)
+statement-parsed (Statement.Other p) l f = refl
 
 statement-heads : (x : Statement) (P Q : ℕ → Type 0) → P 5 → Sure → Heads P Q (statementRow x ∷ [])
 statement-heads (Statement.Node i) P Q p q = (p, tt)
@@ -68,13 +68,13 @@ statement-heads (Statement.Route x) P Q p q = (p, tt)
 statement-heads (Statement.Other n) P Q p q = (p, tt)
 
 statementsListed : Listed Statements [] [] (one statementRow) statementOf StatementInRange
-statementsListed = record { heads = statement-heads; passed = tt; ends = tt; back = λ x l f h. statement-back x l f }
+statementsListed = record { heads = statement-heads; passed = tt; ends = tt; back = λ x l f h. statement-parsed x l f }
 
-order-back : (x : BodyElement) (l : List Row) → bodyElementOf (bodyElementRow x ∷ l) ≡ x
+order-parsed : (x : BodyElement) (l : List Row) → bodyElementOf (bodyElementRow x ∷ l) ≡ x
 unfolding bodyElementOf
-order-back BodyElement.Field l = refl
-order-back BodyElement.Interface l = refl
-order-back BodyElement.Statement l = refl
+order-parsed BodyElement.Field l = refl
+order-parsed BodyElement.Interface l = refl
+order-parsed BodyElement.Statement l = refl
 
 order-heads : (x : BodyElement) (P Q : ℕ → Type 0) → P 6 → Sure → Heads P Q (bodyElementRow x ∷ [])
 order-heads BodyElement.Field P Q p q = (p, tt)
@@ -82,29 +82,29 @@ order-heads BodyElement.Interface P Q p q = (p, tt)
 order-heads BodyElement.Statement P Q p q = (p, tt)
 
 orderListed : Listed BodyOrder [] [] (one bodyElementRow) bodyElementOf (λ x. Sure)
-orderListed = record { heads = order-heads; passed = tt; ends = tt; back = λ x l f h. order-back x l }
+orderListed = record { heads = order-heads; passed = tt; ends = tt; back = λ x l f h. order-parsed x l }
 
 urlsListed : Listed Urls [] [] (one urlRow) urlOf UrlInRange
 unfolding urlOf
-urlsListed = record { heads = λ x P Q p q. (p, tt); passed = tt; ends = tt; back = λ x l f h i. record { base = x .base; fragment = optional-back (x .fragment) (f .fragment) i } }
+urlsListed = record { heads = λ x P Q p q. (p, tt); passed = tt; ends = tt; back = λ x l f h i. record { base = x .base; fragment = optional-parsed (x .fragment) (f .fragment) i } }
 
 -- ---- fields, interfaces: a row, and the ids of its value
 
-data-back : (d : FieldData) (l : List Row) → Begins (EndsAll (Ids ∷ [])) l → choose (eqb (class d) 2) (FieldData.Nodes (idsOf (dataRows d ++ l))) (FieldData.Payload (amount d)) ≡ d
-data-back (FieldData.Payload p) l h = refl
-data-back (FieldData.Nodes xs) l h = ap FieldData.Nodes (ids-back xs l (begins-as (EndsAll (Ids ∷ [])) (Ends Ids) (λ k e. e .0) l h))
+data-parsed : (d : FieldData) (l : List Row) → Begins (EndsAll (Ids ∷ [])) l → choose (eqb (class d) 2) (FieldData.Nodes (idsOf (dataRows d ++ l))) (FieldData.Payload (amount d)) ≡ d
+data-parsed (FieldData.Payload p) l h = refl
+data-parsed (FieldData.Nodes xs) l h = ap FieldData.Nodes (ids-parsed xs l (begins-as (EndsAll (Ids ∷ [])) (Ends Ids) (λ k e. e .0) l h))
 
 data-kinds : (d : FieldData) (P : ℕ → Type 0) → P 9 → Kinds P (dataRows d)
 data-kinds (FieldData.Payload p) P h = tt
 data-kinds (FieldData.Nodes []) P h = tt
 data-kinds (FieldData.Nodes (i ∷ l)) P h = (h, data-kinds (FieldData.Nodes l) P h)
 
-field-back : (x : Field) (l : List Row) → Begins (EndsAll (Ids ∷ [])) l → fieldOf (fieldRows x ++ l) ≡ x
+field-parsed : (x : Field) (l : List Row) → Begins (EndsAll (Ids ∷ [])) l → fieldOf (fieldRows x ++ l) ≡ x
 unfolding fieldOf
-field-back x l h = go (x .binding)
+field-parsed x l h = go (x .binding)
   where
     go : (b : FieldBinding) → fieldOf (bindingRows x b ++ l) ≡ record { name = x .name; binding = b; inferred = x .inferred }
-    go (FieldBinding.Value v) = λ i. record { name = x .name; binding = FieldBinding.Value (record { ty = v .ty; «data» = data-back (v .«data») l h i }); inferred = x .inferred }
+    go (FieldBinding.Value v) = λ i. record { name = x .name; binding = FieldBinding.Value (record { ty = v .ty; «data» = data-parsed (v .«data») l h i }); inferred = x .inferred }
     go (FieldBinding.Is t) = refl
 
 field-heads : (x : Field) (P Q : ℕ → Type 0) → P 3 → Each Q (9 ∷ []) → Heads P Q (fieldRows x)
@@ -115,25 +115,25 @@ field-heads x P Q p q = go (x .binding)
     go (FieldBinding.Is t) = (p, tt)
 
 fieldsListed : Listed Fields (9 ∷ []) (Ids ∷ []) fieldRows fieldOf (λ x. Sure)
-fieldsListed = record { heads = field-heads; passed = ((refl, refl), tt); ends = ((refl, refl), tt); back = λ x l f h. field-back x l h }
+fieldsListed = record { heads = field-heads; passed = ((refl, refl), tt); ends = ((refl, refl), tt); back = λ x l f h. field-parsed x l h }
 
-interface-back : (x : InterfaceDecl) (l : List Row) → IsPresent (x .is) → Begins (EndsAll (Ids ∷ [])) l → interfaceOf (interfaceRows x ++ l) ≡ x
+interface-parsed : (x : InterfaceDecl) (l : List Row) → IsPresent (x .is) → Begins (EndsAll (Ids ∷ [])) l → interfaceOf (interfaceRows x ++ l) ≡ x
 unfolding interfaceOf
-interface-back x l f h = go (x .value)
+interface-parsed x l f h = go (x .value)
   where
     class-back : (d : FieldData) (w : FieldValue) → choose (eqb (class d) 0) none (some w) ≡ some w
     class-back (FieldData.Payload p) w = refl
     class-back (FieldData.Nodes p) w = refl
 
     go : (w : Option FieldValue) → interfaceOf (defaultRows x w ++ l) ≡ record { access = x .access; fieldType = x .fieldType; name = x .name; value = w; is = x .is }
-    go none = λ i. record { access = x .access; fieldType = x .fieldType; name = x .name; value = none; is = optional-back (x .is) f i }
+    go none = λ i. record { access = x .access; fieldType = x .fieldType; name = x .name; value = none; is = optional-parsed (x .is) f i }
     go (some v) = λ i.
         record {
           access = x .access;
           fieldType = x .fieldType;
           name = x .name;
-          value = (class-back (v .«data») (valueOf (defaultRows x (some v) ++ l)) ∙ ap (λ (d : FieldData). some (record { ty = v .ty; «data» = d })) (data-back (v .«data») l h)) i;
-          is = optional-back (x .is) f i;
+          value = (class-back (v .«data») (valueOf (defaultRows x (some v) ++ l)) ∙ ap (λ (d : FieldData). some (record { ty = v .ty; «data» = d })) (data-parsed (v .«data») l h)) i;
+          is = optional-parsed (x .is) f i;
         }
 
 interface-heads : (x : InterfaceDecl) (P Q : ℕ → Type 0) → P 4 → Each Q (9 ∷ []) → Heads P Q (interfaceRows x)
@@ -144,7 +144,7 @@ interface-heads x P Q p q = go (x .value)
     go (some v) = (p, data-kinds (v .«data») Q (q .0))
 
 interfacesListed : Listed Interfaces (9 ∷ []) (Ids ∷ []) interfaceRows interfaceOf (λ x. IsPresent (x .is))
-interfacesListed = record { heads = interface-heads; passed = ((refl, refl), tt); ends = ((refl, refl), tt); back = interface-back }
+interfacesListed = record { heads = interface-heads; passed = ((refl, refl), tt); ends = ((refl, refl), tt); back = interface-parsed }
 
 -- ---- an instance: its row, then ids, routes and associations
 
@@ -155,9 +155,9 @@ each-as P Q f (x ∷ l) h = (f x (h .0), each-as P Q f l (h .1))
 abbrev instanceParts : List Part
 instanceParts = Ids ∷ Routes ∷ Associations ∷ []
 
-instance-back : (x : ProtoInstance) (l : List Row) → InstanceInRange x → Begins (EndsAll instanceParts) l → instanceOf (instanceRows x ++ l) ≡ x
+instance-parsed : (x : ProtoInstance) (l : List Row) → InstanceInRange x → Begins (EndsAll instanceParts) l → instanceOf (instanceRows x ++ l) ≡ x
 unfolding instanceOf idsOf
-instance-back x l f h = ap instanceOf (ap (_∷_ r) regroup) ∙ parts
+instance-parsed x l f h = ap instanceOf (ap (_∷_ r) regroup) ∙ parts
   where
     r : Row
     r = row 13 (x .protoName) (length (x .extraRoots)) (length (x .routes)) (length (x .isMap)) 0 0 0
@@ -194,12 +194,12 @@ instance-back x l f h = ap instanceOf (ap (_∷_ r) regroup) ∙ parts
 abbrev nodeParts : List Part
 nodeParts = Ids ∷ Fields ∷ Interfaces ∷ Statements ∷ BodyOrder ∷ Instances ∷ Routes ∷ Associations ∷ []
 
-origin-back : (t : ℕ) (n : Option ℕ) (o : NodeOrigin) (l : List Row) → originOf (nodeRow t n o ∷ l) ≡ o
+origin-parsed : (t : ℕ) (n : Option ℕ) (o : NodeOrigin) (l : List Row) → originOf (nodeRow t n o ∷ l) ≡ o
 unfolding originOf
-origin-back t n NodeOrigin.Builtin l = refl
-origin-back t n (NodeOrigin.Proto i) l = refl
-origin-back t n (NodeOrigin.ExternProto i) l = refl
-origin-back t n NodeOrigin.Unknown l = refl
+origin-parsed t n NodeOrigin.Builtin l = refl
+origin-parsed t n (NodeOrigin.Proto i) l = refl
+origin-parsed t n (NodeOrigin.ExternProto i) l = refl
+origin-parsed t n NodeOrigin.Unknown l = refl
 
 -- the columns of a node's row that do not depend on its origin
 node-columns : (t : ℕ) (n : Option ℕ) (o : NodeOrigin) → (nodeRow t n o .a ≡ t) × (nodeRow t n o .b ≡ orNone n)
@@ -285,11 +285,11 @@ module _ (x : Node) (l : List Row) (f : NodeInRange x) (h : Begins (EndsAll node
     where
       go : (y : Option ProtoInstance) → AnyInstanceInRange y → first (map instanceOf (elements Instances (anyInstanceRows y ++ l))) ≡ y
       go none r = ap (λ (R : List (List Row)). first (map instanceOf R)) (ended Instances l (to (Ends Instances) (λ k e. e .1 .1 .1 .1 .1 .0)))
-      go (some y) r = ap some (instance-back y l r (to (EndsAll instanceParts) (λ k e. (e .0, (e .1 .1 .1 .1 .1 .1 .0, (e .1 .1 .1 .1 .1 .1 .1 .0, tt))))))
+      go (some y) r = ap some (instance-parsed y l r (to (EndsAll instanceParts) (λ k e. (e .0, (e .1 .1 .1 .1 .1 .1 .0, (e .1 .1 .1 .1 .1 .1 .1 .0, tt))))))
 
-  node-back : nodeOf (nodeRows x ++ l) ≡ x
+  node-parsed : nodeOf (nodeRows x ++ l) ≡ x
   unfolding nodeOf fieldsOf interfacesOf statementsOf
-  node-back = ap nodeOf (ap (_∷_ (nodeRow (x .typeName) (x .defName) (x .origin))) regroup) ∙ parts
+  node-parsed = ap nodeOf (ap (_∷_ (nodeRow (x .typeName) (x .defName) (x .origin))) regroup) ∙ parts
     where
       columns : (nodeRow (x .typeName) (x .defName) (x .origin) .a ≡ x .typeName) × (nodeRow (x .typeName) (x .defName) (x .origin) .b ≡ orNone (x .defName))
       columns = node-columns (x .typeName) (x .defName) (x .origin)
@@ -298,8 +298,8 @@ module _ (x : Node) (l : List Row) (f : NodeInRange x) (h : Begins (EndsAll node
       parts i =
           record {
             typeName = columns .0 i;
-            defName = (ap optional (columns .1) ∙ optional-back (x .defName) (f .defName)) i;
-            origin = origin-back (x .typeName) (x .defName) (x .origin) rest1 i;
+            defName = (ap optional (columns .1) ∙ optional-parsed (x .defName) (f .defName)) i;
+            origin = origin-parsed (x .typeName) (x .defName) (x .origin) rest1 i;
             fields = fields-found i;
             interface = interfaces-found i;
             statements = statements-found i;
@@ -347,7 +347,7 @@ nodesListed =
       heads = node-heads;
       passed = pass-all Nodes nodeKinds refl;
       ends = ends-all nodeParts 2 refl;
-      back = node-back;
+      back = node-parsed;
     }
 
 -- ---- protos, externs: a row, interfaces, and a list of single rows
@@ -380,15 +380,15 @@ module _ {A : Type 0} {u : Part} {print : A → Row} {parse : List Row → A} {F
       second-list : map parse (elements u (rowsOfEach interfaceRows is ++ M)) ≡ xs
       second-list = ap (map parse) (passed-over interfacesListed u (b .1) (b .2, tt) is M) ∙ found L xs l g (nothing-open l) (to (Ends u) (λ k e. e .1 .1 .0))
 
-proto-back : (x : ProtoDecl) (l : List Row) → ProtoInRange x → Begins (EndsAll protoParts) l → protoOf (protoRows x ++ l) ≡ x
+proto-parsed : (x : ProtoDecl) (l : List Row) → ProtoInRange x → Begins (EndsAll protoParts) l → protoOf (protoRows x ++ l) ≡ x
 unfolding protoOf interfacesOf statementsOf
-proto-back x l f h =
+proto-parsed x l f h =
     let w = two-lists statementsListed (((refl, refl), ((refl, refl), tt)), (refl, refl), (refl, refl)) (x .interface) (x .body) l (each-as InterfaceInRange (λ y. IsPresent (y .is)) (λ y r. r .is) (x .interface) (f .interface)) (f .body) h in
     λ i. record { name = x .name; interface = w .0 i; body = w .1 i }
 
-extern-back : (x : ExternProtoDecl) (l : List Row) → ExternProtoInRange x → Begins (EndsAll externParts) l → externProtoOf (externProtoRows x ++ l) ≡ x
+extern-parsed : (x : ExternProtoDecl) (l : List Row) → ExternProtoInRange x → Begins (EndsAll externParts) l → externProtoOf (externProtoRows x ++ l) ≡ x
 unfolding externProtoOf interfacesOf
-extern-back x l f h =
+extern-parsed x l f h =
     let w = two-lists urlsListed (((refl, refl), ((refl, refl), tt)), (refl, refl), (refl, refl)) (x .interface) (x .urls) l (each-as ExternInterfaceInRange (λ y. IsPresent (y .is)) (λ y r. r .0 .is) (x .interface) (f .interface)) (f .urls) h in
     λ i. record { name = x .name; interface = w .0 i; urls = w .1 i }
 
@@ -398,7 +398,7 @@ protosListed =
       heads = λ x P Q p q. (p, kinds-append Q (rowsOfEach interfaceRows (x .interface)) (map statementRow (x .body)) (kinds interfacesListed Q (q .0) (q .1 .1 .0, tt) (x .interface)) (map-kinds statementsListed Q (q .1 .0) (x .body)));
       passed = pass-all Protos protoKinds refl;
       ends = ends-all protoParts 7 refl;
-      back = proto-back;
+      back = proto-parsed;
     }
 
 externsListed : Listed Externs externKinds externParts externProtoRows externProtoOf ExternProtoInRange
@@ -407,7 +407,7 @@ externsListed =
       heads = λ x P Q p q. (p, kinds-append Q (rowsOfEach interfaceRows (x .interface)) (map urlRow (x .urls)) (kinds interfacesListed Q (q .0) (q .1 .0, tt) (x .interface)) (map-kinds urlsListed Q (q .1 .1 .0) (x .urls)));
       passed = pass-all Externs externKinds refl;
       ends = ends-all externParts 8 refl;
-      back = extern-back;
+      back = extern-parsed;
     }
 
 -- ---- a document

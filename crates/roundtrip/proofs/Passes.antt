@@ -18,32 +18,8 @@ use Rattle.ast.specs.Choice.{choose}
 use Rattle.sheet.specs.Grammar.{shapeFits, staysExpanded, allowed, goIf, fits, run, goOn, hasEnded}
 use Rattle.sheet.specs.Print.{rowsOfEach}
 use Rattle.roundtrip.specs.Each.{Each}
-use Rattle.roundtrip.proofs.Back.{and-r}
-use Rattle.roundtrip.proofs.Whole.{at}
-use Rattle.roundtrip.proofs.Accepted.{never, no-go, go-inj, bad-fits, end-of}
-
--- ---- a list of rows that fit
-
--- the rows fit from a state on, and the sheet may end after them
-abbrev pub Accepts : Form → State → List Row → Type 0
-Accepts form s [] = hasEnded s ≡ true
-Accepts form s (r ∷ l) = (t : State) × (fits form s r ≡ Go t) × Accepts form t l
-
--- the check says so
-pub accepts : (form : Form) (R : List Row) (s : State) (n : ℕ) → run form s n R ≡ Fits → Accepts form s R
-unfolding run
-accepts form [] s n h = end-of (hasEnded s) n h
-accepts form (r ∷ l) s n h = go (fits form s r) refl h (λ (t : State) (k : run form t (suc n) l ≡ Fits). accepts form l t (suc n) k)
-  where
-    go : (x : Next) → fits form s r ≡ x → goOn x (λ t. run form t (suc n) l) n ≡ Fits → ((t : State) → run form t (suc n) l ≡ Fits → Accepts form t l) → Accepts form s (r ∷ l)
-    go (Go t) e k ih = (t, e, ih t k)
-    go No e k ih = bad-fits k
-
--- and only then
-pub accepted : (form : Form) (R : List Row) (s : State) (n : ℕ) → Accepts form s R → run form s n R ≡ Fits
-unfolding run
-accepted form [] s n h = rw h
-accepted form (r ∷ l) s n h = rw (h .1) (accepted form l (h .0) (suc n) (h .2))
+use Rattle.roundtrip.proofs.Tests.{never, and-r}
+use Rattle.roundtrip.proofs.Accepts.{bare, no-go, go-inj, Accepts}
 
 -- ---- what is asked
 
@@ -180,9 +156,6 @@ pub record Within (S : Span) (p la : ℕ) : Type 0 where
   pub from : S .lo ≤ p
   pub to : p ≤ S .hi
   pub back : la ≤ S .top
-
-abbrev pub bare : ℕ → ℕ → State
-bare p la = at p la 0 0 0
 
 -- rows that lead from any state of a span to one of another
 abbrev pub Passes : Form → Span → Span → Asks → List Row → Type 0

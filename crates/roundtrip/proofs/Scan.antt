@@ -10,7 +10,7 @@ use Rattle.sheet.specs.declared.part.Part.{Part}
 use Rattle.sheet.specs.Parse.{kindOf, passes, elements}
 use Rattle.sheet.specs.Print.{rowsOfEach}
 use Rattle.roundtrip.specs.Each.{Each}
-use Rattle.roundtrip.proofs.Back.{and-l, and-r}
+use Rattle.roundtrip.proofs.Tests.{and-l, and-r}
 
 -- ---- kinds of rows
 

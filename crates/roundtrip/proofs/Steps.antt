@@ -22,22 +22,13 @@ use Rattle.sheet.specs.Print.{row, orNone, idRow, class, amount, dataRows, rout
 use Rattle.roundtrip.specs.Each.{Each}
 use Rattle.roundtrip.specs.Ranges.{IsName, IsPresent, DataInRange, RouteInRange, StatementInRange, AssociationInRange, OriginInRange, UrlInRange}
 use Rattle.roundtrip.specs.Expanded.{TopKept, InnerKept, OriginKept, InterfaceKept}
-use Rattle.roundtrip.proofs.Back.{and-l, and-r, or-e, ands}
-use Rattle.roundtrip.proofs.Whole.{at}
-use Rattle.roundtrip.proofs.Accepted.{never}
-use Rattle.roundtrip.proofs.Passes.{Asks, Keeps, GoesOn, Through, through, refused, follow, instead, counted, stay, bare, each, both}
+use Rattle.roundtrip.proofs.Tests.{never, and-i, and-l, and-r, or-e, or-l, tests}
+use Rattle.roundtrip.proofs.Accepts.{at, bare}
+use Rattle.roundtrip.proofs.Passes.{Asks, Keeps, GoesOn, Through, through, refused, follow, instead, counted, stay, each, both}
 
--- ---- tests
+-- ---- what is asked of nothing
 
-and-i : {a b : Bool} → a ≡ true → b ≡ true → (a && b) ≡ true
-and-i h i = rw (h, i)
-
-or-l : (a : Bool) → (a || false) ≡ true → a ≡ true
-or-l true h = refl
-or-l false h = h
-
-ruleset tests = (ands, or-l)
-
+-- what holds of all holds of each of a list
 pub all : {A : Type 0} {P : A → Type 0} → ((x : A) → P x) → (l : List A) → Each P l
 all f [] = tt
 all f (x ∷ l) = (f x, all f l)

@@ -17,7 +17,8 @@ use Rattle.sheet.specs.Print.{row, orNone, class, amount, fieldRows, bindingRow
 use Rattle.roundtrip.specs.Each.{Each}
 use Rattle.roundtrip.specs.Ranges.{IsName, IsPresent, BindingInRange, FieldInRange, DefaultInRange, InterfaceInRange, StatementInRange, InstanceInRange, AnyInstanceInRange, NodeInRange, ProtoInRange, ExternInterfaceInRange, ExternProtoInRange, InRange, FileInRange}
 use Rattle.roundtrip.specs.Expanded.{TopKept, InnerKept, OriginKept, InterfaceKept, NodeKept, IsExpanded}
-use Rattle.roundtrip.proofs.Passes.{Asks, both, each, stay, Through, follow, instead, Passes, span, bare, then, asking, listed, mapped, within}
+use Rattle.roundtrip.proofs.Accepts.{bare}
+use Rattle.roundtrip.proofs.Passes.{Asks, both, each, stay, Through, follow, instead, Passes, span, then, asking, listed, mapped, within}
 use Rattle.roundtrip.proofs.Steps.{Sure, Takes, all, idAsks, routeAsks, associationAsks, ids, routes, associations, dataAsks, data-rows, value-step, is-step, bare-interface-step, interface-step, extern-value, StatementGiven, statementAsks, statement-step, inner-kept, top-kept, orderAsks, order-step, urlAsks, url-step, instance-step, nodeRowAsks, node-step, protoRowAsks, proto-step, extern-step, plainAsks, top-step, document-step, file-step}
 
 -- ---- what the parse gives: what is present is not none
