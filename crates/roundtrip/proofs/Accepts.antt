@@ -39,9 +39,11 @@ pub go-r : (b : Bool) (x : Next) (t : State) → choose b x No ≡ Go t → x �
 go-r true x t h = h
 go-r false x t h = no-go h
 
+-- a refusal does not fit
 bad-fits : {A : Type 0} {n : ℕ} → Bad n ≡ Fits → A
 bad-fits h = let z : _≡_ {A = ℕ} 0 1 = cc in absurd (omega arith)
 
+-- a sheet that fits may end
 end-of : (b : Bool) (n : ℕ) → choose b Fits (Bad n) ≡ Fits → b ≡ true
 end-of true n h = refl
 end-of false n h = bad-fits h

@@ -1,20 +1,19 @@
 -- A row of the right shape is the row that what it says is written in.
-use mathlib.Core.Path.{_≡_, refl, sym, ap, ap₂, _∙_}
-use mathlib.Core.List.{List, [], _∷_, _++_, map}
-use mathlib.Core.Logic.{_⊎_, inl, inr, ⊎-elim}
-use mathlib.Core.Bool.{Bool, true, false, _&&_, _||_}
-use Prim.Native.Nat.{ℕ, zero, suc, _+_, _≤_, _<_, suc-le-suc}
+use mathlib.Core.Path.{_≡_, refl, sym, ap, _∙_}
+use mathlib.Core.List.{List, [], _∷_, map}
+use mathlib.Core.Logic.{⊎-elim}
+use mathlib.Core.Bool.{true, _&&_}
+use Prim.Native.Nat.{ℕ, _≤_, suc-le-suc}
 use native.Mathlib.Omega.{arith}
 use native.Mathlib.Decide.{ℕ-discrete}
-use lib.ListN.{length, length-map}
-use lib.Dec.{ltb, leb, eqb}
-use borrow.Author.Tests.{eq-eqb, ne-eqb, eqb-true, leb-true, ltb-true}
+use lib.ListN.{length}
+use lib.Dec.{leb, eqb}
+use borrow.Author.Tests.{eq-eqb, ne-eqb, leb-true}
 use Rattle.sheet.specs.declared.row.Row.{Row}
 use Rattle.ast.specs.Ast.{FieldData}
 use Rattle.sheet.proofs.Numbers.{between}
-use Rattle.sheet.specs.Rows.{front, rest}
 use Rattle.ast.specs.Choice.{choose}
-use Rattle.sheet.specs.Grammar.{none#, isName, hasValue, zeroFromC, zeroFromE, originFits, routeFits, nodeFits, fieldFits, interfaceFits, statementFits, orderFits, nameFits, urlFits, topFits, instanceFits, associationFits, zeroFromB}
+use Rattle.sheet.specs.Grammar.{none#, isName, hasValue, zeroFromC, zeroFromE, originFits, routeFits, nodeFits, fieldFits, interfaceFits, statementFits, orderFits, nameFits, urlFits, topFits, associationFits, zeroFromB}
 use Rattle.sheet.specs.Parse.{optional, idsOf, fieldOf, interfaceOf, statementOf, routeOf, bodyElementOf, originOf, associationOf, urlOf}
 use Rattle.sheet.specs.Print.{row, class, amount, dataRows, topRow, orNone, idRow, fieldRows, interfaceRows, statementRow, routeRow, bodyElementRow, nodeRow, associationRow, urlRow}
 use Rattle.roundtrip.proofs.Tests.{and-l, and-r, or-e, tests}
@@ -29,25 +28,7 @@ num-opt n = go (ℕ-discrete n none#)
 
 -- ---- columns that are 0
 
-pub zero-b : (k a b c d e f g : ℕ) → zeroFromB (row k a b c d e f g) ≡ true → row k a 0 0 0 0 0 0 ≡ row k a b c d e f g
-zero-b k a b c d e f g h =
-    let hb : b ≡ 0 = search tests in
-    let hc : c ≡ 0 = search tests in
-    let hd : d ≡ 0 = search tests in
-    let he : e ≡ 0 = search tests in
-    let hf : f ≡ 0 = search tests in
-    let hg : g ≡ 0 = search tests in
-    rw (hb, hc, hd, he, hf, hg)
-
-pub zero-c : (k a b c d e f g : ℕ) → zeroFromC (row k a b c d e f g) ≡ true → row k a b 0 0 0 0 0 ≡ row k a b c d e f g
-zero-c k a b c d e f g h =
-    let hc : c ≡ 0 = search tests in
-    let hd : d ≡ 0 = search tests in
-    let he : e ≡ 0 = search tests in
-    let hf : f ≡ 0 = search tests in
-    let hg : g ≡ 0 = search tests in
-    rw (hc, hd, he, hf, hg)
-
+-- e to g are 0
 pub zero-e : (k a b c d e f g : ℕ) → zeroFromE (row k a b c d e f g) ≡ true → row k a b c d 0 0 0 ≡ row k a b c d e f g
 zero-e k a b c d e f g h =
     let he : e ≡ 0 = search tests in
@@ -55,40 +36,52 @@ zero-e k a b c d e f g h =
     let hg : g ≡ 0 = search tests in
     rw (he, hf, hg)
 
+-- c to g are 0
+pub zero-c : (k a b c d e f g : ℕ) → zeroFromC (row k a b c d e f g) ≡ true → row k a b 0 0 0 0 0 ≡ row k a b c d e f g
+zero-c k a b c d e f g h =
+    let hc : c ≡ 0 = search tests in
+    let hd : d ≡ 0 = search tests in
+    rw (hc, hd) (zero-e k a b 0 0 e f g (and-r (eqb c 0 && eqb d 0) _ h))
+
+-- b to g are 0
+pub zero-b : (k a b c d e f g : ℕ) → zeroFromB (row k a b c d e f g) ≡ true → row k a 0 0 0 0 0 0 ≡ row k a b c d e f g
+zero-b k a b c d e f g h = let hb : b ≡ 0 = search tests in rw hb (zero-c k a 0 c d e f g (and-r (eqb b 0) _ h))
+
+-- ---- rows of names
+
+-- a name, a base or an id alone
 pub name-back : (k a b c d e f g : ℕ) → nameFits (row k a b c d e f g) ≡ true → row k a 0 0 0 0 0 0 ≡ row k a b c d e f g
 name-back k a b c d e f g h = zero-b k a b c d e f g (and-r (isName a) _ h)
 
+-- row 11
 pub top-back : (a b c d e f g : ℕ) → topFits (row 11 a b c d e f g) ≡ true → topRow ≡ row 11 a b c d e f g
-top-back a b c d e f g h = let ha : a ≡ 0 = search tests in ap (λ (n : ℕ). row 11 n 0 0 0 0 0 0) (sym ha) ∙ zero-b 11 a b c d e f g (and-r (eqb a 0) _ h)
+top-back a b c d e f g h = let ha : a ≡ 0 = search tests in rw ha (zero-b 11 0 b c d e f g (and-r (eqb a 0) _ h))
 
-pub id-back : (a b c d e f g : ℕ) (l : List Row) → nameFits (row 9 a b c d e f g) ≡ true → idRow (front (row 9 a b c d e f g ∷ l) .a) ≡ row 9 a b c d e f g
-id-back a b c d e f g l h = name-back 9 a b c d e f g h
-
+-- a url
 pub url-back : (a b c d e f g : ℕ) (l : List Row) → urlFits (row 10 a b c d e f g) ≡ true → urlRow (urlOf (row 10 a b c d e f g ∷ l)) ≡ row 10 a b c d e f g
 unfolding urlOf
 url-back a b c d e f g l h = rw (num-opt b) (zero-c 10 a b c d e f g (and-r (isName a) _ h))
 
+-- an association
 pub assoc-back : (a b c d e f g : ℕ) (l : List Row) → associationFits (row 14 a b c d e f g) ≡ true → associationRow (associationOf (row 14 a b c d e f g ∷ l)) ≡ row 14 a b c d e f g
 unfolding associationOf
-assoc-back a b c d e f g l h =
-    let hd : d ≡ 0 = search tests in
-    let he : e ≡ 0 = search tests in
-    let hf : f ≡ 0 = search tests in
-    let hg : g ≡ 0 = search tests in
-    rw (hd, he, hf, hg)
+assoc-back a b c d e f g l h = let hd : d ≡ 0 = search tests in rw hd (zero-e 14 a b c 0 e f g (and-r (isName a && isName b && isName c && eqb d 0) _ h))
 
 -- ---- marks, statements
 
+-- a mark of body order
 pub mark-back : (a b c d e f g : ℕ) (l : List Row) → orderFits (row 6 a b c d e f g) ≡ true → bodyElementRow (bodyElementOf (row 6 a b c d e f g ∷ l)) ≡ row 6 a b c d e f g
 unfolding bodyElementOf
 mark-back a b c d e f g l h =
     between (λ (n : ℕ). bodyElementRow (bodyElementOf (row 6 n b c d e f g ∷ l)) ≡ row 6 n 0 0 0 0 0 0) 3 0 a (refl, (refl, (refl, tt))) (omega arith) (suc-le-suc (leb-true a 2 (and-l (leb a 2) _ h))) ∙
     zero-b 6 a b c d e f g (and-r (leb a 2) _ h)
 
+-- a route, where an instance owes it
 pub route-back : (a b c d e f g : ℕ) (l : List Row) → a ≡ 3 → routeRow (routeOf (row 5 a b c d e f g ∷ l)) ≡ row 5 a b c d e f g
 unfolding routeOf
 route-back a b c d e f g l h = rw (h, num-opt f, num-opt g)
 
+-- a statement, of any of its five sorts
 pub stmt-back : (a b c d e f g : ℕ) (l : List Row) → statementFits (row 5 a b c d e f g) ≡ true → statementRow (statementOf (row 5 a b c d e f g ∷ l)) ≡ row 5 a b c d e f g
 unfolding statementOf routeOf
 stmt-back a b c d e f g l h = ⊎-elim (λ u. ⊎-elim id-stmt route-stmt (or-e _ _ u)) other-stmt (or-e _ (eqb a 4 && zeroFromC (row 5 a b c d e f g)) h)
@@ -108,6 +101,7 @@ stmt-back a b c d e f g l h = ⊎-elim (λ u. ⊎-elim id-stmt route-stmt (or-e 
 
 -- ---- nodes
 
+-- a node's row, by its origin
 pub node-back : (a b c d e f g : ℕ) (l : List Row) → nodeFits (row 2 a b c d e f g) ≡ true → nodeRow a (optional b) (originOf (row 2 a b c d e f g ∷ l)) ≡ row 2 a b c d e f g
 unfolding originOf
 node-back a b c d e f g l h =
@@ -131,13 +125,16 @@ node-back a b c d e f g l h =
 
 -- ---- values: what follows is as many ids as the row owes
 
+-- the ids that a row owes by its class and its count
 abbrev pub owes : ℕ → ℕ → ℕ
 owes f g = choose (eqb f 2) g 0
 
+-- a list of no length
 pub empty : {A : Type 0} (l : List A) → length l ≡ 0 → l ≡ []
 empty [] h = refl
 empty (x ∷ l) h = absurd (omega arith)
 
+-- the id rows in front
 abbrev pub idRows : List Row → List Row
 idRows l = map idRow (idsOf l)
 
@@ -146,6 +143,7 @@ module _ (e f g : ℕ) (l : List Row) (owed : length (idsOf l) ≡ owes f g) whe
   abbrev pub valueIs : (ℕ → ℕ → ℕ → Row) → Type 0
   valueIs r = (r e (class (choose (eqb f 2) (FieldData.Nodes (idsOf l)) (FieldData.Payload g))) (amount (choose (eqb f 2) (FieldData.Nodes (idsOf l)) (FieldData.Payload g))) ∷ dataRows (choose (eqb f 2) (FieldData.Nodes (idsOf l)) (FieldData.Payload g))) ≡ r e f g ∷ idRows l
 
+  -- with its ids it is the row of its value
   pub value-back : (r : ℕ → ℕ → ℕ → Row) → 1 ≤ f → f ≤ 2 → valueIs r
   value-back r h i = go (ℕ-discrete f 2)
     where
@@ -153,6 +151,7 @@ module _ (e f g : ℕ) (l : List Row) (owed : length (idsOf l) ≡ owes f g) whe
       go (yes j) = let n : length (idsOf l) ≡ g = owed ∙ rw (eq-eqb f 2 j) in rw (eq-eqb f 2 j, n) (ap (λ (m : ℕ). r e m g ∷ idRows l) (sym j))
       go (no j) = let n : f ≡ 1 = omega arith in let z : length (idsOf l) ≡ 0 = owed ∙ rw (ne-eqb f 2 j) in rw (ne-eqb f 2 j, empty (idsOf l) z) (ap (λ (m : ℕ). r e m g ∷ []) (sym n))
 
+-- a field, with its ids
 pub field-back : (a b c d e f g : ℕ) (l : List Row) → length (idsOf l) ≡ owes f g → fieldFits (row 3 a b c d e f g) ≡ true → fieldRows (fieldOf (row 3 a b c d e f g ∷ l)) ≡ row 3 a b c d e f g ∷ idRows l
 unfolding fieldOf
 field-back a b c d e f g l o h = ⊎-elim by-value by-is (or-e _ _ (and-r (isName a && leb d 1) _ h))
@@ -172,6 +171,7 @@ field-back a b c d e f g l o h = ⊎-elim by-value by-is (or-e _ _ (and-r (isNam
         let z : length (idsOf l) ≡ 0 = o ∙ rw hf in
         rw (hb, he, hf, hg, empty (idsOf l) z)
 
+-- an interface, with its ids
 pub iface-back : (a b c d e f g : ℕ) (l : List Row) → length (idsOf l) ≡ owes f g → interfaceFits (row 4 a b c d e f g) ≡ true → interfaceRows (interfaceOf (row 4 a b c d e f g ∷ l)) ≡ row 4 a b c d e f g ∷ idRows l
 unfolding interfaceOf
 iface-back a b c d e f g l o h = ⊎-elim by-value by-none (or-e _ _ (and-r (leb a 3 && leb b 41 && isName c) _ h))

@@ -1,24 +1,23 @@
 -- Rows that fit are cut into what they were printed from: laws for one row, for rows that are owed, and for each of a list.
 use mathlib.Core.Path.{_≡_, refl, sym, ap, subst, _∙_}
 use mathlib.Core.List.{List, [], _∷_, _++_, map, append-assoc}
-use mathlib.Core.Logic.{_⊎_, inl, inr, ⊎-elim}
-use mathlib.Core.Bool.{Bool, true, false, _&&_, _||_}
-use Prim.Native.Nat.{ℕ, zero, suc, _-_, _≤_, _<_}
+use mathlib.Core.Logic.{_⊎_, inl, ⊎-elim}
+use mathlib.Core.Bool.{Bool, true, false, _||_}
+use Prim.Native.Nat.{ℕ, zero, suc, _≤_, _<_}
 use native.Mathlib.Omega.{arith}
 use native.Mathlib.Decide.{ℕ-discrete, decLt}
-use lib.ListN.{length, length-append}
-use lib.Dec.{ltb, leb, eqb}
-use borrow.Author.Tests.{eqb-true, lt-ltb, leb-true, ltb-true}
+use lib.ListN.{length}
+use lib.Dec.{eqb}
+use borrow.Author.Tests.{eqb-true}
 use Rattle.sheet.specs.declared.row.Row.{Row}
 use Rattle.sheet.specs.declared.grammar.Form.{Form}
 use Rattle.sheet.specs.declared.grammar.State.{State}
 use Rattle.sheet.specs.declared.grammar.Role.{Role}
 use Rattle.sheet.specs.declared.grammar.Role.the-variants.{Starts, Opens, Inner, Files, Owed, Never}
-use Rattle.sheet.specs.declared.grammar.Next.{Next}
 use Rattle.sheet.specs.declared.grammar.Next.the-variants.{Go, No}
 use Rattle.ast.specs.Choice.{choose}
-use Rattle.sheet.specs.Grammar.{shapeFits, roleOf, standsIn, comesIn, afterInner, byRole, moves, allowed, isLibrary, goIf, fits, opened, hasEnded, lessId, lessRoute, lessAssociation}
-use Rattle.sheet.specs.Print.{row, rowsOfEach, idRow}
+use Rattle.sheet.specs.Grammar.{shapeFits, roleOf, standsIn, comesIn, afterInner, byRole, moves, allowed, isLibrary, goIf, fits, hasEnded}
+use Rattle.sheet.specs.Print.{row, rowsOfEach}
 use Rattle.sheet.proofs.Numbers.{between, shape-none}
 use Rattle.roundtrip.specs.Each.{Each}
 use Rattle.roundtrip.proofs.Tests.{never, or-e, tests}
@@ -99,6 +98,7 @@ module _ {A : Type 0} (form : Form) (k : ℕ) (print : A → List Row) (G : A �
   none-cut : (R : List Row) (p la : ℕ) → I p la R → Accepts form (bare p la) R → Begins (λ j. j ≡ k → ⊥) R → Cuts form k print G I R
   none-cut R p la w t m = record { items = []; left = R; part = p; last = la; is = refl; given = tt; holds = w; goes = t; ahead = m }
 
+  -- by the number of rows
   cuts-in : (n : ℕ) (R : List Row) → length R ≤ n → (p la : ℕ) → I p la R → Accepts form (bare p la) R → Cuts form k print G I R
   cuts-in zero [] h p la w t = none-cut [] p la w t tt
   cuts-in (suc n) [] h p la w t = none-cut [] p la w t tt
@@ -133,6 +133,7 @@ module _ {A : Type 0} (form : Form) (k : ℕ) (print : A → List Row) (G : A �
 abbrev pub Past : ℕ → List Row → ℕ → Type 0
 Past n R j = (j < n) ⊎ Begins (λ i. i ≡ j → ⊥) R
 
+-- below a number all is past
 pub beyond : (n : ℕ) (R : List Row) (J : List ℕ) → Each (λ j. j < n) J → Each (Past n R) J
 beyond n R [] h = tt
 beyond n R (j ∷ J) h = (inl (h .0), beyond n R J (h .1))
@@ -151,6 +152,7 @@ Outside k J p la R = (1 ≤ p) × (p ≤ k) × Outer R × Each (Past p R) J
 
 -- ---- kinds by role
 
+-- the kinds of each role
 abbrev kindsOf : Role → List ℕ
 kindsOf Starts = 1 ∷ []
 kindsOf Opens = 2 ∷ 7 ∷ 8 ∷ 11 ∷ []
@@ -159,10 +161,12 @@ kindsOf Files = 12 ∷ []
 kindsOf Owed = 9 ∷ 14 ∷ []
 kindsOf Never = 0 ∷ []
 
+-- a kind is among some
 abbrev memberb : ℕ → List ℕ → Bool
 memberb k [] = false
 memberb k (j ∷ K) = eqb k j || memberb k K
 
+-- what holds of each holds of one among them
 by-member : (P : ℕ → Type 0) (K : List ℕ) → Each P K → (k : ℕ) → memberb k K ≡ true → P k
 by-member P [] p k h = never h
 by-member P (j ∷ K) p k h = ⊎-elim (λ (e : eqb k j ≡ true). rw (eqb-true k j e) (p .0)) (λ e. by-member P K (p .1) k e) (or-e (eqb k j) (memberb k K) h)
@@ -185,6 +189,7 @@ NotIn q j = (r : Row) → r .kind ≡ j → standsIn q r ≡ false
 abbrev pub Closed : ℕ → ℕ → List Row → ℕ → Type 0
 Closed q la R j = (13 ≤ la) ⊎ (Past la R j ⊎ NotIn q j)
 
+-- where no row inside the part can come next, none does
 pub outer : (form : Form) (q la : ℕ) (R : List Row) → Each (Closed q la R) (kindsOf Inner) → Accepts form (bare q la) R → Outer R
 outer form q la [] c t = tt
 outer form q la (r ∷ l) c t = go

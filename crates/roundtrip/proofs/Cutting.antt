@@ -1,37 +1,35 @@
 -- A sheet that fits is cut into a document: each element, and each list of elements.
-use mathlib.Core.Path.{_≡_, refl, sym, ap, ap₂, subst, _∙_}
+use mathlib.Core.Path.{_≡_, refl, sym, ap, ap₂, _∙_}
 use mathlib.Core.List.{List, [], _∷_, _++_, map, append-assoc, append-nil}
 use mathlib.Core.Option.{Option, none, some}
-use mathlib.Core.Logic.{_⊎_, inl, inr, ⊎-elim}
+use mathlib.Core.Logic.{inl, inr, ⊎-elim}
 use mathlib.Core.Bool.{Bool, true, false, _&&_}
-use Prim.Native.Nat.{ℕ, zero, suc, _-_, _≤_, _<_}
+use Prim.Native.Nat.{ℕ, suc, _-_, _≤_, _<_}
 use native.Mathlib.Omega.{arith}
 use native.Mathlib.Decide.{ℕ-discrete}
 use lib.ListN.{length, length-append}
 use lib.Dec.{ltb, leb, eqb}
-use borrow.Author.Tests.{eqb-true, lt-ltb, leb-true, ltb-true}
+use borrow.Author.Tests.{eqb-true, lt-ltb, leb-true}
 use Rattle.sheet.specs.declared.row.Row.{Row}
 use Rattle.sheet.specs.declared.grammar.Form.{Form}
 use Rattle.sheet.specs.declared.grammar.State.{State}
 use Rattle.sheet.specs.declared.grammar.Role.{Role}
 use Rattle.sheet.specs.declared.grammar.Role.the-variants.{Starts, Opens, Inner, Files, Owed, Never}
-use Rattle.sheet.specs.declared.grammar.Next.{Next}
-use Rattle.sheet.specs.declared.grammar.Next.the-variants.{Go, No}
-use Rattle.ast.specs.Ast.{FieldData, FieldValue, FieldBinding, Field, InterfaceDecl, Route, Statement, NodeOrigin, BodyElement, Association, ProtoInstance, Node, ProtoDecl, Url, ExternProtoDecl, Document, File}
-use Rattle.sheet.specs.Grammar.{isName, shapeFits, roleOf, standsIn, comesIn, afterInner, byRole, moves, isLibrary, goIf, opened, hasEnded, lessId, lessRoute, lessAssociation}
+use Rattle.ast.specs.Ast.{InterfaceDecl, Route, Association, ProtoInstance, Node, ProtoDecl, ExternProtoDecl, Document, File}
+use Rattle.sheet.specs.Grammar.{isName, shapeFits, roleOf, standsIn, comesIn, afterInner, moves, isLibrary, goIf, opened}
 use Rattle.sheet.specs.Parse.{optional, idsOf, fieldOf, interfaceOf, routeOf, statementOf, bodyElementOf, associationOf, urlOf, originOf}
-use Rattle.sheet.specs.Print.{row, rowsOfEach, idRow, fieldRows, interfaceRows, routeRow, statementRow, bodyElementRow, associationRow, instanceRows, anyInstanceRows, nodeRow, nodeRows, protoRows, urlRow, externProtoRows, topRow, documentRows, fileRows, libraryRows}
+use Rattle.sheet.specs.Print.{row, rowsOfEach, idRow, fieldRows, interfaceRows, routeRow, statementRow, bodyElementRow, associationRow, instanceRows, anyInstanceRows, nodeRows, protoRows, urlRow, externProtoRows, topRow, documentRows, fileRows, libraryRows}
 use Rattle.roundtrip.specs.Each.{Each}
 use Rattle.roundtrip.specs.Ranges.{IsPresent}
 use Rattle.roundtrip.proofs.Tests.{never, and-l, and-r, tests}
-use Rattle.roundtrip.proofs.Back.{owes, empty, idRows, id-back, field-back, iface-back, stmt-back, route-back, mark-back, node-back, assoc-back, url-back, name-back, top-back, zero-b, zero-e}
+use Rattle.roundtrip.proofs.Back.{owes, empty, field-back, iface-back, stmt-back, route-back, mark-back, node-back, assoc-back, url-back, name-back, top-back, zero-b, zero-e}
 use Rattle.roundtrip.proofs.Accepts.{at, bare, no-go, Accepts}
-use Rattle.roundtrip.proofs.Steps.{Sure, all, routeAsks, StatementGiven}
+use Rattle.roundtrip.proofs.Steps.{Sure, routeAsks, StatementGiven}
 use Rattle.roundtrip.proofs.Walk.{InstanceGiven, NodeGiven, ProtoGiven, ExternProtoGiven, DocumentGiven, FileGiven}
 use Rattle.roundtrip.proofs.Present.{present, route-given, statement-given}
 use Rattle.roundtrip.proofs.Scan.{Begins, one, rows-map}
 use Rattle.roundtrip.proofs.Parsed.{ids-parsed}
-use Rattle.roundtrip.proofs.Cuts.{as-kind, made, moved, by-role, tested, Lessens, cut-owed, Cut, Cuts, cuts, Past, beyond, Inside, Outer, Outside, kind-by-role, Closed, outer}
+use Rattle.roundtrip.proofs.Cuts.{as-kind, moved, by-role, tested, Lessens, cut-owed, Cut, cuts, Past, beyond, Inside, Outer, Outside, kind-by-role, outer}
 
 module _ (form : Form) where
   -- ---- rows that are owed
@@ -40,6 +38,7 @@ module _ (form : Form) where
   owed : (s u : State) (r : Row) (l : List Row) (b : Bool) → moves (isLibrary form) s r ≡ goIf b u → Accepts form s (r ∷ l) → (shapeFits r ≡ true) × ((b ≡ true) × Accepts form u l)
   owed s u r l b h k = let x = moved form s r l k in (x .0, tested form b u l (x .1 .0, sym h ∙ x .1 .1, x .1 .2))
 
+  -- an id that is owed
   id-owed : (p la ro ass : ℕ) → Lessens form (λ n. at p la n ro ass) idRow (λ i. Sure)
   unfolding moves shapeFits
   id-owed p la ro ass n r l k =
@@ -48,9 +47,11 @@ module _ (form : Form) where
       let m = as-kind r 9 (eqb-true (r .kind) 9 (w .1 .0)) in
       (r .a, m ∙ sym (name-back 9 (r .a) (r .b) (r .c) (r .d) (r .e) (r .f) (r .g) (rw m at (w .0))), tt, w .1 .1)
 
+  -- the ids that are owed
   cut-ids : (p la ro ass n : ℕ) (R : List Row) → Accepts form (at p la n ro ass) R → (xs : List ℕ) × (l : List Row) × (R ≡ map idRow xs ++ l) × (length xs ≡ n) × Each (λ i. Sure) xs × Accepts form (at p la 0 ro ass) l
   cut-ids p la ro ass = cut-owed form (λ n. at p la n ro ass) idRow (λ i. Sure) (λ n h. let z : suc n ≡ 0 = search tests in omega arith) (id-owed p la ro ass)
 
+  -- an instance's route
   route-owed : (ass : ℕ) → Lessens form (λ n. at 2 13 0 n ass) routeRow (λ x. routeAsks x .given)
   unfolding moves
   route-owed ass n r l k =
@@ -59,6 +60,7 @@ module _ (form : Form) where
       let m = as-kind r 5 (eqb-true (r .kind) 5 (and-l _ (eqb (r .a) 3) (w .1 .0))) in
       (routeOf (r ∷ []), m ∙ sym (route-back (r .a) (r .b) (r .c) (r .d) (r .e) (r .f) (r .g) [] (eqb-true (r .a) 3 (and-r (eqb (r .kind) 5) _ (w .1 .0)))) ∙ ap (λ (q : Row). routeRow (routeOf (q ∷ []))) (sym m), route-given (r ∷ []), w .1 .1)
 
+  -- an instance's association
   association-owed : Lessens form (λ n. at 2 13 0 0 n) associationRow (λ x. Sure)
   unfolding moves shapeFits
   association-owed n r l k =
@@ -104,11 +106,13 @@ module _ (form : Form) where
           goes = z .5;
         }
 
+    -- the whole list
     section : (la : ℕ) (R : List Row) → la ≤ k → Each (Past la R) J → Accepts form (bare q la) R → Section q k J print G R
     section la R h j t =
         let c = cuts form k print G (Inside q k J) element-cut R q la (refl, h, j) t in
         record { items = c .items; left = c .left; last = c .last; is = c .is; given = c .given; most = c .holds .1; past = (inr (c .ahead), c .holds .2); goes = rw (c .holds .0) at (c .goes) }
 
+  -- ids alone are read back
   ids-alone : (xs : List ℕ) → idsOf (map idRow xs) ≡ xs
   ids-alone xs = rw append-nil at (ids-parsed xs [] tt)
 
@@ -116,30 +120,35 @@ module _ (form : Form) where
   alone : (r s : Row) (xs : List ℕ) → length xs ≡ 0 → r ≡ s → _≡_ {A = List Row} (r ∷ []) (s ∷ map idRow xs)
   alone r s xs n e = rw (empty xs n) (ap (λ (x : Row). x ∷ []) e)
 
+  -- the fields of a node
   fields-section : (la : ℕ) (R : List Row) → la ≤ 3 → Sure → Accepts form (bare 2 la) R → Section 2 3 [] fieldRows (λ x. Sure) R
   unfolding roleOf shapeFits
   fields-section =
       section 2 3 [] fieldRows (λ x. Sure) owes refl tt (λ la a b c d e f g. refl)
       (λ a b c d e f g xs h n. (fieldOf (row 3 a b c d e f g ∷ map idRow xs), field-back a b c d e f g (map idRow xs) (ap length (ids-alone xs) ∙ n) h ∙ ap (λ (ys : List ℕ). row 3 a b c d e f g ∷ map idRow ys) (ids-alone xs), tt))
 
+  -- the interfaces of a node, a proto or an extern
   interfaces-section : (q : ℕ) (J : List ℕ) → Each (λ j. j < 4) J → (la : ℕ) (R : List Row) → la ≤ 4 → Each (Past la R) J → Accepts form (bare q la) R → Section q 4 J interfaceRows (λ x. IsPresent (x .is)) R
   unfolding roleOf shapeFits interfaceOf
   interfaces-section q J s =
       section q 4 J interfaceRows (λ x. IsPresent (x .is)) owes refl s (λ la a b c d e f g. refl)
       (λ a b c d e f g xs h n. (interfaceOf (row 4 a b c d e f g ∷ map idRow xs), iface-back a b c d e f g (map idRow xs) (ap length (ids-alone xs) ∙ n) h ∙ ap (λ (ys : List ℕ). row 4 a b c d e f g ∷ map idRow ys) (ids-alone xs), present d))
 
+  -- the statements of a node, a body or the top
   statements-section : (q : ℕ) (J : List ℕ) → Each (λ j. j < 5) J → (la : ℕ) (R : List Row) → la ≤ 5 → Each (Past la R) J → Accepts form (bare q la) R → Section q 5 J (one statementRow) StatementGiven R
   unfolding roleOf shapeFits
   statements-section q J s =
       section q 5 J (one statementRow) StatementGiven (λ f g. 0) refl s (λ la a b c d e f g. refl)
       (λ a b c d e f g xs h n. let r = row 5 a b c d e f g in (statementOf (r ∷ []), alone (statementRow (statementOf (r ∷ []))) r xs n (stmt-back a b c d e f g [] h), statement-given (r ∷ [])))
 
+  -- the body order of a node
   order-section : (la : ℕ) (R : List Row) → la ≤ 6 → Each (Past la R) (5 ∷ 4 ∷ 3 ∷ []) → Accepts form (bare 2 la) R → Section 2 6 (5 ∷ 4 ∷ 3 ∷ []) (one bodyElementRow) (λ x. Sure) R
   unfolding roleOf shapeFits
   order-section =
       section 2 6 (5 ∷ 4 ∷ 3 ∷ []) (one bodyElementRow) (λ x. Sure) (λ f g. 0) refl (omega arith) (λ la a b c d e f g. refl)
       (λ a b c d e f g xs h n. let r = row 6 a b c d e f g in (bodyElementOf (r ∷ []), alone (bodyElementRow (bodyElementOf (r ∷ []))) r xs n (mark-back a b c d e f g [] h), tt))
 
+  -- the urls of an extern
   urls-section : (la : ℕ) (R : List Row) → la ≤ 10 → Each (Past la R) (4 ∷ []) → Accepts form (bare 8 la) R → Section 8 10 (4 ∷ []) (one urlRow) (λ x. IsPresent (x .fragment)) R
   unfolding roleOf shapeFits urlOf
   urls-section =
@@ -203,6 +212,7 @@ module _ (form : Form) where
       let x = by-role form p la (row k a b c d e f g) l Opens role t in
       (x .0, tested form (leb 1 p && leb p k && ltb p 11) (opened k) l (x .1) .1)
 
+  -- a node: its row, then its five lists
   node-cut : (p la a b c d e f g : ℕ) (l : List Row) → Outside 2 [] p la (row 2 a b c d e f g ∷ l) → Accepts form (bare p la) (row 2 a b c d e f g ∷ l) → Cut form nodeRows NodeGiven (Outside 2 []) (row 2 a b c d e f g ∷ l)
   unfolding roleOf shapeFits
   node-cut p la a b c d e f g l w t =
@@ -228,6 +238,7 @@ module _ (form : Form) where
   two-lists print is xs l m left h i =
       h ∙ ap (_++_ (rowsOfEach interfaceRows is)) (i ∙ ap (λ (R : List Row). R ++ left) (sym (rows-map print xs))) ∙ sym (append-assoc (rowsOfEach interfaceRows is) (map print xs) left)
 
+  -- a proto
   proto-cut : (p la a b c d e f g : ℕ) (l : List Row) → Outside 7 (2 ∷ []) p la (row 7 a b c d e f g ∷ l) → Accepts form (bare p la) (row 7 a b c d e f g ∷ l) → Cut form protoRows ProtoGiven (Outside 7 (2 ∷ [])) (row 7 a b c d e f g ∷ l)
   unfolding roleOf shapeFits
   proto-cut p la a b c d e f g l w t =
@@ -241,6 +252,7 @@ module _ (form : Form) where
       (omega arith) (I .given, S .given)
       (outer form 7 (S .last) (S .left) (inr (inr (λ q z. rw z)), (inr (inl (S .past .1 .0)), (inr (inl (S .past .0)), (inr (inr (λ q z. rw z)), (inr (inr (λ q z. rw z)), (inr (inr (λ q z. rw z)), tt)))))) (S .goes)) (S .goes)
 
+  -- an extern
   extern-cut : (p la a b c d e f g : ℕ) (l : List Row) → Outside 8 (7 ∷ 2 ∷ []) p la (row 8 a b c d e f g ∷ l) → Accepts form (bare p la) (row 8 a b c d e f g ∷ l) → Cut form externProtoRows ExternProtoGiven (Outside 8 (7 ∷ 2 ∷ [])) (row 8 a b c d e f g ∷ l)
   unfolding roleOf shapeFits
   extern-cut p la a b c d e f g l w t =
@@ -332,6 +344,7 @@ module _ (form : Form) where
   abbrev BeforeFile : ℕ → ℕ → List Row → Type 0
   BeforeFile p la R = (11 ≤ p) × Outer R
 
+  -- a file: its row, then a document
   file-cut : (p la a b c d e f g : ℕ) (l : List Row) → BeforeFile p la (row 12 a b c d e f g ∷ l) → Accepts form (bare p la) (row 12 a b c d e f g ∷ l) → Cut form fileRows FileGiven BeforeFile (row 12 a b c d e f g ∷ l)
   unfolding roleOf shapeFits
   file-cut p la a b c d e f g l w t =
@@ -347,12 +360,14 @@ module _ (form : Form) where
   at-end p la [] h o f t = refl
   at-end p la (r ∷ l) h o f t = roles p la r l t (λ e k s u. absurd (omega arith)) (λ i j k m s u. absurd (omega arith)) (λ k. absurd (o k)) (λ b k e. absurd (f b e))
 
+  -- a root sheet or an expanded document that fits is the print of a document
   pub document-whole : isLibrary form ≡ false → (R : List Row) → Accepts form (bare 0 0) R → (D : Document) × (R ≡ documentRows D) × DocumentGiven D
   document-whole f R t =
       let D = document-cut 0 R t in
       let e = at-end 11 (D .2) (D .1) (omega arith) (D .5) (λ b. never (sym f ∙ b)) (D .6) in
       (D .0, D .3 ∙ ap (_++_ (documentRows (D .0))) e ∙ append-nil (documentRows (D .0)), D .4)
 
+  -- a library that fits is the print of files
   pub library-whole : (R : List Row) → Accepts form (bare 12 0) R → (L : List File) × (R ≡ libraryRows L) × Each FileGiven L
   unfolding libraryRows
   library-whole R t =

@@ -1,9 +1,9 @@
 -- What the check asks of rows, one after the other: laws for one row, for rows that follow others, and for each of a list.
-use mathlib.Core.Path.{_≡_, refl, sym, ap, subst, _∙_}
+use mathlib.Core.Path.{_≡_, refl, sym, subst, _∙_}
 use mathlib.Core.List.{List, [], _∷_, _++_, map, append-assoc}
 use mathlib.Core.Bool.{Bool, true, false, _&&_}
 use mathlib.Core.Logic.{_↔_}
-use Prim.Native.Nat.{ℕ, zero, suc, _≤_}
+use Prim.Native.Nat.{ℕ, suc, _≤_}
 use native.Mathlib.Omega.{arith}
 use lib.ListN.{length}
 use Rattle.sheet.specs.declared.row.Row.{Row}
@@ -12,10 +12,8 @@ use Rattle.sheet.specs.declared.grammar.Form.the-variants.{Root, Library, Expan
 use Rattle.sheet.specs.declared.grammar.State.{State}
 use Rattle.sheet.specs.declared.grammar.Next.{Next}
 use Rattle.sheet.specs.declared.grammar.Next.the-variants.{Go, No}
-use Rattle.sheet.specs.declared.Checked.{Checked}
-use Rattle.sheet.specs.declared.Checked.the-variants.{Fits, Bad}
 use Rattle.ast.specs.Choice.{choose}
-use Rattle.sheet.specs.Grammar.{shapeFits, staysExpanded, allowed, goIf, fits, run, goOn, hasEnded}
+use Rattle.sheet.specs.Grammar.{shapeFits, staysExpanded, allowed, goIf, fits}
 use Rattle.sheet.specs.Print.{rowsOfEach}
 use Rattle.roundtrip.specs.Each.{Each}
 use Rattle.roundtrip.proofs.Tests.{never, and-r}
@@ -35,20 +33,25 @@ pub record Asks : Type 1 where
   pub range : Type 0
   pub kept : Type 0
 
+-- nothing is asked
 abbrev pub nothing : Asks
 nothing = record { given = Unit {0}; range = Unit {0}; kept = Unit {0} }
 
+-- of rows and of rows after them
 abbrev pub both : Asks → Asks → Asks
 both a b = record { given = a .given × b .given; range = a .range × b .range; kept = a .kept × b .kept }
 
+-- of the rows of each of a list
 abbrev pub each : {A : Type 0} → (A → Asks) → List A → Asks
 each f l = record { given = Each (λ x. f x .given) l; range = Each (λ x. f x .range) l; kept = Each (λ x. f x .kept) l }
 
+-- what follows from what is asked of an expanded document alone
 only-map : (form : Form) {A B : Type 0} → (A → B) → Only form A → Only form B
 only-map Root f x = tt
 only-map Library f x = tt
 only-map Expanded f x = f x
 
+-- and two such together
 only-both : (form : Form) (A B : Type 0) → Only form A → Only form B → Only form (A × B)
 only-both Root A B x y = tt
 only-both Library A B x y = tt
@@ -94,17 +97,20 @@ thrice true true false t x h i j = let z : _≡_ {A = ℕ} 0 1 = cc in absurd (o
 thrice true false C t x h i j = let z : _≡_ {A = ℕ} 0 1 = cc in absurd (omega arith)
 thrice false B C t x h i j = let z : _≡_ {A = ℕ} 0 1 = cc in absurd (omega arith)
 
+-- where the row is let through, all three did
 taken : (A B C : Bool) (t u : State) (x : Next) → x ≡ choose A (choose B (goIf C t) No) No → x ≡ Go u → (A ≡ true) × ((B && C) ≡ true) × (t ≡ u)
 taken true true true t u x h k = (refl, refl, go-inj (sym h ∙ k))
 taken true true false t u x h k = no-go (sym h ∙ k)
 taken true false C t u x h k = no-go (sym h ∙ k)
 taken false B C t u x h k = no-go (sym h ∙ k)
 
+-- the form lets a row in that stays in an expanded document
 let-in : (form : Form) (s : State) (r : Row) {E : Type 0} → (E → staysExpanded s r ≡ true) → Only form E → allowed form s r ≡ true
 let-in Root s r f x = refl
 let-in Library s r f x = refl
 let-in Expanded s r f x = f x
 
+-- and only such a row
 let-on : (form : Form) (s : State) (r : Row) {E : Type 0} → (staysExpanded s r ≡ true → E) → allowed form s r ≡ true → Only form E
 let-on Root s r f x = tt
 let-on Library s r f x = tt
@@ -118,6 +124,7 @@ Keeps s r a = (a .kept → staysExpanded s r ≡ true) × (a .given → staysExp
 abbrev pub GoesOn : Form → State → State → Row → Bool → Type 0
 GoesOn form s t r C = fits form s r ≡ choose (allowed form s r) (choose (shapeFits r) (goIf C t) No) No
 
+-- so it is let through exactly if it is as asked
 pub through : (form : Form) (s t : State) (r : Row) (C : Bool) (a : Asks) → GoesOn form s t r C → (a .range → (shapeFits r && C) ≡ true) → (a .given → (shapeFits r && C) ≡ true → a .range) → Keeps s r a → Through form s t a (r ∷ [])
 through form s t r C a h f g e =
     record {
@@ -149,9 +156,11 @@ pub record Span : Type 0 where
   pub hi : ℕ
   pub top : ℕ
 
+-- a span by its numbers
 abbrev pub span : ℕ → ℕ → ℕ → Span
 span a b c = record { lo = a; hi = b; top = c }
 
+-- a part and a last kind within a span
 pub record Within (S : Span) (p la : ℕ) : Type 0 where
   pub from : S .lo ≤ p
   pub to : p ≤ S .hi

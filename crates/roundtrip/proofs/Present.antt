@@ -1,22 +1,18 @@
 -- What the parse gives of itself: what is present is not none.
-use mathlib.Core.Path.{_≡_, refl}
-use mathlib.Core.List.{List, [], _∷_, map}
-use mathlib.Core.Option.{Option, none, some}
+use mathlib.Core.Path.{_≡_}
+use mathlib.Core.List.{List, [], _∷_}
 use Prim.Native.Nat.{ℕ, zero, suc}
 use native.Mathlib.Decide.{ℕ-discrete}
 use lib.ListN.{getD}
 use borrow.Author.Tests.{eq-eqb, ne-eqb}
 use Rattle.sheet.specs.declared.row.Row.{Row}
-use Rattle.sheet.specs.declared.part.Part.the-variants.{Files, Nodes, Protos, Externs, Tops, Fields, Interfaces, Statements, BodyOrder, Instances, Ids, Routes, Associations, Urls}
-use Rattle.ast.specs.Choice.{first}
-use Rattle.ast.specs.Ast.{ProtoInstance, Statement}
-use Rattle.sheet.specs.Rows.{front, rest}
+use Rattle.ast.specs.Ast.{Statement}
+use Rattle.sheet.specs.Rows.{front}
 use Rattle.sheet.specs.Grammar.{none#}
-use Rattle.sheet.specs.Parse.{elements, optional, routeOf, interfaceOf, statementOf, instanceOf, interfacesOf, statementsOf, nodeOf, protoOf, urlOf, externProtoOf, afterTop, documentOf, fileOf, filesOf}
+use Rattle.sheet.specs.Parse.{optional, routeOf, statementOf}
 use Rattle.roundtrip.specs.Each.{Each}
 use Rattle.roundtrip.specs.Ranges.{IsPresent}
 use Rattle.roundtrip.proofs.Steps.{routeAsks, StatementGiven}
-use Rattle.roundtrip.proofs.Walk.{InstanceGiven, InterfacesGiven, NodeGiven, ProtoGiven, ExternProtoGiven, DocumentGiven, FileGiven}
 
 -- what holds of each of a table holds of an entry
 each-entry : {A : Type 0} (P : A → Type 0) (l : List A) (d : A) → Each P l → P d → (n : ℕ) → P (getD l n d)
@@ -24,6 +20,7 @@ each-entry P [] d h i n = i
 each-entry P (x ∷ l) d h i zero = h .0
 each-entry P (x ∷ l) d h i (suc n) = each-entry P l d (h .1) i n
 
+-- a number that may be none, read, is not none
 pub present : (n : ℕ) → IsPresent (optional n)
 present n = go (ℕ-discrete n none#)
   where
@@ -31,10 +28,12 @@ present n = go (ℕ-discrete n none#)
     go (yes h) = rw (eq-eqb n none# h) tt
     go (no h) = rw (ne-eqb n none# h) h
 
+-- so in a route
 pub route-given : (l : List Row) → routeAsks (routeOf l) .given
 unfolding routeOf
 route-given l = (present (front l .f), present (front l .g))
 
+-- and in a statement
 pub statement-given : (l : List Row) → StatementGiven (statementOf l)
 unfolding statementOf
 statement-given l = each-entry StatementGiven (Statement.Node (front l .b) ∷ Statement.Proto (front l .b) ∷ Statement.ExternProto (front l .b) ∷ Statement.Route (routeOf l) ∷ []) (Statement.Other (front l .b)) (tt, (tt, (tt, (route-given l, tt)))) tt (front l .a)

@@ -1,5 +1,5 @@
 -- The scan of a part over printed rows: it finds the elements of a printed list, passes over the lists before it and ends at the one after it.
-use mathlib.Core.Path.{_≡_, refl, sym, ap, ap₂, _∙_}
+use mathlib.Core.Path.{_≡_, refl, ap, ap₂, _∙_}
 use mathlib.Core.List.{List, [], _∷_, _++_, map, append-assoc}
 use mathlib.Core.Bool.{Bool, true, false, not, _&&_}
 use Prim.Native.Nat.{ℕ}
@@ -28,10 +28,12 @@ abbrev pub Heads : (ℕ → Type 0) → (ℕ → Type 0) → List Row → Type 0
 Heads P Q [] = ⊥
 Heads P Q (r ∷ l) = P (r .kind) × Kinds Q l
 
+-- of rows after rows
 pub kinds-append : (P : ℕ → Type 0) (Q R : List Row) → Kinds P Q → Kinds P R → Kinds P (Q ++ R)
 kinds-append P [] R h i = i
 kinds-append P (r ∷ Q) R h i = (h .0, kinds-append P Q R (h .1) i)
 
+-- in other words
 pub begins-as : (P Q : ℕ → Type 0) → ((k : ℕ) → P k → Q k) → (l : List Row) → Begins P l → Begins Q l
 begins-as P Q f [] h = tt
 begins-as P Q f (r ∷ l) h = f (r .kind) h
@@ -40,12 +42,15 @@ begins-as P Q f (r ∷ l) h = f (r .kind) h
 abbrev pub Passed : Part → ℕ → Type 0
 Passed t k = (eqb k (kindOf t) ≡ false) × (passes t k ≡ true)
 
+-- ends at it
 abbrev pub Ends : Part → ℕ → Type 0
 Ends t k = (eqb k (kindOf t) ≡ false) × (passes t k ≡ false)
 
+-- each of several scans ends at it
 abbrev pub EndsAll : List Part → ℕ → Type 0
 EndsAll ts k = Each (λ t. Ends t k) ts
 
+-- where none stands open, anything may follow
 pub nothing-open : (R : List Row) → Begins (EndsAll []) R
 nothing-open [] = tt
 nothing-open (r ∷ R) = tt
@@ -55,15 +60,18 @@ abbrev endsb : List Part → ℕ → Bool
 endsb [] k = true
 endsb (t ∷ ts) k = not (eqb k (kindOf t)) && not (passes t k) && endsb ts k
 
+-- which tells it of each
 pub ends-all : (ts : List Part) (k : ℕ) → endsb ts k ≡ true → EndsAll ts k
 ends-all [] k h = tt
 ends-all (t ∷ ts) k h =
     ((not-true (eqb k (kindOf t)) (and-l _ (not (passes t k)) (and-l _ (endsb ts k) h)), not-true (passes t k) (and-r (not (eqb k (kindOf t))) _ (and-l _ (endsb ts k) h))), ends-all ts k (and-r (not (eqb k (kindOf t)) && not (passes t k)) (endsb ts k) h))
 
+-- a scan passes over each of several kinds, by one test
 abbrev passesb : Part → List ℕ → Bool
 passesb t [] = true
 passesb t (k ∷ K) = not (eqb k (kindOf t)) && passes t k && passesb t K
 
+-- which tells it of each
 pub pass-all : (t : Part) (K : List ℕ) → passesb t K ≡ true → Each (Passed t) K
 pass-all t [] h = tt
 pass-all t (k ∷ K) h =
@@ -71,16 +79,19 @@ pass-all t (k ∷ K) h =
 
 -- ---- one step of the scan, or many
 
+-- rows that it passes over
 pub pass-over : (t : Part) (Q l : List Row) → Kinds (Passed t) Q → elements t (Q ++ l) ≡ elements t l
 unfolding elements
 pass-over t [] l h = refl
 pass-over t (r ∷ Q) l h = rw (h .0 .0, h .0 .1) (pass-over t Q l (h .1))
 
+-- a row at which it ends
 pub ended : (t : Part) (l : List Row) → Begins (Ends t) l → elements t l ≡ []
 unfolding elements
 ended t [] h = refl
 ended t (r ∷ l) h = rw (h .0, h .1)
 
+-- an element, with its other rows
 element : (t : Part) (R l : List Row) → Heads (λ k. eqb k (kindOf t) ≡ true) (Passed t) R → elements t (R ++ l) ≡ (R ++ l) ∷ elements t l
 unfolding elements
 element t [] l h = absurd h
@@ -135,6 +146,7 @@ module _ {A : Type 0} {t : Part} {K : List ℕ} {ts : List Part} {print : A → 
 abbrev pub one : {A : Type 0} → (A → Row) → A → List Row
 one print x = print x ∷ []
 
+-- written as a list of elements
 pub rows-map : {A : Type 0} (print : A → Row) (xs : List A) → map print xs ≡ rowsOfEach (one print) xs
 rows-map print [] = refl
 rows-map print (x ∷ xs) = ap (_∷_ (print x)) (rows-map print xs)

@@ -1,13 +1,13 @@
 -- The check of a whole printed sheet.
-use mathlib.Core.Path.{_≡_, refl, sym, ap, _∙_}
+use mathlib.Core.Path.{_≡_, sym, ap, _∙_}
 use mathlib.Core.List.{List, [], append-nil}
 use mathlib.Core.Bool.{true, false}
-use Prim.Native.Nat.{ℕ, _≤_}
+use Prim.Native.Nat.{_≤_}
 use native.Mathlib.Omega.{arith}
 use borrow.Author.Tests.{le-leb}
 use Rattle.sheet.specs.declared.row.Row.{Row}
 use Rattle.sheet.specs.declared.grammar.Form.{Form}
-use Rattle.sheet.specs.declared.grammar.Form.the-variants.{Root, Library, Expanded}
+use Rattle.sheet.specs.declared.grammar.Form.the-variants.{Library}
 use Rattle.sheet.specs.declared.Checked.the-variants.{Fits}
 use Rattle.ast.specs.Choice.{choose}
 use Rattle.sheet.specs.Grammar.{isLibrary, hasEnded, checked}

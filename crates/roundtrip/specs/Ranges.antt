@@ -1,7 +1,6 @@
 -- A document within the number ranges of a sheet (document 01, Sheets).
 -- Payloads and the header are any numbers; counts are the lengths of lists.
 use mathlib.Core.Path.{_≡_}
-use mathlib.Core.List.{List}
 use mathlib.Core.Option.{Option, none, some}
 use Prim.Native.Nat.{ℕ, _≤_, _<_}
 use Rattle.ast.specs.Ast.{FieldData, FieldValue, FieldBinding, Field, InterfaceDecl, Route, Statement, NodeOrigin, Association, ProtoInstance, Node, ProtoDecl, Url, ExternProtoDecl, Document, File}
