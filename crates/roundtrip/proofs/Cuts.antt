@@ -20,9 +20,8 @@ use Rattle.sheet.specs.Grammar.{shapeFits, roleOf, standsIn, comesIn, afterInne
 use Rattle.sheet.specs.Print.{row, rowsOfEach}
 use Rattle.sheet.proofs.Numbers.{between, shape-none}
 use Rattle.roundtrip.specs.Each.{Each}
-use Rattle.roundtrip.proofs.Tests.{never, or-e, tests}
+use Rattle.roundtrip.proofs.Tests.{never, among, by-member, tests}
 use Rattle.roundtrip.proofs.Accepts.{bare, no-go, go-inj, go-l, go-r, Accepts}
-use Rattle.roundtrip.proofs.Scan.{Begins}
 
 -- ---- one row
 
@@ -67,6 +66,11 @@ cut-owed form S print G e f (suc n) (r ∷ l) k =
     (w .0 ∷ y .0, y .1, ap (λ (q : Row). q ∷ l) (w .1) ∙ ap (_∷_ (print (w .0))) (y .2), ap suc (y .3), (w .2, y .4), y .5)
 
 -- ---- the elements of a list
+
+-- P of the first row's kind, if there is a row
+abbrev pub Begins : (ℕ → Type 0) → List Row → Type 0
+Begins P [] = Unit {0}
+Begins P (r ∷ l) = P (r .kind)
 
 -- an element in front of rows, by what holds of a state and the rows that are left
 pub record Cut {A : Type 0} (form : Form) (print : A → List Row) (G : A → Type 0) (I : ℕ → ℕ → List Row → Type 0) (R : List Row) : Type 0 where
@@ -161,21 +165,11 @@ kindsOf Files = 12 ∷ []
 kindsOf Owed = 9 ∷ 14 ∷ []
 kindsOf Never = 0 ∷ []
 
--- a kind is among some
-abbrev memberb : ℕ → List ℕ → Bool
-memberb k [] = false
-memberb k (j ∷ K) = eqb k j || memberb k K
-
--- what holds of each holds of one among them
-by-member : (P : ℕ → Type 0) (K : List ℕ) → Each P K → (k : ℕ) → memberb k K ≡ true → P k
-by-member P [] p k h = never h
-by-member P (j ∷ K) p k h = ⊎-elim (λ (e : eqb k j ≡ true). rw (eqb-true k j e) (p .0)) (λ e. by-member P K (p .1) k e) (or-e (eqb k j) (memberb k K) h)
-
 -- what holds of each kind of a role holds of a row of that role
 pub kind-by-role : (r : Row) → shapeFits r ≡ true → (role : Role) → roleOf (r .kind) ≡ role → (P : ℕ → Type 0) → Each P (kindsOf role) → P (r .kind)
 unfolding roleOf
 kind-by-role r s role h P p =
-    by-member P (kindsOf role) p (r .kind) (rw h at (between (λ (k : ℕ). memberb k (kindsOf (roleOf k)) ≡ true) 15 0 (r .kind) (refl, (refl, (refl, (refl, (refl, (refl, (refl, (refl, (refl, (refl, (refl, (refl, (refl, (refl, (refl, tt))))))))))))))) (omega arith) (small (decLt (r .kind) 15))))
+    by-member P (kindsOf role) p (r .kind) (rw h at (between (λ (k : ℕ). among k (kindsOf (roleOf k)) ≡ true) 15 0 (r .kind) (refl, (refl, (refl, (refl, (refl, (refl, (refl, (refl, (refl, (refl, (refl, (refl, (refl, (refl, (refl, tt))))))))))))))) (omega arith) (small (decLt (r .kind) 15))))
   where
     small : Dec (r .kind < 15) → r .kind < 15
     small (yes z) = z

@@ -27,9 +27,9 @@ use Rattle.roundtrip.proofs.Accepts.{at, bare, no-go, Accepts}
 use Rattle.roundtrip.proofs.Steps.{Sure, routeAsks, StatementGiven}
 use Rattle.roundtrip.proofs.Walk.{InstanceGiven, NodeGiven, ProtoGiven, ExternProtoGiven, DocumentGiven, FileGiven}
 use Rattle.roundtrip.proofs.Present.{present, route-given, statement-given}
-use Rattle.roundtrip.proofs.Scan.{Begins, one, rows-map}
+use Rattle.roundtrip.proofs.Scan.{one, rows-map}
 use Rattle.roundtrip.proofs.Parsed.{ids-parsed}
-use Rattle.roundtrip.proofs.Cuts.{as-kind, moved, by-role, tested, Lessens, cut-owed, Cut, cuts, Past, beyond, Inside, Outer, Outside, kind-by-role, outer}
+use Rattle.roundtrip.proofs.Cuts.{Begins, as-kind, moved, by-role, tested, Lessens, cut-owed, Cut, cuts, Past, beyond, Inside, Outer, Outside, kind-by-role, outer}
 
 module _ (form : Form) where
   -- ---- rows that are owed
