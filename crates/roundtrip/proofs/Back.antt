@@ -28,7 +28,7 @@ num-opt n = go (ℕ-discrete n none#)
 
 -- ---- columns that are 0
 
--- e to g are 0
+-- a row whose columns e to g are 0 is the row of its first columns
 pub zero-e : (k a b c d e f g : ℕ) → zeroFromE (row k a b c d e f g) ≡ true → row k a b c d 0 0 0 ≡ row k a b c d e f g
 zero-e k a b c d e f g h =
     let he : e ≡ 0 = search tests in
@@ -36,52 +36,52 @@ zero-e k a b c d e f g h =
     let hg : g ≡ 0 = search tests in
     rw (he, hf, hg)
 
--- c to g are 0
+-- the same from c on
 pub zero-c : (k a b c d e f g : ℕ) → zeroFromC (row k a b c d e f g) ≡ true → row k a b 0 0 0 0 0 ≡ row k a b c d e f g
 zero-c k a b c d e f g h =
     let hc : c ≡ 0 = search tests in
     let hd : d ≡ 0 = search tests in
     rw (hc, hd) (zero-e k a b 0 0 e f g (and-r (eqb c 0 && eqb d 0) _ h))
 
--- b to g are 0
+-- the same from b on
 pub zero-b : (k a b c d e f g : ℕ) → zeroFromB (row k a b c d e f g) ≡ true → row k a 0 0 0 0 0 0 ≡ row k a b c d e f g
 zero-b k a b c d e f g h = let hb : b ≡ 0 = search tests in rw hb (zero-c k a 0 c d e f g (and-r (eqb b 0) _ h))
 
 -- ---- rows of names
 
--- a name, a base or an id alone
+-- the row of a name, a base or an id alone is its print
 pub name-back : (k a b c d e f g : ℕ) → nameFits (row k a b c d e f g) ≡ true → row k a 0 0 0 0 0 0 ≡ row k a b c d e f g
 name-back k a b c d e f g h = zero-b k a b c d e f g (and-r (isName a) _ h)
 
--- row 11
+-- row 11 is its print
 pub top-back : (a b c d e f g : ℕ) → topFits (row 11 a b c d e f g) ≡ true → topRow ≡ row 11 a b c d e f g
 top-back a b c d e f g h = let ha : a ≡ 0 = search tests in rw ha (zero-b 11 0 b c d e f g (and-r (eqb a 0) _ h))
 
--- a url
+-- a url's row is the print of what it says
 pub url-back : (a b c d e f g : ℕ) (l : List Row) → urlFits (row 10 a b c d e f g) ≡ true → urlRow (urlOf (row 10 a b c d e f g ∷ l)) ≡ row 10 a b c d e f g
 unfolding urlOf
 url-back a b c d e f g l h = rw (num-opt b) (zero-c 10 a b c d e f g (and-r (isName a) _ h))
 
--- an association
+-- so is an association's
 pub assoc-back : (a b c d e f g : ℕ) (l : List Row) → associationFits (row 14 a b c d e f g) ≡ true → associationRow (associationOf (row 14 a b c d e f g ∷ l)) ≡ row 14 a b c d e f g
 unfolding associationOf
 assoc-back a b c d e f g l h = let hd : d ≡ 0 = search tests in rw hd (zero-e 14 a b c 0 e f g (and-r (isName a && isName b && isName c && eqb d 0) _ h))
 
 -- ---- marks, statements
 
--- a mark of body order
+-- a mark of body order is the print of what it says
 pub mark-back : (a b c d e f g : ℕ) (l : List Row) → orderFits (row 6 a b c d e f g) ≡ true → bodyElementRow (bodyElementOf (row 6 a b c d e f g ∷ l)) ≡ row 6 a b c d e f g
 unfolding bodyElementOf
 mark-back a b c d e f g l h =
     between (λ (n : ℕ). bodyElementRow (bodyElementOf (row 6 n b c d e f g ∷ l)) ≡ row 6 n 0 0 0 0 0 0) 3 0 a (refl, (refl, (refl, tt))) (omega arith) (suc-le-suc (leb-true a 2 (and-l (leb a 2) _ h))) ∙
     zero-b 6 a b c d e f g (and-r (leb a 2) _ h)
 
--- a route, where an instance owes it
+-- so is a route's row, where an instance owes it
 pub route-back : (a b c d e f g : ℕ) (l : List Row) → a ≡ 3 → routeRow (routeOf (row 5 a b c d e f g ∷ l)) ≡ row 5 a b c d e f g
 unfolding routeOf
 route-back a b c d e f g l h = rw (h, num-opt f, num-opt g)
 
--- a statement, of any of its five sorts
+-- and a statement's, of any of its five sorts
 pub stmt-back : (a b c d e f g : ℕ) (l : List Row) → statementFits (row 5 a b c d e f g) ≡ true → statementRow (statementOf (row 5 a b c d e f g ∷ l)) ≡ row 5 a b c d e f g
 unfolding statementOf routeOf
 stmt-back a b c d e f g l h = ⊎-elim (λ u. ⊎-elim id-stmt route-stmt (or-e _ _ u)) other-stmt (or-e _ (eqb a 4 && zeroFromC (row 5 a b c d e f g)) h)
@@ -101,7 +101,7 @@ stmt-back a b c d e f g l h = ⊎-elim (λ u. ⊎-elim id-stmt route-stmt (or-e 
 
 -- ---- nodes
 
--- a node's row, by its origin
+-- a node's row is the print of what it says, by its origin
 pub node-back : (a b c d e f g : ℕ) (l : List Row) → nodeFits (row 2 a b c d e f g) ≡ true → nodeRow a (optional b) (originOf (row 2 a b c d e f g ∷ l)) ≡ row 2 a b c d e f g
 unfolding originOf
 node-back a b c d e f g l h =
@@ -129,7 +129,7 @@ node-back a b c d e f g l h =
 abbrev pub owes : ℕ → ℕ → ℕ
 owes f g = choose (eqb f 2) g 0
 
--- a list of no length
+-- a list of length 0 is empty
 pub empty : {A : Type 0} (l : List A) → length l ≡ 0 → l ≡ []
 empty [] h = refl
 empty (x ∷ l) h = absurd (omega arith)
@@ -143,7 +143,7 @@ module _ (e f g : ℕ) (l : List Row) (owed : length (idsOf l) ≡ owes f g) whe
   abbrev pub valueIs : (ℕ → ℕ → ℕ → Row) → Type 0
   valueIs r = (r e (class (choose (eqb f 2) (FieldData.Nodes (idsOf l)) (FieldData.Payload g))) (amount (choose (eqb f 2) (FieldData.Nodes (idsOf l)) (FieldData.Payload g))) ∷ dataRows (choose (eqb f 2) (FieldData.Nodes (idsOf l)) (FieldData.Payload g))) ≡ r e f g ∷ idRows l
 
-  -- with its ids it is the row of its value
+  -- the row of a value with its ids is the print of that value
   pub value-back : (r : ℕ → ℕ → ℕ → Row) → 1 ≤ f → f ≤ 2 → valueIs r
   value-back r h i = go (ℕ-discrete f 2)
     where
@@ -151,7 +151,7 @@ module _ (e f g : ℕ) (l : List Row) (owed : length (idsOf l) ≡ owes f g) whe
       go (yes j) = let n : length (idsOf l) ≡ g = owed ∙ rw (eq-eqb f 2 j) in rw (eq-eqb f 2 j, n) (ap (λ (m : ℕ). r e m g ∷ idRows l) (sym j))
       go (no j) = let n : f ≡ 1 = omega arith in let z : length (idsOf l) ≡ 0 = owed ∙ rw (ne-eqb f 2 j) in rw (ne-eqb f 2 j, empty (idsOf l) z) (ap (λ (m : ℕ). r e m g ∷ []) (sym n))
 
--- a field, with its ids
+-- a field's row with its ids is the print of the field
 pub field-back : (a b c d e f g : ℕ) (l : List Row) → length (idsOf l) ≡ owes f g → fieldFits (row 3 a b c d e f g) ≡ true → fieldRows (fieldOf (row 3 a b c d e f g ∷ l)) ≡ row 3 a b c d e f g ∷ idRows l
 unfolding fieldOf
 field-back a b c d e f g l o h = ⊎-elim by-value by-is (or-e _ _ (and-r (isName a && leb d 1) _ h))
@@ -171,7 +171,7 @@ field-back a b c d e f g l o h = ⊎-elim by-value by-is (or-e _ _ (and-r (isNam
         let z : length (idsOf l) ≡ 0 = o ∙ rw hf in
         rw (hb, he, hf, hg, empty (idsOf l) z)
 
--- an interface, with its ids
+-- an interface's row with its ids is the print of the interface
 pub iface-back : (a b c d e f g : ℕ) (l : List Row) → length (idsOf l) ≡ owes f g → interfaceFits (row 4 a b c d e f g) ≡ true → interfaceRows (interfaceOf (row 4 a b c d e f g ∷ l)) ≡ row 4 a b c d e f g ∷ idRows l
 unfolding interfaceOf
 iface-back a b c d e f g l o h = ⊎-elim by-value by-none (or-e _ _ (and-r (leb a 3 && leb b 41 && isName c) _ h))

@@ -41,30 +41,30 @@ anyKind = 9 ∷ 12 ∷ 14 ∷ afterValue
 
 -- ---- single rows
 
--- ids
+-- ids are parsed back
 idsListed : Listed Ids [] anyKind (one idRow) (λ x. front x .a) (λ i. Sure)
 idsListed = record { heads = λ x. (refl, tt); others = refl; again = refl; back = λ x l f h. refl }
 
--- as many as there are
+-- the ids in front are found, as many as there are
 pub ids-parsed : (xs : List ℕ) (l : List Row) → Follows afterValue l → idsOf (map idRow xs ++ l) ≡ xs
 unfolding idsOf
 ids-parsed xs l h = rw (rows-map idRow xs) (found-in [] idsListed xs [] afterValue l refl refl refl (all (λ i. tt) xs) h)
 
--- a route
+-- a route is parsed back
 route-parsed : (x : Route) (l : List Row) → RouteInRange x → routeOf (routeRow x ∷ l) ≡ x
 unfolding routeOf
 route-parsed x l f i = record { fromNode = x .fromNode; fromField = x .fromField; toNode = x .toNode; toField = x .toField; fromId = optional-parsed (x .fromId) (f .fromId) i; toId = optional-parsed (x .toId) (f .toId) i }
 
--- an instance's routes
+-- and so an instance's routes
 routesListed : Listed Routes [] anyKind (one routeRow) routeOf RouteInRange
 routesListed = record { heads = λ x. (refl, tt); others = refl; again = refl; back = λ x l f h. route-parsed x l f }
 
--- an instance's associations
+-- an instance's associations are parsed back
 associationsListed : Listed Associations [] anyKind (one associationRow) associationOf (λ x. Sure)
 unfolding associationOf
 associationsListed = record { heads = λ x. (refl, tt); others = refl; again = refl; back = λ x l f h. refl }
 
--- a statement
+-- a statement is parsed back
 statement-parsed : (x : Statement) (l : List Row) → StatementInRange x → statementOf (statementRow x ∷ l) ≡ x
 unfolding statementOf
 statement-parsed (Statement.Node i) l f = refl
@@ -81,11 +81,11 @@ statement-heads (Statement.ExternProto i) = (refl, tt)
 statement-heads (Statement.Route x) = (refl, tt)
 statement-heads (Statement.Other n) = (refl, tt)
 
--- statements
+-- and so statements
 statementsListed : Listed Statements [] anyKind (one statementRow) statementOf StatementInRange
 statementsListed = record { heads = statement-heads; others = refl; again = refl; back = λ x l f h. statement-parsed x l f }
 
--- a mark of body order
+-- a mark of body order is parsed back
 order-parsed : (x : BodyElement) (l : List Row) → bodyElementOf (bodyElementRow x ∷ l) ≡ x
 unfolding bodyElementOf
 order-parsed BodyElement.Field l = refl
@@ -98,18 +98,18 @@ order-heads BodyElement.Field = (refl, tt)
 order-heads BodyElement.Interface = (refl, tt)
 order-heads BodyElement.Statement = (refl, tt)
 
--- body order
+-- and so body order
 orderListed : Listed BodyOrder [] anyKind (one bodyElementRow) bodyElementOf (λ x. Sure)
 orderListed = record { heads = order-heads; others = refl; again = refl; back = λ x l f h. order-parsed x l }
 
--- urls
+-- urls are parsed back
 urlsListed : Listed Urls [] anyKind (one urlRow) urlOf UrlInRange
 unfolding urlOf
 urlsListed = record { heads = λ x. (refl, tt); others = refl; again = refl; back = λ x l f h i. record { base = x .base; fragment = optional-parsed (x .fragment) (f .fragment) i } }
 
 -- ---- fields, interfaces: a row, and the ids of its value
 
--- what a value holds
+-- what a value holds is parsed back
 data-parsed : (d : FieldData) (l : List Row) → Follows afterValue l → choose (eqb (class d) 2) (FieldData.Nodes (idsOf (dataRows d ++ l))) (FieldData.Payload (amount d)) ≡ d
 data-parsed (FieldData.Payload p) l h = refl
 data-parsed (FieldData.Nodes xs) l h = ap FieldData.Nodes (ids-parsed xs l h)
@@ -119,7 +119,7 @@ data-kinds : (d : FieldData) → Among (9 ∷ []) (dataRows d)
 data-kinds (FieldData.Payload p) = tt
 data-kinds (FieldData.Nodes xs) = rw (rows-map idRow xs) (kinds idsListed xs)
 
--- a field
+-- a field is parsed back
 field-parsed : (x : Field) (l : List Row) → Follows afterValue l → fieldOf (fieldRows x ++ l) ≡ x
 unfolding fieldOf
 field-parsed x l h = go (x .binding)
@@ -136,11 +136,11 @@ field-heads x = go (x .binding)
     go (FieldBinding.Value v) = (refl, data-kinds (v .«data»))
     go (FieldBinding.Is t) = (refl, tt)
 
--- fields
+-- and so fields
 fieldsListed : Listed Fields (9 ∷ []) afterValue fieldRows fieldOf (λ x. Sure)
 fieldsListed = record { heads = field-heads; others = refl; again = refl; back = λ x l f h. field-parsed x l h }
 
--- an interface
+-- an interface is parsed back
 interface-parsed : (x : InterfaceDecl) (l : List Row) → IsPresent (x .is) → Follows afterValue l → interfaceOf (interfaceRows x ++ l) ≡ x
 unfolding interfaceOf
 interface-parsed x l f h = go (x .value)
@@ -168,7 +168,7 @@ interface-heads x = go (x .value)
     go none = (refl, tt)
     go (some v) = (refl, data-kinds (v .«data»))
 
--- interfaces
+-- and so interfaces
 interfacesListed : Listed Interfaces (9 ∷ []) afterValue interfaceRows interfaceOf (λ x. IsPresent (x .is))
 interfacesListed = record { heads = interface-heads; others = refl; again = refl; back = interface-parsed }
 
@@ -177,7 +177,7 @@ each-as : {A : Type 0} (P Q : A → Type 0) → ((x : A) → P x → Q x) → (l
 each-as P Q f [] h = tt
 each-as P Q f (x ∷ l) h = (f x (h .0), each-as P Q f l (h .1))
 
--- interfaces in range
+-- the IS of an interface in range is not none
 interfaces-fine : (xs : List InterfaceDecl) → Each InterfaceInRange xs → Each (λ y. IsPresent (y .is)) xs
 interfaces-fine = each-as InterfaceInRange (λ y. IsPresent (y .is)) (λ y r. r .is)
 
@@ -198,11 +198,11 @@ module _ (x : ProtoInstance) where
   abbrev owed-rows : List Row → List Row
   owed-rows l = chain (ids-run ∷ routes-run ∷ associations-run ∷ []) l
 
-  -- they are so
+  -- its print is these rows
   instance-rows : (l : List Row) → ((map idRow (x .extraRoots) ++ map routeRow (x .routes)) ++ map associationRow (x .isMap)) ++ l ≡ owed-rows l
   instance-rows l = rw (rows-map idRow (x .extraRoots), rows-map routeRow (x .routes), rows-map associationRow (x .isMap)) (simp append-assoc)
 
-  -- each list is found
+  -- each of its lists is found, so it is parsed back
   instance-parsed : (l : List Row) → InstanceInRange x → Follows afterNode l → instanceOf (instanceRows x ++ l) ≡ x
   unfolding instanceOf idsOf
   instance-parsed l f h = ap (λ (R : List Row). instanceOf (row 13 (x .protoName) (length (x .extraRoots)) (length (x .routes)) (length (x .isMap)) 0 0 0 ∷ R)) (instance-rows l) ∙ parts
@@ -219,7 +219,7 @@ module _ (x : ProtoInstance) where
       parts : instanceOf (row 13 (x .protoName) (length (x .extraRoots)) (length (x .routes)) (length (x .isMap)) 0 0 0 ∷ owed-rows l) ≡ x
       parts i = record { protoName = x .protoName; extraRoots = ids i; routes = routes i; isMap = associations i }
 
-  -- its other rows
+  -- its first row is of its kind, the others are of these
   instance-heads : Heads 13 (5 ∷ 9 ∷ 14 ∷ []) (instanceRows x)
   instance-heads = (refl, alone-among (5 ∷ 9 ∷ 14 ∷ []) (ids-run ∷ routes-run ∷ associations-run ∷ []) (rest (instanceRows x)) [] refl tt (instance-rows []))
 
@@ -234,7 +234,7 @@ instance-kinds : (x : Option ProtoInstance) → Among (13 ∷ 5 ∷ 9 ∷ 14 ∷
 instance-kinds none = tt
 instance-kinds (some x) = (refl, among-in (5 ∷ 9 ∷ 14 ∷ []) (13 ∷ 5 ∷ 9 ∷ 14 ∷ []) (rest (instanceRows x)) refl (instance-heads x .1))
 
--- it is found
+-- it is parsed back
 instance-found : (x : Option ProtoInstance) (l : List Row) → AnyInstanceInRange x → Follows afterNode l → first (map instanceOf (elements Instances (anyInstanceRows x ++ l))) ≡ x
 unfolding elements
 instance-found none l f h = ap (λ (R : List (List Row)). first (map instanceOf R)) (ended Instances afterNode refl l h)
@@ -242,7 +242,7 @@ instance-found (some x) l f h = ap some (instance-parsed x l f h)
 
 -- ---- a node: its row, then five lists
 
--- a node's origin
+-- a node's origin is parsed back
 origin-parsed : (t : ℕ) (n : Option ℕ) (o : NodeOrigin) (l : List Row) → originOf (nodeRow t n o ∷ l) ≡ o
 unfolding originOf
 origin-parsed t n NodeOrigin.Builtin l = refl
@@ -282,7 +282,7 @@ module _ (x : Node) where
   abbrev inner-rows : List Row → List Row
   inner-rows l = chain (F ∷ I ∷ S ∷ O ∷ N ∷ []) l
 
-  -- they are so
+  -- its print is these rows
   node-rows : (l : List Row) → (rowsOfEach fieldRows (x .fields) ++ (rowsOfEach interfaceRows (x .interface) ++ (map statementRow (x .statements) ++ (map bodyElementRow (x .bodyOrder) ++ anyInstanceRows (x .instance))))) ++ l ≡ inner-rows l
   node-rows l = rw (rows-map statementRow (x .statements), rows-map bodyElementRow (x .bodyOrder)) (simp append-assoc)
 
@@ -290,7 +290,7 @@ module _ (x : Node) where
   abbrev head-row : Row
   head-row = nodeRow (x .typeName) (x .defName) (x .origin)
 
-  -- each list is found
+  -- each of its lists is found, so it is parsed back
   node-parsed : (l : List Row) → NodeInRange x → Follows afterNode l → nodeOf (nodeRows x ++ l) ≡ x
   unfolding nodeOf fieldsOf interfacesOf statementsOf
   node-parsed l f h = ap (λ (R : List Row). nodeOf (head-row ∷ R)) (node-rows l) ∙ parts
@@ -326,11 +326,11 @@ module _ (x : Node) where
             instance = instance i;
           }
 
-  -- its other rows
+  -- its first row is of its kind, the others are of these
   node-heads : Heads 2 nodeKinds (nodeRows x)
   node-heads = (node-columns (x .typeName) (x .defName) (x .origin) .0, alone-among nodeKinds (F ∷ I ∷ S ∷ O ∷ N ∷ []) (rest (nodeRows x)) [] refl tt (node-rows []))
 
--- nodes
+-- and so nodes
 nodesListed : Listed Nodes nodeKinds afterNode nodeRows nodeOf NodeInRange
 nodesListed = record { heads = node-heads; others = refl; again = refl; back = node-parsed }
 
@@ -344,7 +344,7 @@ two-rows {print} L is xs l = rw (rows-map print xs) (simp append-assoc)
 abbrev afterProto : List ℕ
 afterProto = 7 ∷ 8 ∷ 11 ∷ []
 
--- a proto
+-- a proto is parsed back
 proto-parsed : (x : ProtoDecl) (l : List Row) → ProtoInRange x → Follows afterProto l → protoOf (protoRows x ++ l) ≡ x
 unfolding protoOf interfacesOf statementsOf
 proto-parsed x l f h =
@@ -352,7 +352,7 @@ proto-parsed x l f h =
     let body = found-in (run-of interfacesListed (x .interface) ∷ []) statementsListed (x .body) [] afterProto l refl refl refl (f .body) h in
     ap (λ (R : List Row). protoOf (row 7 (x .name) 0 0 0 0 0 0 ∷ R)) (two-rows statementsListed (x .interface) (x .body) l) ∙ (λ i. record { name = x .name; interface = is i; body = body i })
 
--- protos
+-- and so protos
 protosListed : Listed Protos (4 ∷ 5 ∷ 9 ∷ []) afterProto protoRows protoOf ProtoInRange
 protosListed =
     record {
@@ -366,7 +366,7 @@ protosListed =
 abbrev afterExtern : List ℕ
 afterExtern = 8 ∷ 11 ∷ []
 
--- an extern
+-- an extern is parsed back
 extern-parsed : (x : ExternProtoDecl) (l : List Row) → ExternProtoInRange x → Follows afterExtern l → externProtoOf (externProtoRows x ++ l) ≡ x
 unfolding externProtoOf interfacesOf
 extern-parsed x l f h =
@@ -374,7 +374,7 @@ extern-parsed x l f h =
     let urls = found-in (run-of interfacesListed (x .interface) ∷ []) urlsListed (x .urls) [] afterExtern l refl refl refl (f .urls) h in
     ap (λ (R : List Row). externProtoOf (row 8 (x .name) 0 0 0 0 0 0 ∷ R)) (two-rows urlsListed (x .interface) (x .urls) l) ∙ (λ i. record { name = x .name; interface = is i; urls = urls i })
 
--- externs
+-- and so externs
 externsListed : Listed Externs (4 ∷ 9 ∷ 10 ∷ []) afterExtern externProtoRows externProtoOf ExternProtoInRange
 externsListed =
     record {
@@ -416,11 +416,11 @@ module _ (x : Document) where
   abbrev part-rows : List Row → List Row
   part-rows l = chain (Ns ∷ Ps ∷ Es ∷ []) (top-rows l)
 
-  -- they are so
+  -- its print is these rows
   document-rows : (l : List Row) → (rowsOfEach nodeRows (x .nodes) ++ (rowsOfEach protoRows (x .protos) ++ (rowsOfEach externProtoRows (x .externProtos) ++ (topRow ∷ map statementRow (x .statements))))) ++ l ≡ part-rows l
   document-rows l = rw (rows-map statementRow (x .statements)) (simp append-assoc)
 
-  -- each list is found
+  -- each of its lists is found, so it is parsed back
   pub document-parsed : (l : List Row) → InRange x → Follows afterFile l → documentOf (documentRows x ++ l) ≡ x
   unfolding documentOf documentRows statementsOf elements
   document-parsed l f h = ap (λ (R : List Row). documentOf (row 1 (x .header) 0 0 0 0 0 0 ∷ R)) (document-rows l) ∙ parts
@@ -449,7 +449,7 @@ module _ (x : Document) where
 
 -- ---- a library
 
--- files
+-- files are parsed back
 filesListed : Listed Files documentKinds afterFile fileRows fileOf FileInRange
 filesListed =
     record {

@@ -158,11 +158,12 @@ module _ (form : Form) where
   data-rows p k (FieldData.Payload n) = stay form (bare p k)
   data-rows p k (FieldData.Nodes l) = instead (λ x. all (λ i. tt) l) ((λ x. x), (λ x. x)) ((λ x. tt), (λ x. all (λ i. tt) l)) (ids p k 0 0 l)
 
-  -- the class of what a value holds is 1 or 2
+  -- the class of what a value holds is at least 1
   class-low : (d : FieldData) → leb 1 (class d) ≡ true
   class-low (FieldData.Payload n) = refl
   class-low (FieldData.Nodes l) = refl
 
+  -- and at most 2
   class-high : (d : FieldData) → leb (class d) 2 ≡ true
   class-high (FieldData.Payload n) = refl
   class-high (FieldData.Nodes l) = refl
