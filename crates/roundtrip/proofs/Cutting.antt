@@ -31,6 +31,18 @@ use Rattle.roundtrip.proofs.Scan.{one, rows-map}
 use Rattle.roundtrip.proofs.Parsed.{ids-parsed}
 use Rattle.roundtrip.proofs.Cuts.{Begins, as-kind, moved, by-role, tested, Lessens, cut-owed, Cut, cuts, Past, beyond, Inside, Outer, Outside, kind-by-role, outer}
 
+-- five lists of rows, one after the other
+five : (f i s o n z l l1 l2 l3 l4 : List Row) → l ≡ f ++ l1 → l1 ≡ i ++ l2 → l2 ≡ s ++ l3 → l3 ≡ o ++ l4 → l4 ≡ n ++ z → l ≡ (f ++ (i ++ (s ++ (o ++ n)))) ++ z
+five f i s o n z l l1 l2 l3 l4 a b c d e = rw (a, b, c, d, e) (simp append-assoc)
+
+-- three lists, as an instance has them
+three : (i r a z l l1 l2 : List Row) → l ≡ i ++ l1 → l1 ≡ r ++ l2 → l2 ≡ a ++ z → l ≡ ((i ++ r) ++ a) ++ z
+three i r a z l l1 l2 b c d = rw (b, c, d) (simp append-assoc)
+
+-- single rows in front, written as a map
+as-map : {A : Type 0} (print : A → Row) (xs : List A) {R : List Row} (left : List Row) → R ≡ rowsOfEach (one print) xs ++ left → R ≡ map print xs ++ left
+as-map print xs left h = rw (rows-map print xs) h
+
 module _ (form : Form) where
   -- ---- rows that are owed
 
@@ -168,14 +180,11 @@ module _ (form : Form) where
       let s = cut-owed form (λ n. at 2 13 0 0 n) associationRow (λ y. Sure) (λ n h. let z : suc n ≡ 0 = search tests in omega arith) association-owed d (o .1) (o .5) in (
         record { protoName = a; extraRoots = i .0; routes = o .0; isMap = s .0 },
         s .1,
-        ap₂ _∷_ (head (i .0) (o .0) (s .0) (i .3) (o .3) (s .3) (x .0)) (i .2 ∙ ap (_++_ (map idRow (i .0))) (o .2 ∙ ap (_++_ (map routeRow (o .0))) (s .2)) ∙ regroup (map idRow (i .0)) (map routeRow (o .0)) (map associationRow (s .0)) (s .1)),
+        ap₂ _∷_ (head (i .0) (o .0) (s .0) (i .3) (o .3) (s .3) (x .0)) (three (map idRow (i .0)) (map routeRow (o .0)) (map associationRow (s .0)) (s .1) l (i .1) (o .1) (i .2) (o .2) (s .2)),
         o .4,
         s .5,
       )
     where
-      regroup : (w x y z : List Row) → w ++ (x ++ (y ++ z)) ≡ ((w ++ x) ++ y) ++ z
-      regroup w x y z = simp append-assoc
-
       head : (xs : List ℕ) (ys : List Route) (zs : List Association) → length xs ≡ b → length ys ≡ c → length zs ≡ d → shapeFits (row 13 a b c d e f g) ≡ true → row 13 a b c d e f g ≡ row 13 a (length xs) (length ys) (length zs) 0 0 0
       head xs ys zs i j k h = rw (i, j, k) (sym (zero-e 13 a b c d e f g (and-r (isName a) _ h)))
 
@@ -226,17 +235,12 @@ module _ (form : Form) where
       let X : Node = record { typeName = a; defName = optional b; origin = originOf (r ∷ []); fields = F .items; interface = I .items; statements = S .items; bodyOrder = O .items; instance = N .0 } in
       part-cut 2 [] nodeRows NodeGiven X (r ∷ l) (N .1) (N .2) (omega arith) tt
       (ap₂ _∷_ (sym (node-back a b c d e f g [] (x .0)))
-      (F .is ∙ ap (_++_ (rowsOfEach fieldRows (F .items))) (I .is ∙ ap (_++_ (rowsOfEach interfaceRows (I .items))) (S .is ∙ ap₂ _++_ (sym (rows-map statementRow (S .items))) (O .is ∙ ap₂ _++_ (sym (rows-map bodyElementRow (O .items))) (N .3)))) ∙
-      regroup (rowsOfEach fieldRows (F .items)) (rowsOfEach interfaceRows (I .items)) (map statementRow (S .items)) (map bodyElementRow (O .items)) (anyInstanceRows (N .0)) (N .1)))
+      (five (rowsOfEach fieldRows (F .items)) (rowsOfEach interfaceRows (I .items)) (map statementRow (S .items)) (map bodyElementRow (O .items)) (anyInstanceRows (N .0)) (N .1) l (F .left) (I .left) (S .left) (O .left) (F .is) (I .is) (as-map statementRow (S .items) (S .left) (S .is)) (as-map bodyElementRow (O .items) (O .left) (O .is)) (N .3)))
       (omega arith) (present b, I .given, S .given, N .4) (N .5) (N .6)
-    where
-      regroup : (u v w x y z : List Row) → u ++ (v ++ (w ++ (x ++ (y ++ z)))) ≡ (u ++ (v ++ (w ++ (x ++ y)))) ++ z
-      regroup u v w x y z = simp append-assoc
 
   -- interfaces and then single rows: what a proto and an extern hold
   two-lists : {A : Type 0} (print : A → Row) (is : List InterfaceDecl) (xs : List A) (l m left : List Row) → l ≡ rowsOfEach interfaceRows is ++ m → m ≡ rowsOfEach (one print) xs ++ left → l ≡ (rowsOfEach interfaceRows is ++ map print xs) ++ left
-  two-lists print is xs l m left h i =
-      h ∙ ap (_++_ (rowsOfEach interfaceRows is)) (i ∙ ap (λ (R : List Row). R ++ left) (sym (rows-map print xs))) ∙ sym (append-assoc (rowsOfEach interfaceRows is) (map print xs) left)
+  two-lists print is xs l m left h i = rw (h, i, rows-map print xs) (simp append-assoc)
 
   -- a proto
   proto-cut : (p la a b c d e f g : ℕ) (l : List Row) → Outside 7 (2 ∷ []) p la (row 7 a b c d e f g ∷ l) → Accepts form (bare p la) (row 7 a b c d e f g ∷ l) → Cut form protoRows ProtoGiven (Outside 7 (2 ∷ [])) (row 7 a b c d e f g ∷ l)
@@ -316,9 +320,6 @@ module _ (form : Form) where
   document-cut la [] t = never t
   document-cut la (r ∷ l) t = roles 0 la r l t (λ e. body) (λ h. absurd (omega arith)) (λ h. absurd (outer-none 0 la (r ∷ l) (λ q. refl) t h)) (λ b h. absurd (omega arith))
     where
-      regroup : (u v w x y : List Row) → u ++ (v ++ (w ++ (topRow ∷ (x ++ y)))) ≡ (u ++ (v ++ (w ++ (topRow ∷ x)))) ++ y
-      regroup u v w x y = simp append-assoc
-
       body : r .kind ≡ 1 → shapeFits r ≡ true → Accepts form (bare 1 0) l → (D : Document) × (left : List Row) × (lb : ℕ) × (r ∷ l ≡ documentRows D ++ left) × DocumentGiven D × Outer left × Accepts form (bare 11 lb) left
       body e s u =
           let m = as-kind r 1 e in
@@ -331,8 +332,7 @@ module _ (form : Form) where
             S .left,
             S .last,
             ap₂ _∷_ (m ∙ sym (zero-b 1 (r .a) (r .b) (r .c) (r .d) (r .e) (r .f) (r .g) (rw m at s)))
-                (N .is ∙ ap (_++_ (rowsOfEach nodeRows (N .items))) (P .is ∙ ap (_++_ (rowsOfEach protoRows (P .items))) (E .is ∙ ap (_++_ (rowsOfEach externProtoRows (E .items))) (T .1 ∙ ap (_∷_ topRow) (S .is ∙ ap (λ (Q : List Row). Q ++ S .left) (sym (rows-map statementRow (S .items))))))) ∙
-                regroup (rowsOfEach nodeRows (N .items)) (rowsOfEach protoRows (P .items)) (rowsOfEach externProtoRows (E .items)) (map statementRow (S .items)) (S .left)),
+                (five (rowsOfEach nodeRows (N .items)) (rowsOfEach protoRows (P .items)) (rowsOfEach externProtoRows (E .items)) (topRow ∷ []) (map statementRow (S .items)) (S .left) l (N .left) (P .left) (E .left) (T .0) (N .is) (P .is) (E .is) (T .1) (as-map statementRow (S .items) (S .left) (S .is))),
             (N .given, P .given, E .given, S .given),
             outer form 11 (S .last) (S .left) (inr (inr (λ q z. rw z)), (inr (inr (λ q z. rw z)), (inr (inl (S .past .0)), (inr (inr (λ q z. rw z)), (inr (inr (λ q z. rw z)), (inr (inr (λ q z. rw z)), tt)))))) (S .goes),
             S .goes,

@@ -27,7 +27,7 @@ Only Root E = Unit {0}
 Only Library E = Unit {0}
 Only Expanded E = E
 
--- what rows are asked: to be in range, and to stay in an expanded document; what the parse gives besides: what is present is not none
+-- what is asked of rows: to be in range, and to stay in an expanded document; given besides: what is present is not none
 pub record Asks : Type 1 where
   pub given : Type 0
   pub range : Type 0
@@ -164,34 +164,34 @@ span a b c = record { lo = a; hi = b; top = c }
 pub record Within (S : Span) (p la : ℕ) : Type 0 where
   pub from : S .lo ≤ p
   pub to : p ≤ S .hi
-  pub back : la ≤ S .top
+  pub last : la ≤ S .top
 
 -- rows that lead from any state of a span to one of another
 abbrev pub Passes : Form → Span → Span → Asks → List Row → Type 0
 Passes form S T a R = (p la : ℕ) → Within S p la → (q lb : ℕ) × Within T q lb × Through form (bare p la) (bare q lb) a R
 
 -- every state of one span is in the other
-abbrev pub Inside : Span → Span → Type 0
-Inside S T = (p la : ℕ) → Within S p la → Within T p la
+abbrev pub Sub : Span → Span → Type 0
+Sub S T = (p la : ℕ) → Within S p la → Within T p la
 
 -- rows after rows
-pub then : {form : Form} {S T I U : Span} {a b : Asks} {Q R : List Row} → Inside T I → Passes form S T a Q → Passes form I U b R → Passes form S U (both a b) (Q ++ R)
+pub then : {form : Form} {S T I U : Span} {a b : Asks} {Q R : List Row} → Sub T I → Passes form S T a Q → Passes form I U b R → Passes form S U (both a b) (Q ++ R)
 then i f g p la w =
     let x = f p la w in
     let y = g (x .0) (x .1) (i (x .0) (x .1) (x .2)) in
     (y .0, y .1, y .2, follow (x .3) (y .3))
 
 -- the same, asked in other words, between other spans
-pub asking : {form : Form} {S T I J : Span} {a b : Asks} {R : List Row} → Inside I S → Inside T J → (b .given → a .given) → (a .range ↔ b .range) → (a .kept ↔ b .kept) → Passes form S T a R → Passes form I J b R
+pub asking : {form : Form} {S T I J : Span} {a b : Asks} {R : List Row} → Sub I S → Sub T J → (b .given → a .given) → (a .range ↔ b .range) → (a .kept ↔ b .kept) → Passes form S T a R → Passes form I J b R
 asking i j o x e f p la w = let y = f p la (i p la w) in (y .0, y .1, j (y .0) (y .1) (y .2), instead o x e (y .3))
 
 -- the rows of each of a list
-pub listed : {A : Type 0} {form : Form} {S T : Span} (print : A → List Row) (a : A → Asks) → Inside T S → ((x : A) → Passes form S T (a x) (print x)) → (l : List A) → Passes form S S (each a l) (rowsOfEach print l)
+pub listed : {A : Type 0} {form : Form} {S T : Span} (print : A → List Row) (a : A → Asks) → Sub T S → ((x : A) → Passes form S T (a x) (print x)) → (l : List A) → Passes form S S (each a l) (rowsOfEach print l)
 listed {form} print a i f [] = λ p la w. (p, la, w, stay form (bare p la))
 listed {form} print a i f (x ∷ l) = then i (f x) (listed print a i f l)
 
 -- a row of each of a list
-pub mapped : {A : Type 0} {form : Form} {S T : Span} (print : A → Row) (a : A → Asks) → Inside T S → ((x : A) → Passes form S T (a x) (print x ∷ [])) → (l : List A) → Passes form S S (each a l) (map print l)
+pub mapped : {A : Type 0} {form : Form} {S T : Span} (print : A → Row) (a : A → Asks) → Sub T S → ((x : A) → Passes form S T (a x) (print x ∷ [])) → (l : List A) → Passes form S S (each a l) (map print l)
 mapped {form} print a i f [] = λ p la w. (p, la, w, stay form (bare p la))
 mapped {form} print a i f (x ∷ l) = then i (f x) (mapped print a i f l)
 
@@ -199,5 +199,5 @@ mapped {form} print a i f (x ∷ l) = then i (f x) (mapped print a i f l)
 pub within : {form : Form} {a : Asks} {R : List Row} (q k m : ℕ) → ((la : ℕ) → la ≤ k → (lb : ℕ) × (lb ≤ m) × Through form (bare q la) (bare q lb) a R) → Passes form (span q q k) (span q q m) a R
 within {form} {a} {R} q k m f p la w =
     let e : q ≡ p = omega arith in
-    let y = f la (w .back) in
-    (p, y .0, record { from = w .from; to = w .to; back = y .1 }, subst (λ (n : ℕ). Through form (bare n la) (bare n (y .0)) a R) e (y .2))
+    let y = f la (w .last) in
+    (p, y .0, record { from = w .from; to = w .to; last = y .1 }, subst (λ (n : ℕ). Through form (bare n la) (bare n (y .0)) a R) e (y .2))

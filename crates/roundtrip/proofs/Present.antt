@@ -1,4 +1,4 @@
--- What the parse gives of itself: what is present is not none.
+-- What is read from a row is not none where it is present.
 use mathlib.Core.Path.{_≡_}
 use mathlib.Core.List.{List, [], _∷_}
 use Prim.Native.Nat.{ℕ, zero, suc}

@@ -19,7 +19,7 @@ use Rattle.roundtrip.proofs.Accepts.{bare}
 use Rattle.roundtrip.proofs.Passes.{Asks, nothing, each, stay, Through, follow, instead, Passes, span, then, asking, listed, mapped, within}
 use Rattle.roundtrip.proofs.Steps.{Sure, Takes, all, routeAsks, ids, routes, associations, data-rows, value-step, is-step, bare-interface-step, interface-step, extern-value, StatementGiven, statementAsks, statement-step, inner-kept, top-kept, order-step, urlAsks, url-step, instance-step, node-step, proto-step, extern-step, top-step, document-step, file-step}
 
--- ---- what the parse gives: what is present is not none
+-- ---- what is given: what is present is not none
 
 -- of an instance
 abbrev pub InstanceGiven : Option ProtoInstance → Type 0
