@@ -140,6 +140,7 @@ idRows l = map idRow (idsOf l)
 
 -- the value of a row of class 1 or 2, with its ids
 module _ (e f g : ℕ) (l : List Row) (owed : length (idsOf l) ≡ owes f g) where
+  -- a row with the columns e, f and g of its value
   abbrev pub valueIs : (ℕ → ℕ → ℕ → Row) → Type 0
   valueIs r = (r e (class (choose (eqb f 2) (FieldData.Nodes (idsOf l)) (FieldData.Payload g))) (amount (choose (eqb f 2) (FieldData.Nodes (idsOf l)) (FieldData.Payload g))) ∷ dataRows (choose (eqb f 2) (FieldData.Nodes (idsOf l)) (FieldData.Payload g))) ≡ r e f g ∷ idRows l
 

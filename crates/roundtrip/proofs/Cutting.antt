@@ -98,6 +98,7 @@ module _ (form : Form) where
   module _ {A : Type 0} (q k : ℕ) (J : List ℕ) (print : A → List Row) (G : A → Type 0) (owing : ℕ → ℕ → ℕ) (role : roleOf k ≡ Inner) (small : Each (λ j. j < k) J)
       (after : (la a b c d e f g : ℕ) → afterInner (bare q la) (row k a b c d e f g) ≡ at q k (owing f g) 0 0)
       (back : (a b c d e f g : ℕ) (xs : List ℕ) → shapeFits (row k a b c d e f g) ≡ true → length xs ≡ owing f g → (x : A) × (print x ≡ row k a b c d e f g ∷ map idRow xs) × G x) where
+    -- one element, with its ids
     element-cut : (p la a b c d e f g : ℕ) (l : List Row) → Inside q k J p la (row k a b c d e f g ∷ l) → Accepts form (bare p la) (row k a b c d e f g ∷ l) → Cut form print G (Inside q k J) (row k a b c d e f g ∷ l)
     element-cut p la a b c d e f g l w t =
         let r = row k a b c d e f g in

@@ -25,7 +25,7 @@ use Rattle.roundtrip.proofs.Tests.{never, and-i, and-l, and-r, or-e, or
 use Rattle.roundtrip.proofs.Accepts.{at, bare}
 use Rattle.roundtrip.proofs.Passes.{Asks, nothing, Keeps, GoesOn, Through, through, refused, instead, counted, stay, each}
 
--- ---- what is asked of nothing
+-- ---- where nothing is asked, and where too much
 
 -- what holds of all holds of each of a list
 pub all : {A : Type 0} {P : A → Type 0} → ((x : A) → P x) → (l : List A) → Each P l
@@ -108,6 +108,7 @@ abbrev pub dataAsks : FieldData → Asks
 dataAsks d = record { given = Sure; range = DataInRange d; kept = Sure }
 
 module _ (form : Form) where
+  -- an id that is owed
   id-step : (p la ro ass n i : ℕ) → Through form (at p la (suc n) ro ass) (at p la n ro ass) (nameAsks i) (idRow i ∷ [])
   unfolding fits moves shapeFits
   id-step p la ro ass n i =
@@ -195,6 +196,7 @@ module _ (form : Form) where
 
   -- an interface with a value: in an expanded document it has no IS
   module _ (q la a b c t : ℕ) (d : Option ℕ) (v : FieldData) where
+    -- its row
     abbrev r4 : Row
     r4 = row 4 a b c (orNone d) t (class v) (amount v)
 
@@ -229,13 +231,14 @@ module _ (form : Form) where
     class-not-zero (FieldData.Payload n) = refl
     class-not-zero (FieldData.Nodes l) = refl
 
-    -- of an extern's interface none
+    -- an extern takes no such interface
     pub extern-value : (A : Asks) (R : List Row) → (A .range → ⊥) → Through form (bare 8 la) (bare 8 4) A (r4 ∷ R)
     unfolding fits moves roleOf
     extern-value A R f = refused form (bare 8 la) (bare 8 4) (afterInner (bare 8 la) r4) r4 R (comesIn (bare 8 la) r4) A refl (rw (class-not-zero v)) f
 
   -- a statement, in a part that takes it
   module _ (q la a b c d e f g : ℕ) (A : Asks) (h : A .range → shapeFits (row 5 a b c d e f g) ≡ true) (i : A .given → shapeFits (row 5 a b c d e f g) ≡ true → A .range) where
+    -- by its row
     row5 : la ≤ 5 → Takes q 5 → Keeps (bare q la) (row 5 a b c d e f g) A → Through form (bare q la) (bare q 5) A (row 5 a b c d e f g ∷ [])
     unfolding roleOf
     row5 j k u = inner form (row 5 a b c d e f g) A h i q la refl (k (row 5 a b c d e f g) refl) j (omega arith) u
@@ -249,7 +252,7 @@ module _ (form : Form) where
   statement-step q la K (Statement.Route x) h j e = row5 q la 3 _ _ _ _ _ _ _ (route-fits x) (route-in x) h j e
   statement-step q la K (Statement.Other p) h j e = row5 q la 4 p 0 0 0 0 0 _ (λ r. refl) (λ o x. tt) h j e
 
-  -- in a node, in a proto's body, in the top
+  -- in a node only Route and ExternProto stay
   pub inner-kept : (la : ℕ) (x : Statement) → Keeps (bare 2 la) (statementRow x) (statementAsks InnerKept x)
   inner-kept la (Statement.Node i) = barred
   inner-kept la (Statement.Proto i) = barred
