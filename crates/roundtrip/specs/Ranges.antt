@@ -11,7 +11,7 @@ use Rattle.roundtrip.specs.Each.{Each}
 abbrev pub IsName : ℕ → Type 0
 IsName n = n < none#
 
--- one that may be missing, where it is there, is not the number that says none: of words, one below it
+-- an optional name or id that is there is not the number of none; among 32-bit words that is to be below it
 abbrev pub IsPresent : Option ℕ → Type 0
 IsPresent none = Unit {0}
 IsPresent (some n) = n ≡ none# → ⊥
