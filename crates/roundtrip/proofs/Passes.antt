@@ -1,9 +1,9 @@
 -- What the check asks of rows, one after the other: laws for one row, for rows that follow others, and for each of a list.
-use mathlib.Core.Path.{_≡_, refl, sym, ap, subst, _∙_}
+use mathlib.Core.Path.{_≡_, refl, sym, subst, _∙_}
 use mathlib.Core.List.{List, [], _∷_, _++_, map, append-assoc}
 use mathlib.Core.Bool.{Bool, true, false, _&&_}
 use mathlib.Core.Logic.{_↔_}
-use Prim.Native.Nat.{ℕ, zero, suc, _≤_}
+use Prim.Native.Nat.{ℕ, suc, _≤_}
 use native.Mathlib.Omega.{arith}
 use lib.ListN.{length}
 use Rattle.sheet.specs.declared.row.Row.{Row}
@@ -12,38 +12,12 @@ use Rattle.sheet.specs.declared.grammar.Form.the-variants.{Root, Library, Expan
 use Rattle.sheet.specs.declared.grammar.State.{State}
 use Rattle.sheet.specs.declared.grammar.Next.{Next}
 use Rattle.sheet.specs.declared.grammar.Next.the-variants.{Go, No}
-use Rattle.sheet.specs.declared.Checked.{Checked}
-use Rattle.sheet.specs.declared.Checked.the-variants.{Fits, Bad}
 use Rattle.ast.specs.Choice.{choose}
-use Rattle.sheet.specs.Grammar.{shapeFits, staysExpanded, allowed, goIf, fits, run, goOn, hasEnded}
+use Rattle.sheet.specs.Grammar.{shapeFits, staysExpanded, allowed, goIf, fits}
 use Rattle.sheet.specs.Print.{rowsOfEach}
 use Rattle.roundtrip.specs.Each.{Each}
-use Rattle.roundtrip.proofs.Back.{and-r}
-use Rattle.roundtrip.proofs.Whole.{at}
-use Rattle.roundtrip.proofs.Accepted.{never, no-go, go-inj, bad-fits, end-of}
-
--- ---- a list of rows that fit
-
--- the rows fit from a state on, and the sheet may end after them
-abbrev pub Accepts : Form → State → List Row → Type 0
-Accepts form s [] = hasEnded s ≡ true
-Accepts form s (r ∷ l) = (t : State) × (fits form s r ≡ Go t) × Accepts form t l
-
--- the check says so
-pub accepts : (form : Form) (R : List Row) (s : State) (n : ℕ) → run form s n R ≡ Fits → Accepts form s R
-unfolding run
-accepts form [] s n h = end-of (hasEnded s) n h
-accepts form (r ∷ l) s n h = go (fits form s r) refl h (λ (t : State) (k : run form t (suc n) l ≡ Fits). accepts form l t (suc n) k)
-  where
-    go : (x : Next) → fits form s r ≡ x → goOn x (λ t. run form t (suc n) l) n ≡ Fits → ((t : State) → run form t (suc n) l ≡ Fits → Accepts form t l) → Accepts form s (r ∷ l)
-    go (Go t) e k ih = (t, e, ih t k)
-    go No e k ih = bad-fits k
-
--- and only then
-pub accepted : (form : Form) (R : List Row) (s : State) (n : ℕ) → Accepts form s R → run form s n R ≡ Fits
-unfolding run
-accepted form [] s n h = rw h
-accepted form (r ∷ l) s n h = rw (h .1) (accepted form l (h .0) (suc n) (h .2))
+use Rattle.roundtrip.proofs.Tests.{never, and-r}
+use Rattle.roundtrip.proofs.Accepts.{bare, no-go, go-inj, Accepts}
 
 -- ---- what is asked
 
@@ -53,26 +27,31 @@ Only Root E = Unit {0}
 Only Library E = Unit {0}
 Only Expanded E = E
 
--- what rows are asked: to be in range, and to stay in an expanded document; what the parse gives besides: what is present is not none
+-- what is asked of rows: to be in range, and to stay in an expanded document; given besides: what is present is not none
 pub record Asks : Type 1 where
   pub given : Type 0
   pub range : Type 0
   pub kept : Type 0
 
+-- nothing is asked
 abbrev pub nothing : Asks
 nothing = record { given = Unit {0}; range = Unit {0}; kept = Unit {0} }
 
+-- of rows and of rows after them
 abbrev pub both : Asks → Asks → Asks
 both a b = record { given = a .given × b .given; range = a .range × b .range; kept = a .kept × b .kept }
 
+-- of the rows of each of a list
 abbrev pub each : {A : Type 0} → (A → Asks) → List A → Asks
 each f l = record { given = Each (λ x. f x .given) l; range = Each (λ x. f x .range) l; kept = Each (λ x. f x .kept) l }
 
+-- what follows from what is asked of an expanded document alone
 only-map : (form : Form) {A B : Type 0} → (A → B) → Only form A → Only form B
 only-map Root f x = tt
 only-map Library f x = tt
 only-map Expanded f x = f x
 
+-- and two such together
 only-both : (form : Form) (A B : Type 0) → Only form A → Only form B → Only form (A × B)
 only-both Root A B x y = tt
 only-both Library A B x y = tt
@@ -118,17 +97,20 @@ thrice true true false t x h i j = let z : _≡_ {A = ℕ} 0 1 = cc in absurd (o
 thrice true false C t x h i j = let z : _≡_ {A = ℕ} 0 1 = cc in absurd (omega arith)
 thrice false B C t x h i j = let z : _≡_ {A = ℕ} 0 1 = cc in absurd (omega arith)
 
+-- where the row is let through, all three did
 taken : (A B C : Bool) (t u : State) (x : Next) → x ≡ choose A (choose B (goIf C t) No) No → x ≡ Go u → (A ≡ true) × ((B && C) ≡ true) × (t ≡ u)
 taken true true true t u x h k = (refl, refl, go-inj (sym h ∙ k))
 taken true true false t u x h k = no-go (sym h ∙ k)
 taken true false C t u x h k = no-go (sym h ∙ k)
 taken false B C t u x h k = no-go (sym h ∙ k)
 
+-- the form lets a row in that stays in an expanded document
 let-in : (form : Form) (s : State) (r : Row) {E : Type 0} → (E → staysExpanded s r ≡ true) → Only form E → allowed form s r ≡ true
 let-in Root s r f x = refl
 let-in Library s r f x = refl
 let-in Expanded s r f x = f x
 
+-- and only such a row
 let-on : (form : Form) (s : State) (r : Row) {E : Type 0} → (staysExpanded s r ≡ true → E) → allowed form s r ≡ true → Only form E
 let-on Root s r f x = tt
 let-on Library s r f x = tt
@@ -142,6 +124,7 @@ Keeps s r a = (a .kept → staysExpanded s r ≡ true) × (a .given → staysExp
 abbrev pub GoesOn : Form → State → State → Row → Bool → Type 0
 GoesOn form s t r C = fits form s r ≡ choose (allowed form s r) (choose (shapeFits r) (goIf C t) No) No
 
+-- so it is let through exactly if it is as asked
 pub through : (form : Form) (s t : State) (r : Row) (C : Bool) (a : Asks) → GoesOn form s t r C → (a .range → (shapeFits r && C) ≡ true) → (a .given → (shapeFits r && C) ≡ true → a .range) → Keeps s r a → Through form s t a (r ∷ [])
 through form s t r C a h f g e =
     record {
@@ -173,43 +156,42 @@ pub record Span : Type 0 where
   pub hi : ℕ
   pub top : ℕ
 
+-- a span by its numbers
 abbrev pub span : ℕ → ℕ → ℕ → Span
 span a b c = record { lo = a; hi = b; top = c }
 
+-- a part and a last kind within a span
 pub record Within (S : Span) (p la : ℕ) : Type 0 where
   pub from : S .lo ≤ p
   pub to : p ≤ S .hi
-  pub back : la ≤ S .top
-
-abbrev pub bare : ℕ → ℕ → State
-bare p la = at p la 0 0 0
+  pub last : la ≤ S .top
 
 -- rows that lead from any state of a span to one of another
 abbrev pub Passes : Form → Span → Span → Asks → List Row → Type 0
 Passes form S T a R = (p la : ℕ) → Within S p la → (q lb : ℕ) × Within T q lb × Through form (bare p la) (bare q lb) a R
 
 -- every state of one span is in the other
-abbrev pub Inside : Span → Span → Type 0
-Inside S T = (p la : ℕ) → Within S p la → Within T p la
+abbrev pub Sub : Span → Span → Type 0
+Sub S T = (p la : ℕ) → Within S p la → Within T p la
 
 -- rows after rows
-pub then : {form : Form} {S T I U : Span} {a b : Asks} {Q R : List Row} → Inside T I → Passes form S T a Q → Passes form I U b R → Passes form S U (both a b) (Q ++ R)
+pub then : {form : Form} {S T I U : Span} {a b : Asks} {Q R : List Row} → Sub T I → Passes form S T a Q → Passes form I U b R → Passes form S U (both a b) (Q ++ R)
 then i f g p la w =
     let x = f p la w in
     let y = g (x .0) (x .1) (i (x .0) (x .1) (x .2)) in
     (y .0, y .1, y .2, follow (x .3) (y .3))
 
 -- the same, asked in other words, between other spans
-pub asking : {form : Form} {S T I J : Span} {a b : Asks} {R : List Row} → Inside I S → Inside T J → (b .given → a .given) → (a .range ↔ b .range) → (a .kept ↔ b .kept) → Passes form S T a R → Passes form I J b R
+pub asking : {form : Form} {S T I J : Span} {a b : Asks} {R : List Row} → Sub I S → Sub T J → (b .given → a .given) → (a .range ↔ b .range) → (a .kept ↔ b .kept) → Passes form S T a R → Passes form I J b R
 asking i j o x e f p la w = let y = f p la (i p la w) in (y .0, y .1, j (y .0) (y .1) (y .2), instead o x e (y .3))
 
 -- the rows of each of a list
-pub listed : {A : Type 0} {form : Form} {S T : Span} (print : A → List Row) (a : A → Asks) → Inside T S → ((x : A) → Passes form S T (a x) (print x)) → (l : List A) → Passes form S S (each a l) (rowsOfEach print l)
+pub listed : {A : Type 0} {form : Form} {S T : Span} (print : A → List Row) (a : A → Asks) → Sub T S → ((x : A) → Passes form S T (a x) (print x)) → (l : List A) → Passes form S S (each a l) (rowsOfEach print l)
 listed {form} print a i f [] = λ p la w. (p, la, w, stay form (bare p la))
 listed {form} print a i f (x ∷ l) = then i (f x) (listed print a i f l)
 
 -- a row of each of a list
-pub mapped : {A : Type 0} {form : Form} {S T : Span} (print : A → Row) (a : A → Asks) → Inside T S → ((x : A) → Passes form S T (a x) (print x ∷ [])) → (l : List A) → Passes form S S (each a l) (map print l)
+pub mapped : {A : Type 0} {form : Form} {S T : Span} (print : A → Row) (a : A → Asks) → Sub T S → ((x : A) → Passes form S T (a x) (print x ∷ [])) → (l : List A) → Passes form S S (each a l) (map print l)
 mapped {form} print a i f [] = λ p la w. (p, la, w, stay form (bare p la))
 mapped {form} print a i f (x ∷ l) = then i (f x) (mapped print a i f l)
 
@@ -217,5 +199,5 @@ mapped {form} print a i f (x ∷ l) = then i (f x) (mapped print a i f l)
 pub within : {form : Form} {a : Asks} {R : List Row} (q k m : ℕ) → ((la : ℕ) → la ≤ k → (lb : ℕ) × (lb ≤ m) × Through form (bare q la) (bare q lb) a R) → Passes form (span q q k) (span q q m) a R
 within {form} {a} {R} q k m f p la w =
     let e : q ≡ p = omega arith in
-    let y = f la (w .back) in
-    (p, y .0, record { from = w .from; to = w .to; back = y .1 }, subst (λ (n : ℕ). Through form (bare n la) (bare n (y .0)) a R) e (y .2))
+    let y = f la (w .last) in
+    (p, y .0, record { from = w .from; to = w .to; last = y .1 }, subst (λ (n : ℕ). Through form (bare n la) (bare n (y .0)) a R) e (y .2))

@@ -16,10 +16,8 @@ use Rattle.sheet.specs.Print.{documentRows, libraryRows}
 use Rattle.roundtrip.specs.Each.{Each}
 use Rattle.roundtrip.specs.Ranges.{InRange, FileInRange}
 use Rattle.roundtrip.specs.Expanded.{IsExpanded}
-use Rattle.roundtrip.proofs.Accepted.{document-back, library-back}
 use Rattle.roundtrip.proofs.Walk.{document-passes, library-passes}
-use Rattle.roundtrip.proofs.Present.{document-given, files-given}
-use Rattle.roundtrip.proofs.Sheets.{fits-if, fits-only}
+use Rattle.roundtrip.proofs.Sheets.{fits-if, document-read, library-read}
 use Rattle.roundtrip.proofs.Parsed.{document-parsed, library-parsed}
 use Rattle.roundtrip.proofs.Words.{rows-words, words-rows}
 
@@ -27,15 +25,15 @@ use Rattle.roundtrip.proofs.Words.{rows-words, words-rows}
 
 -- a root sheet that is accepted is written in its own rows: nothing is lost
 pub root-printed-back : (R : List Row) → checked Root R ≡ Fits → documentRows (documentOf R) ≡ R
-root-printed-back = document-back Root refl
+root-printed-back R h = document-read Root refl R h .2
 
 -- so is an expanded document
 pub expanded-printed-back : (R : List Row) → checked Expanded R ≡ Fits → documentRows (documentOf R) ≡ R
-expanded-printed-back = document-back Expanded refl
+expanded-printed-back R h = document-read Expanded refl R h .2
 
 -- and a library
 pub library-printed-back : (R : List Row) → checked Library R ≡ Fits → libraryRows (filesOf R) ≡ R
-library-printed-back = library-back
+library-printed-back R h = library-read R h .1
 
 -- ---- in range, then accepted
 
@@ -61,11 +59,11 @@ library-parsed-back = library-parsed
 
 -- what an accepted root sheet says is in range
 pub root-in-range : (R : List Row) → checked Root R ≡ Fits → InRange (documentOf R)
-root-in-range R h = fits-only Root (document-passes Root (documentOf R)) (omega arith) (omega arith) (document-given R) (ap (checked Root) (root-printed-back R h) ∙ h) .0
+root-in-range R h = document-read Root refl R h .0
 
 -- and what an accepted library says
 pub library-in-range : (R : List Row) → checked Library R ≡ Fits → Each FileInRange (filesOf R)
-library-in-range R h = fits-only Library (library-passes (filesOf R)) (omega arith) (omega arith) (files-given R) (ap (checked Library) (library-printed-back R h) ∙ h) .0
+library-in-range R h = library-read R h .0
 
 -- so the accepted root sheets are the prints of the documents in range
 pub root-sheets : (R : List Row) → (checked Root R ≡ Fits) ↔ ((D : Document) × InRange D × (documentRows D ≡ R))
@@ -83,7 +81,7 @@ expanded-fits D r k = fits-if Expanded (document-passes Expanded D) (omega arith
 
 -- what a sheet says that is accepted as one is in range, and expanded
 pub expanded-in-range : (R : List Row) → checked Expanded R ≡ Fits → InRange (documentOf R) × IsExpanded (documentOf R)
-expanded-in-range R h = fits-only Expanded (document-passes Expanded (documentOf R)) (omega arith) (omega arith) (document-given R) (ap (checked Expanded) (expanded-printed-back R h) ∙ h)
+expanded-in-range R h = let w = document-read Expanded refl R h in (w .0, w .1)
 
 -- so the sheet is a root sheet that says an expanded document
 pub expanded-is-root : (R : List Row) → checked Expanded R ≡ Fits → (checked Root R ≡ Fits) × IsExpanded (documentOf R)

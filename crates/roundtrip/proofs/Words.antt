@@ -1,7 +1,7 @@
 -- Rows and their words: eight words to a row.
 use mathlib.Core.Path.{_≡_, refl, ap}
 use mathlib.Core.List.{List, [], _∷_}
-use Prim.Native.Nat.{ℕ, zero, suc, _*_, _-_, _≤_}
+use Prim.Native.Nat.{ℕ, _*_, _-_}
 use native.Mathlib.Omega.{arith}
 use lib.ListN.{length}
 use Rattle.sheet.specs.declared.row.Row.{Row}

@@ -1,9 +1,9 @@
 -- "An expanded document is a root sheet without kind 7, Proto statements or origin Proto, whose nodes hold only Route and ExternProto statements and whose interfaces with an IS have class 0."
 use mathlib.Core.Path.{_≡_}
-use mathlib.Core.List.{List, []}
-use mathlib.Core.Option.{Option, none, some}
+use mathlib.Core.List.{[]}
+use mathlib.Core.Option.{none, some}
 use Prim.Native.Nat.{ℕ}
-use Rattle.ast.specs.Ast.{InterfaceDecl, Statement, NodeOrigin, Node, ProtoDecl, ExternProtoDecl, Document}
+use Rattle.ast.specs.Ast.{InterfaceDecl, Statement, NodeOrigin, Node, Document}
 use Rattle.roundtrip.specs.Each.{Each}
 
 -- no Proto statement

@@ -1,7 +1,6 @@
 -- A document within the number ranges of a sheet (document 01, Sheets).
 -- Payloads and the header are any numbers; counts are the lengths of lists.
 use mathlib.Core.Path.{_≡_}
-use mathlib.Core.List.{List}
 use mathlib.Core.Option.{Option, none, some}
 use Prim.Native.Nat.{ℕ, _≤_, _<_}
 use Rattle.ast.specs.Ast.{FieldData, FieldValue, FieldBinding, Field, InterfaceDecl, Route, Statement, NodeOrigin, Association, ProtoInstance, Node, ProtoDecl, Url, ExternProtoDecl, Document, File}
@@ -12,7 +11,7 @@ use Rattle.roundtrip.specs.Each.{Each}
 abbrev pub IsName : ℕ → Type 0
 IsName n = n < none#
 
--- one that may be missing, where it is there, is not the number that says none: of words, one below it
+-- an optional name or id that is there is not the number of none; among 32-bit words that is to be below it
 abbrev pub IsPresent : Option ℕ → Type 0
 IsPresent none = Unit {0}
 IsPresent (some n) = n ≡ none# → ⊥
