@@ -5,7 +5,7 @@ use mathlib.Core.List.{List, [], _∷_, List·Memᴰ}
 use mathlib.Core.Option.{Option, none, some}
 use Prim.Native.Nat.{ℕ, suc, _+_, _≤_, _<_}
 use lib.ListN.{length}
-use Rattle.ast.specs.Ast.{NodeOrigin, FieldBinding, Field, InterfaceDecl, Route, Statement, Association, ProtoInstance, Node, ExternProtoDecl, Document}
+use Rattle.ast.specs.Ast.{NodeOrigin, Field, InterfaceDecl, Route, Statement, Association, ProtoInstance, Node, ExternProtoDecl, Document}
 use Rattle.steps.specs.Lists.{Nodup}
 use Rattle.steps.specs.Steps.{Plain, Instance, ReachedIn, World, WholeRun, opened}
 use Rattle.steps.specs.Sums.{entry, Total, bodies, NoLoop}

@@ -1,5 +1,5 @@
 -- What is to hold of the world after a whole run: the ledger, and sums over the scopes.
-use mathlib.Core.Path.{_≡_, refl, sym, _∙_}
+use mathlib.Core.Path.{_≡_, sym, _∙_}
 use mathlib.Core.Logic.{_↔_}
 use mathlib.Core.List.{List, [], _∷_, List·Memᴰ}
 use mathlib.Core.Bool.{Bool, true, false}

@@ -1,9 +1,9 @@
 -- The steps leave no choice.
 use mathlib.Core.Path.{_≡_, refl, ap, sym, _∙_, subst}
-use mathlib.Core.List.{List, [], _∷_, _++_, map, List·Memᴰ}
+use mathlib.Core.List.{List, [], _∷_, map}
 use Prim.Native.Nat.{ℕ}
 use native.Mathlib.Omega.{arith}
-use Rattle.steps.specs.Steps.{Kind, noNode, plainNode, instanceNode, Action, copyId, openDefault, Graph, Plain, World, addMapped, addPlain, addDefault, addBody, count, Mapped, Task, one, all, Run, mappedStep, plainStep, instanceStep, noAction, thenCopy, thenDefault}
+use Rattle.steps.specs.Steps.{Kind, plainNode, instanceNode, Action, copyId, openDefault, Graph, Plain, World, addMapped, addPlain, addDefault, addBody, count, Mapped, Task, one, all, Run, mappedStep, plainStep, instanceStep, noAction, thenCopy, thenDefault}
 
 plain-not-instance : {S : Type 0} {k : Kind S} {b : ℕ → S} → k ≡ plainNode → k ≡ instanceNode b → ⊥
 plain-not-instance p q = let z : _≡_ {A = ℕ} 0 1 = cc in omega arith
