@@ -55,7 +55,7 @@ depth-before-proto : (counts (expand (protoless 0 0)) ≡ (9 ∷ 0 ∷ 0 ∷ [])
 unfolding computed
 depth-before-proto = (refl, refl)
 
--- a plain node of an extern that is not there, by N and K
+-- a plain node of an extern that is not there, by N and K; 11: "An extern is looked up (4) before it is charged"
 abbrev externless : ℕ → ℕ → Input
 externless n k = scene (limits n 1 k) (node (NodeOrigin.ExternProto 2) [] ∷ []) [] (Statement.Node 0 ∷ [])
 

@@ -17,17 +17,26 @@ use Rattle.expansion.specs.Scopes.{Scope, documentOf}
 use Rattle.expansion.specs.State.{World, State, Result, refusal, ok, start}
 use Rattle.expansion.specs.Expand.{statements, LedgerEntry, ledgerEntry, Expansion, Answer, expansion, answer, expand}
 use Rattle.expansion.specs.Reached.{graph}
-use Rattle.expansion.specs.Expanded.{scopeAt, Expanded, Refusal, four, five, six, seven, eight, nine, ten}
+use Rattle.expansion.specs.Expanded.{RouteOrExtern, scopeAt, Expanded, Refusal, four, five, six, seven, eight, nine, ten}
 use Rattle.expansion.specs.Proofs.Outcome.{atOk, atRefusal}
 use Rattle.expansion.specs.Proofs.Walk.{see, statements-run}
 use Rattle.expansion.specs.Proofs.Agrees.{agrees}
-use Rattle.expansion.specs.Proofs.Output.{Output, output}
+use Rattle.expansion.specs.Proofs.Output.{NodeStatement, Output, output}
+use Rattle.expansion.specs.Proofs.Ids.{ids-below}
 use Rattle.expansion.specs.Proofs.Rows.{Covered, statements-cov}
 
 -- No element twice, none twice in its image, where equal images come from equal elements.
 nodup-map : {A B : Type 0} (f : A → B) → ((x y : A) → f x ≡ f y → x ≡ y) → (l : List A) → Nodup l → Nodup (map f l)
 nodup-map f inj [] d = tt
 nodup-map f inj (x ∷ l) d = (λ m. let y = Memᴰ·of-map f l m in d .0 (Memᴰ·cast (inj x (y .0) (sym (y .2))) (y .1)), nodup-map f inj l (d .1))
+
+-- A statement of an output node is a Route or an ExternProto.
+routeOrExtern : (n : ℕ) (s : Statement) → NodeStatement n s → RouteOrExtern s
+routeOrExtern n (Statement.Node i) h = h
+routeOrExtern n (Statement.Proto p) h = h
+routeOrExtern n (Statement.ExternProto x) h = tt
+routeOrExtern n (Statement.Route r) h = tt
+routeOrExtern n (Statement.Other p) h = h
 
 module _ (I : Input) (l : List Statement) (st : State) (e : statements I start ≡ ok l st) where
   -- Its output,
@@ -70,16 +79,20 @@ module _ (I : Input) (l : List Statement) (st : State) (e : statements I start �
   back s d i q = Memᴰ·cast (λ k. record { scope = s; document = (q .1) k; source = i }) (Memᴰ·map row (x .ledger s i .1 (q .0, q .2, q .3)))
 
   -- No source is an instance.
-  sources : (y : LedgerEntry) → List·Memᴰ y (map row (st .world .ledger)) → Instance (graph I) (scopeAt I (expansion I l st) (y .scope)) (y .source) → ⊥
-  sources y m i = apart (graph I) {e = scopeAt I (expansion I l st) (y .scope)} {j = y .source} (to (y .scope) (y .document) (y .source) (Memᴰ·of-map row (st .world .ledger) m) .2) i
+  noInstance : (y : LedgerEntry) → List·Memᴰ y (map row (st .world .ledger)) → Instance (graph I) (scopeAt I (expansion I l st) (y .scope)) (y .source) → ⊥
+  noInstance y m i = apart (graph I) {e = scopeAt I (expansion I l st) (y .scope)} {j = y .source} (to (y .scope) (y .document) (y .source) (Memᴰ·of-map row (st .world .ledger) m) .2) i
 
   -- All of it together.
   expanded : Expanded I (expansion I l st)
   expanded = record {
-    protos = refl;
-    statements = out .statements;
-    nodes = out .nodes;
-    sources = sources;
+    noProto = record {
+      protos = refl;
+      statements = λ p m. out .statements (Statement.Proto p) m;
+      nodeStatements = λ y m p q. out .nodes y m .statements (Statement.Proto p) q;
+      origins = λ y m p q. rw q at (out .nodes y m .origin);
+    };
+    noInstance = noInstance;
+    ids = ids-below (length (st .nodes)) (Rattle.expansion.specs.Expand.output I l st) (out .nodes) (out .statements) (out .externs);
     nodeCount = refl;
     nodeLimit = out .room;
     world = see (ran .0) (st .world);
@@ -94,7 +107,7 @@ module _ (I : Input) (l : List Statement) (st : State) (e : statements I start �
     rowsPaid = omega (arith, paid .covers);
     scopesPaid = omega (arith, paid .covers);
     chargeLimit = paid .capped;
-    externs = out .externs;
+    form = record { statements = λ y m t q. routeOrExtern (length (st .nodes)) t (out .nodes y m .statements t q); interface = λ y m d q. out .nodes y m .interface d q .1; externs = out .externs };
   }
 
 -- A refusal is no expansion.

@@ -24,7 +24,7 @@ use Rattle.expansion.specs.PlainCopy.{blank, addNode, reserveIf, reserve
 use Rattle.expansion.specs.Instances.{pushScope, openScope, takeDefault, cloneOption, interfaceValue, store, values, Body, place, bodyStatement, rootOf, associationsOf, nestedRoots, nestedRoutes, withInstance, update, recordInstance, instantiate}
 use Rattle.expansion.specs.Copy.{copyNode, mappedOr, copy}
 use Rattle.expansion.specs.Expand.{statement, rootEnv, statements}
-use Rattle.expansion.specs.Expanded.{IdsBelow, RouteBelow, InstanceBelow, TopStatement, NodeStatement, NotProto, ClassZero, OutputNode}
+use Rattle.expansion.specs.Expanded.{ClassZero}
 use Rattle.expansion.specs.Proofs.Outcome.{Outcome, refused, accepted, Any, bindOut, mapOut, atOk}
 
 abbrev Out : {A : Type 0} → (A → State → Type 0) → Result A → Type 0
@@ -41,6 +41,54 @@ none-some e = let z : _≡_ {A = ℕ} 0 1 = cc in omega arith
 -- Something is one thing.
 some-some : {A : Type 0} (a b : A) → _≡_ {A = Option A} (some a) (some b) → a ≡ b
 some-some a b e = cc
+
+-- ---- every node id below n
+
+abbrev pub IdsBelow : ℕ → List ℕ → Type 0
+IdsBelow n l = (i : ℕ) → List·Memᴰ i l → i < n
+
+abbrev pub EndBelow : ℕ → Option ℕ → Type 0
+EndBelow n end = (i : ℕ) → end ≡ some i → i < n
+
+pub record RouteBelow (n : ℕ) (r : Route) : Type 0 where
+  pub fromId : EndBelow n (r .fromId)
+  pub toId : EndBelow n (r .toId)
+
+pub record InstanceBelow (n : ℕ) (x : ProtoInstance) : Type 0 where
+  pub extraRoots : IdsBelow n (x .extraRoots)
+  pub routes : (r : Route) → List·Memᴰ r (x .routes) → RouteBelow n r
+  pub isMap : (a : Association) → List·Memᴰ a (x .isMap) → a .node < n
+
+-- no Proto statement
+abbrev pub TopStatement : ℕ → Statement → Type 0
+TopStatement n (Statement.Node i) = i < n
+TopStatement n (Statement.Proto p) = ⊥
+TopStatement n (Statement.ExternProto x) = Unit {0}
+TopStatement n (Statement.Route r) = RouteBelow n r
+TopStatement n (Statement.Other p) = Unit {0}
+
+-- "nodes hold only Route and ExternProto statements"
+abbrev pub NodeStatement : ℕ → Statement → Type 0
+NodeStatement n (Statement.Node i) = ⊥
+NodeStatement n (Statement.Proto p) = ⊥
+NodeStatement n (Statement.ExternProto x) = Unit {0}
+NodeStatement n (Statement.Route r) = RouteBelow n r
+NodeStatement n (Statement.Other p) = ⊥
+
+-- no origin Proto
+abbrev pub NotProto : NodeOrigin → Type 0
+NotProto NodeOrigin.Builtin = Unit {0}
+NotProto (NodeOrigin.Proto p) = ⊥
+NotProto (NodeOrigin.ExternProto x) = Unit {0}
+NotProto NodeOrigin.Unknown = Unit {0}
+
+-- a node of an output with n nodes
+pub record OutputNode (n : ℕ) (x : Node) : Type 0 where
+  pub origin : NotProto (x .origin)
+  pub fields : (f : Field) → List·Memᴰ f (x .fields) → IdsBelow n (bindingIds (f .binding))
+  pub interface : (d : InterfaceDecl) → List·Memᴰ d (x .interface) → IdsBelow n (optionIds (d .value)) × ClassZero d
+  pub statements : (s : Statement) → List·Memᴰ s (x .statements) → NodeStatement n s
+  pub instance : (r : ProtoInstance) → x .instance ≡ some r → InstanceBelow n r
 
 -- ---- more nodes do no harm
 

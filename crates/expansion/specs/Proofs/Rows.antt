@@ -24,7 +24,8 @@ use Rattle.expansion.specs.PlainCopy.{blank, addNode, reserveIf, reserve
 use Rattle.expansion.specs.Instances.{pushScope, openScope, takeDefault, cloneOption, interfaceValue, store, values, Body, addEntry, place, bodyStatement, rootOf, associationsOf, nestedRoots, nestedRoutes, withInstance, update, recordInstance, instantiate}
 use Rattle.expansion.specs.Copy.{copyNode, mappedOr, copy}
 use Rattle.expansion.specs.Expand.{statement, rootEnv, statements}
-use Rattle.expansion.specs.Expanded.{sumOf, fieldRows, interfaceRows, instanceRows, contentRows, nodeRows, externRows, Refusal, four, five, six, seven, eight, nine, ten}
+use Rattle.expansion.specs.Outputs.{sumOf, fieldRows, interfaceRows, instanceRows, contentRows, nodeRows, externRows}
+use Rattle.expansion.specs.Expanded.{Refusal, four, five, six, seven, eight, nine, ten}
 use Rattle.expansion.specs.Proofs.Outcome.{Outcome, refused, accepted, bindOut, mapOut}
 
 abbrev Out : {A : Type 0} → (A → State → Type 0) → Result A → Type 0
