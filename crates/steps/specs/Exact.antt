@@ -7,8 +7,10 @@ use Prim.Native.Nat.{ℕ, zero, suc, _+_, _<_}
 use native.Mathlib.Nat.{le-trans}
 use native.Mathlib.Omega.{arith}
 use lib.ListN.{length, length-append}
-use Rattle.steps.specs.Lists.{Nodup, nodup-append, fiber, fiber-in, fiber-out, fiber-nodup, fiber-sum}
-use Rattle.steps.specs.Steps.{copyId, copies, copies-map, Graph, Plain, Instance, Reached, start, step, ReachedIn, World, addMapped, addPlain, addDefault, addBody, firstWorld, Mapped, Listed, Opener, count, Task, Run, mappedStep, plainStep, instanceStep, noAction, thenCopy, thenDefault, WholeRun}
+use Rattle.steps.specs.Lists.{Nodup}
+use Rattle.steps.specs.ListLaws.{nodup-append, fiber, fiber-in, fiber-out, fiber-nodup, fiber-sum}
+use Rattle.steps.specs.Steps.{copyId, copies, Graph, Plain, Instance, Reached, start, step, ReachedIn, World, addMapped, addPlain, addDefault, addBody, firstWorld, Mapped, Listed, Opener, count, Task, Run, mappedStep, plainStep, instanceStep, noAction, thenCopy, thenDefault, WholeRun}
+use Rattle.steps.specs.Laws.{copies-map}
 use Rattle.steps.specs.Sums.{oneIf, Total, bodies, NoLoop, Exact}
 use Rattle.steps.specs.Gain.{entryAt, Extends, OpenAs, Complete, Opened, Source, ownScope, openedScope, Copied, numberOf, entryOf, idsOf, copied, extends-trans, extends-open, open-up, open-new}
 

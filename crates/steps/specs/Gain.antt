@@ -8,7 +8,8 @@ use native.Mathlib.Decide.{decLt}
 use native.Mathlib.Omega.{arith}
 use lib.ListN.{length, getD, length-append, List·getD-append}
 use lib.Seq.{getD-append-seam}
-use Rattle.steps.specs.Steps.{instanceNode, copies, copies-map, Graph, Plain, Instance, Reached, start, step, ReachedIn, World, addMapped, addPlain, addDefault, addBody, Mapped, Listed, Opener, count, Task, one, all, Run, mappedStep, plainStep, instanceStep, noAction, thenCopy, thenDefault}
+use Rattle.steps.specs.Steps.{instanceNode, copies, Graph, Plain, Instance, Reached, start, step, ReachedIn, World, addMapped, addPlain, addDefault, addBody, Mapped, Listed, Opener, count, Task, one, all, Run, mappedStep, plainStep, instanceStep, noAction, thenCopy, thenDefault}
+use Rattle.steps.specs.Laws.{copies-map}
 use Rattle.steps.specs.Sums.{entry}
 
 -- What holds of x holds of every element of the list with x alone.

@@ -5,7 +5,8 @@ use mathlib.Core.Option.{Option, none, some}
 use Prim.Native.Nat.{ℕ, suc}
 use Rattle.ast.specs.Ast.{FieldValue, FieldBinding, Field, InterfaceDecl, Node, ProtoDecl}
 use Rattle.picks.specs.Picks.{Pick}
-use Rattle.steps.specs.Steps.{Action, copyId, openDefault, copies, copies-map}
+use Rattle.steps.specs.Steps.{Action, copyId, openDefault, copies}
+use Rattle.steps.specs.Laws.{copies-map}
 use Rattle.expansion.specs.Input.{Input, protoOf, lastField}
 use Rattle.expansion.specs.Scopes.{Scope, documentOf}
 use Rattle.expansion.specs.Ids.{bindingIds, flat}

@@ -6,7 +6,8 @@ use native.Mathlib.Omega.{arith}
 use lib.ListN.{length, length-map}
 use Rattle.ast.specs.Ast.{Statement}
 use Rattle.steps.specs.Lists.{Nodup}
-use Rattle.steps.specs.Steps.{Plain, Instance, ReachedIn, WholeRun, opened-all}
+use Rattle.steps.specs.Steps.{Plain, Instance, ReachedIn, WholeRun}
+use Rattle.steps.specs.Laws.{opened-all}
 use Rattle.steps.specs.Steps
 use Rattle.steps.specs.Unique.{run-unique}
 use Rattle.steps.specs.Sums.{Exact}

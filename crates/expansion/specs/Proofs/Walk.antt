@@ -12,7 +12,8 @@ use Rattle.ast.specs.Ast.{NodeOrigin, FieldData, FieldValue, FieldBinding, Fiel
 use Rattle.ast.specs.Choice.{choose, andThen}
 use Rattle.ast.specs.Lookups.{externProtoAt}
 use Rattle.picks.specs.Picks.{Pick}
-use Rattle.steps.specs.Steps.{Action, copyId, addMapped, addPlain, addDefault, addBody, Mapped, Task, one, all, Run, mappedStep, plainStep, instanceStep, noAction, thenCopy, thenDefault, WholeRun, append-run}
+use Rattle.steps.specs.Steps.{Action, copyId, addMapped, addPlain, addDefault, addBody, Mapped, Task, one, all, Run, mappedStep, plainStep, instanceStep, noAction, thenCopy, thenDefault, WholeRun}
+use Rattle.steps.specs.Laws.{append-run}
 use Rattle.steps.specs.Steps
 use Rattle.expansion.specs.Input.{Input, docs, protoOf, lastField}
 use Rattle.expansion.specs.Scopes.{Scope, isBody}
