@@ -1,8 +1,8 @@
 -- Demand 3 of an accepted expansion, sentence by sentence, and what else holds of every one.
 use mathlib.Core.Path.{_≡_}
 use mathlib.Core.Logic.{_↔_}
-use mathlib.Core.List.{List, [], _∷_, List·Memᴰ}
-use mathlib.Core.Option.{Option, none, some}
+use mathlib.Core.List.{[], _∷_, List·Memᴰ}
+use mathlib.Core.Option.{none, some}
 use Prim.Native.Nat.{ℕ, _≤_, _<_}
 use lib.ListN.{length}
 use Rattle.ast.specs.Ast.{NodeOrigin, InterfaceDecl, Statement, Node, ExternProtoDecl, Document}

@@ -1,7 +1,7 @@
 -- The steps of an expansion as a relation between worlds, over any graph of scopes.
 -- Nothing here knows of sheets, fields, charges or depth.
-use mathlib.Core.Path.{_≡_, refl, ap, sym, _∙_}
-use mathlib.Core.List.{List, [], _∷_, _++_, map, List·Memᴰ, append-assoc, append-nil}
+use mathlib.Core.Path.{_≡_}
+use mathlib.Core.List.{List, [], _∷_, _++_, map, List·Memᴰ}
 use mathlib.Core.Bool.{Bool, true, false}
 use Prim.Native.Nat.{ℕ}
 use lib.ListN.{length}

@@ -1,10 +1,9 @@
 -- What is to hold of the world after a whole run: the ledger, and sums over the scopes.
-use mathlib.Core.Path.{_≡_, sym, _∙_}
+use mathlib.Core.Path.{_≡_}
 use mathlib.Core.Logic.{_↔_}
 use mathlib.Core.List.{List, [], _∷_, List·Memᴰ}
 use mathlib.Core.Bool.{Bool, true, false}
 use Prim.Native.Nat.{ℕ, _+_, _<_}
-use native.Mathlib.Nat.{le-antisymm}
 use lib.ListN.{length, getD}
 use Rattle.steps.specs.Lists.{Nodup, sumTo}
 use Rattle.steps.specs.Steps.{Graph, Plain, Instance, ReachedIn, ReachesItself, World, Listed}

@@ -1,11 +1,11 @@
 -- Every node id of an output whose parts are in order is below the node count.
-use mathlib.Core.Path.{_≡_, refl, ap, sym, _∙_, subst}
+use mathlib.Core.Path.{_≡_, refl, subst}
 use mathlib.Core.Logic.{_⊎_, inl, inr}
 use mathlib.Core.List.{List, [], _∷_, _++_, map, List·Memᴰ, List·Memᴰ·head, List·Memᴰ·tail, List·Memᴰ·append-cases, List·Memᴰ·not-nil, List·Memᴰ·cases-cons, Memᴰ·of-map}
 use mathlib.Core.Option.{Option, none, some}
 use Prim.Native.Nat.{ℕ, _<_}
-use Rattle.ast.specs.Ast.{Field, InterfaceDecl, Route, Statement, Association, ProtoInstance, Node, ExternProtoDecl, Document}
-use Rattle.expansion.specs.Ids.{optionIds, bindingIds, flat}
+use Rattle.ast.specs.Ast.{InterfaceDecl, Route, Statement, Association, ProtoInstance, Node, ExternProtoDecl, Document}
+use Rattle.expansion.specs.Ids.{bindingIds, flat}
 use Rattle.expansion.specs.Outputs.{endIds, routeIds, idsOfStatement, idsOfInstance, idsOfInterface, idsOfNode, idsOf}
 use Rattle.expansion.specs.Proofs.Output.{IdsBelow, EndBelow, RouteBelow, InstanceBelow, TopStatement, NodeStatement, OutputNode}
 
