@@ -1,10 +1,10 @@
 -- Charges (document 01, Charges): "one each; the one that would make more than K gives 10".
 use mathlib.Core.Bool.{Bool, true, false}
 use mathlib.Core.List.{List, [], _∷_}
-use Prim.Native.Nat.{ℕ, suc}
+use Prim.Native.Nat.{suc}
 use lib.Dec.{ltb}
 use Rattle.expansion.specs.Input.{Input}
-use Rattle.expansion.specs.State.{State, Result, refusal, ok, Comp, bindR, _>>=_, _>>_, ret}
+use Rattle.expansion.specs.State.{State, refusal, ok, Comp, _>>=_, _>>_, ret}
 
 abbrev pub oneMore : State → State
 oneMore st = record { world = st .world; nodes = st .nodes; externProtos = st .externProtos; externMap = st .externMap; isMap = st .isMap; charges = suc (st .charges) }

@@ -1,13 +1,12 @@
 -- Copy (document 01, Copy: `copy`): "copying a node, instantiating and copying a value call each other".
 -- Each function takes the copier of one depth less; only copy recurses.
-use mathlib.Core.List.{List, [], _∷_}
 use mathlib.Core.Option.{Option, none, some}
 use Prim.Native.Nat.{ℕ, zero, suc}
 use Rattle.ast.specs.Ast.{Node}
 use Rattle.ast.specs.Lookups.{nodeAt, protoAt}
 use Rattle.picks.specs.Picks.{Pick}
 use Rattle.expansion.specs.Input.{Input, docs, protoOf}
-use Rattle.expansion.specs.State.{State, Result, Comp, ret, fail, lookup}
+use Rattle.expansion.specs.State.{Comp, ret, fail, lookup}
 use Rattle.expansion.specs.Values.{Env, src, Copier}
 use Rattle.expansion.specs.PlainCopy.{copyPlain}
 use Rattle.expansion.specs.Instances.{instantiate}

@@ -1,12 +1,12 @@
 -- Expand over parsed documents (document 01, What each operation says no to, from refusal 4 on).
-use mathlib.Core.List.{List, [], _∷_, map}
+use mathlib.Core.List.{List, [], map}
 use mathlib.Core.Option.{Option, none, some}
 use Prim.Native.Nat.{ℕ}
 use lib.ListN.{length, getD}
 use Rattle.ast.specs.Ast.{Statement, Document}
 use Rattle.expansion.specs.Input.{Input}
 use Rattle.expansion.specs.Scopes.{Scope, documentOf}
-use Rattle.expansion.specs.State.{World, State, Result, refusal, ok, Comp, bindR, _>>=_, _>>_, ret, mapM, start}
+use Rattle.expansion.specs.State.{State, Result, refusal, ok, Comp, _>>=_, _>>_, ret, mapM, start}
 use Rattle.expansion.specs.Charges.{charge, paid}
 use Rattle.expansion.specs.Values.{Env, Copier}
 use Rattle.expansion.specs.PlainCopy.{copyRoute, copyExtern, somes}

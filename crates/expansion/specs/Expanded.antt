@@ -1,105 +1,42 @@
 -- Demand 3 of an accepted expansion, sentence by sentence, and what else holds of every one.
 use mathlib.Core.Path.{_≡_}
 use mathlib.Core.Logic.{_↔_}
-use mathlib.Core.List.{List, [], _∷_, List·Memᴰ}
-use mathlib.Core.Option.{Option, none, some}
-use Prim.Native.Nat.{ℕ, suc, _+_, _≤_, _<_}
+use mathlib.Core.List.{[], _∷_, List·Memᴰ}
+use mathlib.Core.Option.{none, some}
+use Prim.Native.Nat.{ℕ, _≤_, _<_}
 use lib.ListN.{length}
-use Rattle.ast.specs.Ast.{NodeOrigin, FieldBinding, Field, InterfaceDecl, Route, Statement, Association, ProtoInstance, Node, ExternProtoDecl, Document}
+use Rattle.ast.specs.Ast.{NodeOrigin, InterfaceDecl, Statement, Node, ExternProtoDecl, Document}
 use Rattle.steps.specs.Lists.{Nodup}
 use Rattle.steps.specs.Steps.{Plain, Instance, ReachedIn, World, WholeRun, opened}
 use Rattle.steps.specs.Sums.{entry, Total, bodies, NoLoop}
 use Rattle.expansion.specs.Input.{Input}
 use Rattle.expansion.specs.Scopes.{Scope, documentOf}
-use Rattle.expansion.specs.Ids.{optionIds, bindingIds}
 use Rattle.expansion.specs.Expand.{LedgerEntry, Expansion}
 use Rattle.expansion.specs.Reached.{graph}
+use Rattle.expansion.specs.Outputs.{idsOf, rows}
 
--- ---- every node id below n
+-- "An expanded document is a root sheet without kind 7, Proto statements or origin Proto"
+pub record NoProto (d : Document) : Type 0 where
+  pub protos : d .protos ≡ []
+  pub statements : (p : ℕ) → List·Memᴰ (Statement.Proto p) (d .statements) → ⊥
+  pub nodeStatements : (x : Node) → List·Memᴰ x (d .nodes) → (p : ℕ) → List·Memᴰ (Statement.Proto p) (x .statements) → ⊥
+  pub origins : (x : Node) → List·Memᴰ x (d .nodes) → (p : ℕ) → x .origin ≡ NodeOrigin.Proto p → ⊥
 
-abbrev pub IdsBelow : ℕ → List ℕ → Type 0
-IdsBelow n l = (i : ℕ) → List·Memᴰ i l → i < n
+abbrev pub RouteOrExtern : Statement → Type 0
+RouteOrExtern (Statement.Node i) = ⊥
+RouteOrExtern (Statement.Proto p) = ⊥
+RouteOrExtern (Statement.ExternProto x) = Unit {0}
+RouteOrExtern (Statement.Route r) = Unit {0}
+RouteOrExtern (Statement.Other p) = ⊥
 
-abbrev pub EndBelow : ℕ → Option ℕ → Type 0
-EndBelow n end = (i : ℕ) → end ≡ some i → i < n
-
-pub record RouteBelow (n : ℕ) (r : Route) : Type 0 where
-  pub fromId : EndBelow n (r .fromId)
-  pub toId : EndBelow n (r .toId)
-
-pub record InstanceBelow (n : ℕ) (x : ProtoInstance) : Type 0 where
-  pub extraRoots : IdsBelow n (x .extraRoots)
-  pub routes : (r : Route) → List·Memᴰ r (x .routes) → RouteBelow n r
-  pub isMap : (a : Association) → List·Memᴰ a (x .isMap) → a .node < n
-
--- ---- no PROTO left, and the form of an expanded document
-
--- no Proto statement
-abbrev pub TopStatement : ℕ → Statement → Type 0
-TopStatement n (Statement.Node i) = i < n
-TopStatement n (Statement.Proto p) = ⊥
-TopStatement n (Statement.ExternProto x) = Unit {0}
-TopStatement n (Statement.Route r) = RouteBelow n r
-TopStatement n (Statement.Other p) = Unit {0}
-
--- "nodes hold only Route and ExternProto statements"
-abbrev pub NodeStatement : ℕ → Statement → Type 0
-NodeStatement n (Statement.Node i) = ⊥
-NodeStatement n (Statement.Proto p) = ⊥
-NodeStatement n (Statement.ExternProto x) = Unit {0}
-NodeStatement n (Statement.Route r) = RouteBelow n r
-NodeStatement n (Statement.Other p) = ⊥
-
--- no origin Proto
-abbrev pub NotProto : NodeOrigin → Type 0
-NotProto NodeOrigin.Builtin = Unit {0}
-NotProto (NodeOrigin.Proto p) = ⊥
-NotProto (NodeOrigin.ExternProto x) = Unit {0}
-NotProto NodeOrigin.Unknown = Unit {0}
-
--- "interfaces with an IS have class 0"
 abbrev pub ClassZero : InterfaceDecl → Type 0
 ClassZero d = (target : ℕ) → d .is ≡ some target → d .value ≡ none
 
--- a node of an output with n nodes
-pub record OutputNode (n : ℕ) (x : Node) : Type 0 where
-  pub origin : NotProto (x .origin)
-  pub fields : (f : Field) → List·Memᴰ f (x .fields) → IdsBelow n (bindingIds (f .binding))
-  pub interface : (d : InterfaceDecl) → List·Memᴰ d (x .interface) → IdsBelow n (optionIds (d .value)) × ClassZero d
-  pub statements : (s : Statement) → List·Memᴰ s (x .statements) → NodeStatement n s
-  pub instance : (r : ProtoInstance) → x .instance ≡ some r → InstanceBelow n r
-
--- ---- rows
-
-abbrev pub sumOf : {A : Type 0} → (A → ℕ) → List A → ℕ
-sumOf g [] = 0
-sumOf g (x ∷ l) = g x + sumOf g l
-
-abbrev pub fieldRows : Field → ℕ
-fieldRows f = suc (length (bindingIds (f .binding)))
-
-abbrev pub interfaceRows : InterfaceDecl → ℕ
-interfaceRows d = suc (length (optionIds (d .value)))
-
-abbrev pub instanceRows : Option ProtoInstance → ℕ
-instanceRows none = 0
-instanceRows (some x) = suc (length (x .extraRoots) + length (x .routes) + length (x .isMap))
-
--- the rows of a node below its own
-unfoldable pub contentRows : Node → ℕ
-contentRows x = sumOf fieldRows (x .fields) + sumOf interfaceRows (x .interface) + length (x .statements) + length (x .bodyOrder) + instanceRows (x .instance)
-
-abbrev pub nodeRows : Node → ℕ
-nodeRows x = suc (contentRows x)
-
-abbrev pub externRows : ExternProtoDecl → ℕ
-externRows x = suc (sumOf interfaceRows (x .interface) + length (x .urls))
-
--- the rows of an output: "A document is row 1; nodes; protos; externs; row 11; top statements."
-abbrev pub rows : Document → ℕ
-rows d = 1 + sumOf nodeRows (d .nodes) + sumOf externRows (d .externProtos) + 1 + length (d .statements)
-
--- ---- demand 3
+-- "whose nodes hold only Route and ExternProto statements and whose interfaces with an IS have class 0"; "An extern is row 8, interfaces of class 0, urls."
+pub record Form (d : Document) : Type 0 where
+  pub statements : (x : Node) → List·Memᴰ x (d .nodes) → (s : Statement) → List·Memᴰ s (x .statements) → RouteOrExtern s
+  pub interface : (x : Node) → List·Memᴰ x (d .nodes) → (i : InterfaceDecl) → List·Memᴰ i (x .interface) → ClassZero i
+  pub externs : (x : ExternProtoDecl) → List·Memᴰ x (d .externProtos) → (i : InterfaceDecl) → List·Memᴰ i (x .interface) → i .value ≡ none
 
 -- the entry of scope number s of an expansion
 abbrev pub scopeAt : Input → Expansion → ℕ → Scope
@@ -107,13 +44,11 @@ scopeAt I e s = entry (graph I) (e .scopes) s
 
 pub record Expanded (I : Input) (e : Expansion) : Type 0 where
   -- "No PROTO and no instance, as document 01 defines them, is left in its output."
-  -- No kind 7 row and no Proto statement; no node of origin Proto, and none whose ledger source is an instance.
-  pub protos : e .document .protos ≡ []
-  pub statements : (s : Statement) → List·Memᴰ s (e .document .statements) → TopStatement (e .nodeCount) s
-  pub nodes : (x : Node) → List·Memᴰ x (e .document .nodes) → OutputNode (e .nodeCount) x
-  pub sources : (x : LedgerEntry) → List·Memᴰ x (e .ledger) → Instance (graph I) (scopeAt I e (x .scope)) (x .source) → ⊥
+  -- An instance is left by a node of origin Proto, or by one whose ledger source is an instance.
+  pub noProto : NoProto (e .document)
+  pub noInstance : (x : LedgerEntry) → List·Memᴰ x (e .ledger) → Instance (graph I) (scopeAt I e (x .scope)) (x .source) → ⊥
   -- "Every node id of the output is below the node count, and that count is at most the node limit."
-  -- The ids are in the two lines above: Node statements, id rows, associations, route ends.
+  pub ids : (i : ℕ) → List·Memᴰ i (idsOf (e .document)) → i < e .nodeCount
   pub nodeCount : e .nodeCount ≡ length (e .document .nodes)
   pub nodeLimit : e .nodeCount ≤ I .limits .maxNodes
   -- "the scope list has one entry for each scope that these steps open, and no other"
@@ -132,11 +67,11 @@ pub record Expanded (I : Input) (e : Expansion) : Type 0 where
   pub ledgerSize : length (e .ledger) ≡ e .nodeCount
   -- "whenever no instance reached in any of these scopes reaches itself, the body scopes opened = the sum, over all these scopes, of the instances reached in each"
   pub pods : NoLoop (graph I) (e .scopes) → Total (graph I) (Instance (graph I)) (e .scopes) (bodies (graph I) (e .scopes))
-  -- Beside the demand: "In every accepted expansion rows ≤ charges ≤ K"; a scope has a charge of its own; and an extern's interfaces have no value, so that the output is an expanded document.
+  -- Beside the demand: "In every accepted expansion rows ≤ charges ≤ K"; a scope has a charge of its own; the output is an expanded document.
   pub rowsPaid : rows (e .document) ≤ e .charges
   pub scopesPaid : e .scopeCount ≤ e .charges
   pub chargeLimit : e .charges ≤ I .limits .maxRows
-  pub externs : (x : ExternProtoDecl) → List·Memᴰ x (e .document .externProtos) → (d : InterfaceDecl) → List·Memᴰ d (x .interface) → d .value ≡ none
+  pub form : Form (e .document)
 
 -- ---- refusals
 

@@ -9,7 +9,7 @@ use Rattle.ast.specs.Ast.{InterfaceDecl, ExternProtoDecl}
 use Rattle.ast.specs.Choice.{choose}
 use Rattle.ast.specs.Lookups.{externProtoAt}
 use Rattle.expansion.specs.Input.{Input, docs}
-use Rattle.expansion.specs.State.{ExternEntry, State, Result, ok, Comp, bindR, _>>=_, _>>_, ret, fail}
+use Rattle.expansion.specs.State.{ExternEntry, State, ok, Comp, _>>=_, _>>_, ret, fail}
 use Rattle.expansion.specs.Charges.{charge, chargeEach}
 use Rattle.expansion.specs.Values.{Env, src}
 

@@ -1,11 +1,11 @@
 -- Flights to prove (document 01): ten inputs and their answers, one equation by computation.
 use mathlib.Core.Path.{_≡_, refl}
 use mathlib.Core.List.{List, [], _∷_, map}
-use mathlib.Core.Option.{Option, none, some}
+use mathlib.Core.Option.{none, some}
 use Prim.Native.Nat.{ℕ}
-use Rattle.ast.specs.Ast.{Statement, Document}
+use Rattle.ast.specs.Ast.{Statement}
 use Rattle.expansion.specs.Input.{Input}
-use Rattle.expansion.specs.Expand.{Answer, expand}
+use Rattle.expansion.specs.Expand.{expand}
 use Rattle.expansion.specs.Scenes.{ids, field, interface, leaf, group, instanceOf, proto, document, limits, usual, scene, counts, seen, computed}
 
 -- "Instance I, its body one plain node, whose given field holds plain P, whose child is I": I is node 0, P node 1; s is what the top mentions

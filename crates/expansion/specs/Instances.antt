@@ -10,7 +10,7 @@ use Rattle.ast.specs.Choice.{choose, andThen, orElse}
 use Rattle.picks.specs.Picks.{Pick}
 use Rattle.expansion.specs.Input.{Input, lastField}
 use Rattle.expansion.specs.Scopes.{Scope}
-use Rattle.expansion.specs.State.{World, State, Result, refusal, ok, Comp, bindR, _>>=_, _>>_, ret, fail, foldM, withWorld, withNodes}
+use Rattle.expansion.specs.State.{State, refusal, ok, Comp, _>>=_, _>>_, ret, fail, foldM, withWorld, withNodes}
 use Rattle.expansion.specs.Charges.{charge, paid}
 use Rattle.expansion.specs.Values.{Values, valueOf, Env, Copier, value, clone}
 use Rattle.expansion.specs.Externs.{externProto}

@@ -13,5 +13,6 @@ pub mod Scenes
 pub mod Flights
 pub mod Readings
 pub mod Reached
+pub mod Outputs
 pub mod Expanded
 pub mod Proofs

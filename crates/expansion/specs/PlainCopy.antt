@@ -8,7 +8,7 @@ use lib.Dec.{ltb}
 use Rattle.ast.specs.Ast.{NodeOrigin, BodyElement, FieldValue, FieldBinding, Field, InterfaceDecl, Route, Statement, Association, Node}
 use Rattle.ast.specs.Choice.{andThen, mapO}
 use Rattle.expansion.specs.Input.{Input}
-use Rattle.expansion.specs.State.{World, State, Result, ok, Comp, bindR, _>>=_, _>>_, ret, fail, mapM, withWorld, withNodes, lookup}
+use Rattle.expansion.specs.State.{World, State, ok, Comp, _>>=_, _>>_, ret, fail, mapM, withWorld, withNodes, lookup}
 use Rattle.expansion.specs.Charges.{charge, chargeEach, paid}
 use Rattle.expansion.specs.Values.{Env, Copier, value, clone, valueOf}
 use Rattle.expansion.specs.Externs.{externProto}

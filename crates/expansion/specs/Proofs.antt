@@ -3,5 +3,6 @@ pub mod Outcome
 pub mod Walk
 pub mod Agrees
 pub mod Output
+pub mod Ids
 pub mod Rows
 pub mod Demand

@@ -4,13 +4,11 @@ use mathlib.Core.Path.{_≡_, refl}
 use mathlib.Core.List.{List, [], _∷_, map}
 use mathlib.Core.Option.{Option, none, some}
 use Prim.Native.Nat.{ℕ}
-use lib.ListN.{length}
-use Rattle.ast.specs.Ast.{NodeOrigin, BodyElement, FieldValue, FieldBinding, Field, InterfaceDecl, Statement, Association, ProtoInstance, Node, ExternProtoDecl, Document}
-use Rattle.ast.specs.Choice.{mapO}
+use Rattle.ast.specs.Ast.{NodeOrigin, BodyElement, FieldBinding, Field, InterfaceDecl, Statement, ProtoInstance, Node}
 use Rattle.expansion.specs.Input.{Input}
 use Rattle.expansion.specs.Scopes.{scopeEntry}
-use Rattle.expansion.specs.Expand.{LedgerEntry, Expansion, Answer, expand}
-use Rattle.expansion.specs.Scenes.{ids, number, field, fieldIs, interface, interfaceIs, route, node, leaf, group, plain, instanceOf, proto, extern, document, limits, usual, scene, scattered, counts, seen, computed}
+use Rattle.expansion.specs.Expand.{expand}
+use Rattle.expansion.specs.Scenes.{ids, number, field, fieldIs, interface, interfaceIs, route, node, leaf, group, plain, instanceOf, proto, document, limits, usual, scene, scattered, counts, seen, computed}
 
 abbrev outputNodes : Input → Option (List Node)
 outputNodes I = seen (λ e. e .document .nodes) (expand I)
@@ -57,7 +55,7 @@ depth-before-proto : (counts (expand (protoless 0 0)) ≡ (9 ∷ 0 ∷ 0 ∷ [])
 unfolding computed
 depth-before-proto = (refl, refl)
 
--- a plain node of an extern that is not there, by N and K
+-- a plain node of an extern that is not there, by N and K; 11: "An extern is looked up (4) before it is charged"
 abbrev externless : ℕ → ℕ → Input
 externless n k = scene (limits n 1 k) (node (NodeOrigin.ExternProto 2) [] ∷ []) [] (Statement.Node 0 ∷ [])
 

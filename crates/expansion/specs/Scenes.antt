@@ -1,10 +1,9 @@
 -- Small scenes for worked examples, and an answer in numbers.
 use mathlib.Core.Bool.{Bool, true, false}
-use mathlib.Core.List.{List, [], _∷_, map}
+use mathlib.Core.List.{List, [], _∷_}
 use mathlib.Core.Option.{Option, none, some}
 use Prim.Native.Nat.{ℕ, _+_}
-use lib.ListN.{length}
-use Rattle.ast.specs.Ast.{NodeOrigin, BodyElement, FieldData, FieldValue, FieldBinding, Field, InterfaceDecl, Route, Statement, Node, ProtoDecl, ExternProtoDecl, Url, Document, File}
+use Rattle.ast.specs.Ast.{NodeOrigin, BodyElement, FieldData, FieldValue, FieldBinding, Field, InterfaceDecl, Route, Statement, Node, ProtoDecl, ExternProtoDecl, Url, Document}
 use Rattle.ast.specs.Lookups.{nodeAt, protoAt, externProtoAt}
 use Rattle.picks.specs.Picks.{firstFile, topProtos, firstNamed, pickIn, pickUrl, member, remember, pickUrls, picksFrom, picks}
 use Rattle.expansion.specs.Input.{Limits, Input, pickOf, protoOf, lastField}

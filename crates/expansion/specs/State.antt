@@ -58,6 +58,7 @@ pub data Result (A : Type 0) : Type 0 where
   refusal : ℕ → ℕ → ℕ → Result A
   ok : A → State → Result A
 
+-- a step with an answer in A
 abbrev pub Comp : Type 0 → Type 0
 Comp A = State → Result A
 
@@ -65,6 +66,7 @@ unfoldable pub bindR : {A B : Type 0} → Result A → (A → Comp B) → Result
 bindR (refusal c d i) k = refusal c d i
 bindR (ok a st) k = k a st
 
+-- one step, then the next; a refusal ends all
 infixl 1 _>>=_ _>>_
 abbrev pub _>>=_ : {A B : Type 0} → Comp A → (A → Comp B) → Comp B
 _>>=_ m k = λ st. bindR (m st) k

@@ -8,7 +8,7 @@ use Rattle.ast.specs.Choice.{choose}
 use Rattle.expansion.specs.Input.{Input}
 use Rattle.expansion.specs.Scopes.{Scope, documentOf}
 use Rattle.expansion.specs.Ids.{dataIds}
-use Rattle.expansion.specs.State.{Comp, bindR, _>>=_, _>>_, ret, mapM}
+use Rattle.expansion.specs.State.{Comp, _>>=_, _>>_, ret, mapM}
 use Rattle.expansion.specs.Charges.{chargeEach, paid}
 
 -- the values of an instance's interfaces by name, newest first

@@ -1,16 +1,18 @@
 -- What holds of the world after a whole run, from the root's scope open and nothing mapped.
-use mathlib.Core.Path.{_≡_, refl, ap, sym, _∙_, subst}
+use mathlib.Core.Path.{_≡_, refl, ap, sym, subst}
 use mathlib.Core.Logic.{_⊎_, inl, inr, _↔_}
 use mathlib.Core.List.{List, [], _∷_, _++_, map, List·Memᴰ, List·Memᴰ·head, List·Memᴰ·tail, List·Memᴰ·cases-cons, List·Memᴰ·append-cases, Memᴰ·append-left, List·Memᴰ·not-nil}
-use mathlib.Core.Bool.{Bool, true, false}
-use Prim.Native.Nat.{ℕ, zero, suc, _+_, _≤_, _<_}
-use native.Mathlib.Nat.{le-refl, le-trans}
+use mathlib.Core.Bool.{true, false}
+use Prim.Native.Nat.{ℕ, zero, suc, _+_, _<_}
+use native.Mathlib.Nat.{le-trans}
 use native.Mathlib.Omega.{arith}
-use lib.ListN.{length, getD, length-append}
-use Rattle.steps.specs.Lists.{Nodup, nodup-append, sumTo, fiber, fiber-in, fiber-out, fiber-nodup, fiber-sum}
-use Rattle.steps.specs.Steps.{instanceNode, copyId, copies, copies-map, Graph, Plain, Instance, Reached, start, step, ReachedIn, ReachesItself, World, addMapped, addPlain, addDefault, addBody, firstWorld, Mapped, Listed, Opener, count, Task, one, all, Run, mappedStep, plainStep, instanceStep, noAction, thenCopy, thenDefault, WholeRun}
-use Rattle.steps.specs.Sums.{oneIf, entry, Count, Total, bodies, NoLoop, Exact}
-use Rattle.steps.specs.Gain.{single, entryAt, Extends, OpenAs, Complete, Opened, Gain, Source, ownScope, openedScope, Copied, numberOf, entryOf, idsOf, copied, extends-trans, extends-open, open-up, open-new, count-open}
+use lib.ListN.{length, length-append}
+use Rattle.steps.specs.Lists.{Nodup}
+use Rattle.steps.specs.ListLaws.{nodup-append, fiber, fiber-in, fiber-out, fiber-nodup, fiber-sum}
+use Rattle.steps.specs.Steps.{copyId, copies, Graph, Plain, Instance, Reached, start, step, ReachedIn, World, addMapped, addPlain, addDefault, addBody, firstWorld, Mapped, Listed, Opener, count, Task, Run, mappedStep, plainStep, instanceStep, noAction, thenCopy, thenDefault, WholeRun}
+use Rattle.steps.specs.Laws.{copies-map}
+use Rattle.steps.specs.Sums.{oneIf, Total, bodies, NoLoop, Exact}
+use Rattle.steps.specs.Gain.{entryAt, Extends, OpenAs, Complete, Opened, Source, ownScope, openedScope, Copied, numberOf, entryOf, idsOf, copied, extends-trans, extends-open, open-up, open-new}
 
 module _ (G : Graph) (agrees : (e : G .Scope) (j : ℕ) → copies (G .actions e j) ≡ G .nexts e j) where
   abbrev World′ : Type 0

@@ -1,14 +1,15 @@
 -- What a run does to a world, by induction on the run.
 use mathlib.Core.Path.{_≡_, refl, ap, sym, _∙_, subst}
 use mathlib.Core.Logic.{_⊎_, inl, inr}
-use mathlib.Core.List.{List, [], _∷_, _++_, map, List·Memᴰ, List·Memᴰ·head, List·Memᴰ·tail, List·Memᴰ·cases-cons, List·Memᴰ·not-nil, Memᴰ·append-left, Memᴰ·append-right}
-use Prim.Native.Nat.{ℕ, zero, suc, _+_, _≤_, _<_}
+use mathlib.Core.List.{List, [], _∷_, _++_, List·Memᴰ, List·Memᴰ·head, List·Memᴰ·tail, List·Memᴰ·cases-cons, List·Memᴰ·not-nil, Memᴰ·append-left, Memᴰ·append-right}
+use Prim.Native.Nat.{ℕ, suc, _+_, _≤_, _<_}
 use native.Mathlib.Nat.{le-refl, le-trans}
 use native.Mathlib.Decide.{decLt}
 use native.Mathlib.Omega.{arith}
 use lib.ListN.{length, getD, length-append, List·getD-append}
 use lib.Seq.{getD-append-seam}
-use Rattle.steps.specs.Steps.{instanceNode, Action, copyId, openDefault, copies, copies-map, Graph, Plain, Instance, Reached, start, step, ReachedIn, World, addMapped, addPlain, addDefault, addBody, Mapped, Listed, Opener, count, Task, one, all, Run, mappedStep, plainStep, instanceStep, noAction, thenCopy, thenDefault}
+use Rattle.steps.specs.Steps.{instanceNode, copies, Graph, Plain, Instance, Reached, start, step, ReachedIn, World, addMapped, addPlain, addDefault, addBody, Mapped, Listed, Opener, count, Task, one, all, Run, mappedStep, plainStep, instanceStep, noAction, thenCopy, thenDefault}
+use Rattle.steps.specs.Laws.{copies-map}
 use Rattle.steps.specs.Sums.{entry}
 
 -- What holds of x holds of every element of the list with x alone.

@@ -1,12 +1,11 @@
 -- What is to hold of the world after a whole run: the ledger, and sums over the scopes.
-use mathlib.Core.Path.{_≡_, refl, sym, _∙_}
+use mathlib.Core.Path.{_≡_}
 use mathlib.Core.Logic.{_↔_}
 use mathlib.Core.List.{List, [], _∷_, List·Memᴰ}
 use mathlib.Core.Bool.{Bool, true, false}
 use Prim.Native.Nat.{ℕ, _+_, _<_}
-use native.Mathlib.Nat.{le-antisymm}
 use lib.ListN.{length, getD}
-use Rattle.steps.specs.Lists.{Nodup, nodup-length, sumTo, sum-same}
+use Rattle.steps.specs.Lists.{Nodup, sumTo}
 use Rattle.steps.specs.Steps.{Graph, Plain, Instance, ReachedIn, ReachesItself, World, Listed}
 
 abbrev pub oneIf : Bool → ℕ
@@ -45,12 +44,3 @@ module _ (G : Graph) where
     pub ledger : (s j : ℕ) → Listed w s j ↔ ((s < length (w .scopes)) × Plain G (entry (w .scopes) s) j × ReachedIn G (entry (w .scopes) s) j)
     pub nodes : Total (Plain G) (w .scopes) (length (w .ledger))
     pub pods : NoLoop (w .scopes) → Total (Instance G) (w .scopes) (bodies (w .scopes))
-
-  -- The number of ids reached in a scope is one.
-  pub count-unique : {P : G .Scope → ℕ → Type 0} {e : G .Scope} {k l : ℕ} → Count P e k → Count P e l → k ≡ l
-  count-unique a b =
-      sym (a .size) ∙ le-antisymm (nodup-length _ _ (a .once) (λ x m. b .exact x .1 (a .exact x .0 m))) (nodup-length _ _ (b .once) (λ x m. a .exact x .1 (b .exact x .0 m))) ∙ b .size
-
-  -- The sum over the scopes is one.
-  pub total-unique : {P : G .Scope → ℕ → Type 0} {scopes : List (G .Scope)} {n m : ℕ} → Total P scopes n → Total P scopes m → n ≡ m
-  total-unique {scopes = scopes} a b = a .total ∙ sum-same (length scopes) (a .each) (b .each) (λ s h. count-unique (a .counts s h) (b .counts s h)) ∙ sym (b .total)

@@ -1,9 +1,13 @@
--- The steps leave no choice.
+-- The steps leave no choice, and a sum over the scopes has one value.
 use mathlib.Core.Path.{_≡_, refl, ap, sym, _∙_, subst}
-use mathlib.Core.List.{List, [], _∷_, _++_, map, List·Memᴰ}
+use mathlib.Core.List.{List, [], _∷_, map}
 use Prim.Native.Nat.{ℕ}
 use native.Mathlib.Omega.{arith}
-use Rattle.steps.specs.Steps.{Kind, noNode, plainNode, instanceNode, Action, copyId, openDefault, Graph, Plain, World, addMapped, addPlain, addDefault, addBody, count, Mapped, Task, one, all, Run, mappedStep, plainStep, instanceStep, noAction, thenCopy, thenDefault}
+use native.Mathlib.Nat.{le-antisymm}
+use lib.ListN.{length}
+use Rattle.steps.specs.ListLaws.{nodup-length, sum-same}
+use Rattle.steps.specs.Sums.{Count, Total}
+use Rattle.steps.specs.Steps.{Kind, plainNode, instanceNode, Action, copyId, openDefault, Graph, Plain, World, addMapped, addPlain, addDefault, addBody, count, Mapped, Task, one, all, Run, mappedStep, plainStep, instanceStep, noAction, thenCopy, thenDefault}
 
 plain-not-instance : {S : Type 0} {k : Kind S} {b : ℕ → S} → k ≡ plainNode → k ≡ instanceNode b → ⊥
 plain-not-instance p q = let z : _≡_ {A = ℕ} 0 1 = cc in omega arith
@@ -67,3 +71,13 @@ run-unique (instanceStep b r rs un i tb eb rv r2 r3) = instance-ends b r rs i eb
 run-unique noAction = nothing-ends
 run-unique (thenCopy a b) = copy-ends (run-unique a) (run-unique b)
 run-unique (thenDefault b tb x y) = default-ends (run-unique x) (run-unique y)
+
+module _ (G : Graph) where
+  -- The number of ids reached in a scope is one.
+  pub count-unique : {P : G .Scope → ℕ → Type 0} {e : G .Scope} {k l : ℕ} → Count G P e k → Count G P e l → k ≡ l
+  count-unique a b =
+      sym (a .size) ∙ le-antisymm (nodup-length _ _ (a .once) (λ x m. b .exact x .1 (a .exact x .0 m))) (nodup-length _ _ (b .once) (λ x m. a .exact x .1 (b .exact x .0 m))) ∙ b .size
+
+  -- The sum over the scopes is one.
+  pub total-unique : {P : G .Scope → ℕ → Type 0} {scopes : List (G .Scope)} {n m : ℕ} → Total G P scopes n → Total G P scopes m → n ≡ m
+  total-unique {scopes = scopes} a b = a .total ∙ sum-same (length scopes) (a .each) (b .each) (λ s h. count-unique (a .counts s h) (b .counts s h)) ∙ sym (b .total)

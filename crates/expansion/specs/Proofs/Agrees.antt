@@ -1,11 +1,12 @@
 -- The order of the steps copies, of each node, the ids that Reached leads to.
-use mathlib.Core.Path.{_≡_, refl, ap, sym, _∙_}
-use mathlib.Core.List.{List, [], _∷_, _++_, map}
+use mathlib.Core.Path.{_≡_, refl, ap}
+use mathlib.Core.List.{List, [], _∷_, _++_}
 use mathlib.Core.Option.{Option, none, some}
 use Prim.Native.Nat.{ℕ, suc}
 use Rattle.ast.specs.Ast.{FieldValue, FieldBinding, Field, InterfaceDecl, Node, ProtoDecl}
 use Rattle.picks.specs.Picks.{Pick}
-use Rattle.steps.specs.Steps.{Action, copyId, openDefault, copies, copies-map}
+use Rattle.steps.specs.Steps.{Action, copyId, openDefault, copies}
+use Rattle.steps.specs.Laws.{copies-map}
 use Rattle.expansion.specs.Input.{Input, protoOf, lastField}
 use Rattle.expansion.specs.Scopes.{Scope, documentOf}
 use Rattle.expansion.specs.Ids.{bindingIds, flat}

@@ -9,35 +9,86 @@ use native.Mathlib.Nat.{le-refl, le-trans}
 use native.Mathlib.Omega.{arith}
 use lib.ListN.{length, getElem?, set, length-append, length-set}
 use lib.Dec.{T, ltb, eqb, ltb→lt}
-use Rattle.ast.specs.Ast.{NodeOrigin, BodyElement, FieldData, FieldValue, FieldBinding, Field, InterfaceDecl, Route, Statement, Association, ProtoInstance, Node, ProtoDecl, ExternProtoDecl}
+use Rattle.ast.specs.Ast.{NodeOrigin, FieldData, FieldValue, FieldBinding, Field, InterfaceDecl, Route, Statement, Association, ProtoInstance, Node, ProtoDecl, ExternProtoDecl}
 use Rattle.ast.specs.Choice.{choose, andThen, mapO}
-use Rattle.ast.specs.Lookups.{nodeAt, protoAt, externProtoAt}
+use Rattle.ast.specs.Lookups.{protoAt, externProtoAt}
 use Rattle.picks.specs.Picks.{Pick}
 use Rattle.expansion.specs.Input.{Input, docs, protoOf, lastField}
 use Rattle.expansion.specs.Scopes.{Scope}
 use Rattle.expansion.specs.Ids.{dataIds, optionIds, bindingIds}
-use Rattle.expansion.specs.State.{Entry, World, State, Result, refusal, ok, Comp, bindR, _>>=_, _>>_, ret, fail, mapM, foldM, withWorld, withNodes, lookup, start}
-use Rattle.expansion.specs.Charges.{oneMore, chargeIf, charge, chargeEach, paid}
+use Rattle.expansion.specs.State.{Entry, State, Result, ok, Comp, _>>=_, _>>_, ret, mapM, foldM, withNodes, lookup, start}
+use Rattle.expansion.specs.Charges.{chargeIf, charge, chargeEach, paid}
 use Rattle.expansion.specs.Values.{Values, valueOf, Env, src, Copier, copyData, value, clone}
 use Rattle.expansion.specs.Externs.{lookupExtern, noValue, pushExtern, declare, externProto}
-use Rattle.expansion.specs.PlainCopy.{blank, addNode, reserveIf, reserve, copyOrigin, pushAssociation, associate, isValue, withValue, isField, copyBinding, copyField, interfaceWith, isInterface, copyTarget, copyInterface, remapRoute, copyRoute, copyExtern, copyStatement, somes, keptOrder, contents, copyPlain}
-use Rattle.expansion.specs.Instances.{pushScope, openScope, takeDefault, cloneOption, interfaceValue, store, values, Body, addEntry, place, bodyStatement, rootOf, associationsOf, nestedRoots, nestedRoutes, withInstance, update, recordInstance, instantiate}
+use Rattle.expansion.specs.PlainCopy.{blank, addNode, reserveIf, reserve, copyOrigin, associate, isValue, isField, copyBinding, copyField, isInterface, copyTarget, copyInterface, remapRoute, copyRoute, copyExtern, copyStatement, somes, keptOrder, contents, copyPlain}
+use Rattle.expansion.specs.Instances.{pushScope, openScope, takeDefault, cloneOption, interfaceValue, store, values, Body, place, bodyStatement, rootOf, associationsOf, nestedRoots, nestedRoutes, withInstance, update, recordInstance, instantiate}
 use Rattle.expansion.specs.Copy.{copyNode, mappedOr, copy}
 use Rattle.expansion.specs.Expand.{statement, rootEnv, statements}
-use Rattle.expansion.specs.Expanded.{IdsBelow, EndBelow, RouteBelow, InstanceBelow, TopStatement, NodeStatement, NotProto, ClassZero, OutputNode}
+use Rattle.expansion.specs.Expanded.{ClassZero}
 use Rattle.expansion.specs.Proofs.Outcome.{Outcome, refused, accepted, Any, bindOut, mapOut, atOk}
 
 abbrev Out : {A : Type 0} → (A → State → Type 0) → Result A → Type 0
 Out P m = Outcome Any P m
 
+-- P of every element
 abbrev All : {A : Type 0} → (A → Type 0) → List A → Type 0
 All P l = (a : _) → List·Memᴰ a l → P a
 
+-- Nothing is not something.
 none-some : {A : Type 0} {a : A} → _≡_ {A = Option A} none (some a) → ⊥
 none-some e = let z : _≡_ {A = ℕ} 0 1 = cc in omega arith
 
+-- Something is one thing.
 some-some : {A : Type 0} (a b : A) → _≡_ {A = Option A} (some a) (some b) → a ≡ b
 some-some a b e = cc
+
+-- ---- every node id below n
+
+abbrev pub IdsBelow : ℕ → List ℕ → Type 0
+IdsBelow n l = (i : ℕ) → List·Memᴰ i l → i < n
+
+abbrev pub EndBelow : ℕ → Option ℕ → Type 0
+EndBelow n end = (i : ℕ) → end ≡ some i → i < n
+
+pub record RouteBelow (n : ℕ) (r : Route) : Type 0 where
+  pub fromId : EndBelow n (r .fromId)
+  pub toId : EndBelow n (r .toId)
+
+pub record InstanceBelow (n : ℕ) (x : ProtoInstance) : Type 0 where
+  pub extraRoots : IdsBelow n (x .extraRoots)
+  pub routes : (r : Route) → List·Memᴰ r (x .routes) → RouteBelow n r
+  pub isMap : (a : Association) → List·Memᴰ a (x .isMap) → a .node < n
+
+-- no Proto statement
+abbrev pub TopStatement : ℕ → Statement → Type 0
+TopStatement n (Statement.Node i) = i < n
+TopStatement n (Statement.Proto p) = ⊥
+TopStatement n (Statement.ExternProto x) = Unit {0}
+TopStatement n (Statement.Route r) = RouteBelow n r
+TopStatement n (Statement.Other p) = Unit {0}
+
+-- "nodes hold only Route and ExternProto statements"
+abbrev pub NodeStatement : ℕ → Statement → Type 0
+NodeStatement n (Statement.Node i) = ⊥
+NodeStatement n (Statement.Proto p) = ⊥
+NodeStatement n (Statement.ExternProto x) = Unit {0}
+NodeStatement n (Statement.Route r) = RouteBelow n r
+NodeStatement n (Statement.Other p) = ⊥
+
+-- no origin Proto
+abbrev pub NotProto : NodeOrigin → Type 0
+NotProto NodeOrigin.Builtin = Unit {0}
+NotProto (NodeOrigin.Proto p) = ⊥
+NotProto (NodeOrigin.ExternProto x) = Unit {0}
+NotProto NodeOrigin.Unknown = Unit {0}
+
+-- a node of an output with n nodes
+pub record OutputNode (n : ℕ) (x : Node) : Type 0 where
+  pub origin : NotProto (x .origin)
+  pub fields : (f : Field) → List·Memᴰ f (x .fields) → IdsBelow n (bindingIds (f .binding))
+  pub interface : (d : InterfaceDecl) → List·Memᴰ d (x .interface) → IdsBelow n (optionIds (d .value)) × ClassZero d
+  pub statements : (s : Statement) → List·Memᴰ s (x .statements) → NodeStatement n s
+  pub instance : (r : ProtoInstance) → x .instance ≡ some r → InstanceBelow n r
 
 -- ---- more nodes do no harm
 
@@ -81,9 +132,11 @@ node-up {n} {m} h y = record { origin = y .origin; fields = λ f q. ids-up (bind
 abbrev size : State → ℕ
 size st = length (st .nodes)
 
+-- an extern whose interfaces have no value
 abbrev Valueless : ExternProtoDecl → Type 0
 Valueless x = (d : InterfaceDecl) → List·Memᴰ d (x .interface) → d .value ≡ none
 
+-- a state whose output is in order so far
 record Sound (I : Input) (st : State) : Type 0 where
   listed : size st ≡ length (st .world .ledger)
   maps : (s j o : ℕ) → lookup (st .world .map) s j ≡ some o → o < size st
@@ -92,6 +145,7 @@ record Sound (I : Input) (st : State) : Type 0 where
   room : size st ≤ I .limits .maxNodes
   externs : (x : ExternProtoDecl) → List·Memᴰ x (st .externProtos) → Valueless x
 
+-- after a step: the state is in order, no node is gone, the answer is in P
 record Post {A : Type 0} (I : Input) (P : ℕ → A → Type 0) (st : State) (a : A) (st′ : State) : Type 0 where
   sound : Sound I st′
   grow : size st ≤ size st′
@@ -101,20 +155,25 @@ record Post {A : Type 0} (I : Input) (P : ℕ → A → Type 0) (st : State) (a 
 abbrev Good : {A : Type 0} → Input → ℕ → (ℕ → A → Type 0) → Comp A → Type 0
 Good I m P c = (st : State) → m ≤ size st → Sound I st → Out (Post I P st) (c st)
 
+-- nothing is asked of the answer
 abbrev Free : {A : Type 0} → ℕ → A → Type 0
 Free n a = Unit {0}
 
+-- an id of one of n nodes
 abbrev Below : ℕ → ℕ → Type 0
 Below n o = o < n
 
+-- P of what is there, if anything
 abbrev Opt : {A : Type 0} → (ℕ → A → Type 0) → ℕ → Option A → Type 0
 Opt P n none = Unit {0}
 Opt P n (some a) = P n a
 
+-- More nodes do no harm to it.
 opt-up : {A : Type 0} (P : ℕ → A → Type 0) → ((n k : ℕ) (a : A) → n ≤ k → P n a → P k a) → (n k : ℕ) (o : Option A) → n ≤ k → Opt P n o → Opt P k o
 opt-up P up n k none h x = tt
 opt-up P up n k (some a) h x = up n k a h x
 
+-- What is kept was there.
 somes-mem : {A : Type 0} (l : List (Option A)) (a : A) → List·Memᴰ a (somes l) → List·Memᴰ (some a) l
 unfolding somes
 somes-mem [] a x = absurd (List·Memᴰ·not-nil x)
@@ -125,6 +184,7 @@ somes-mem (some b ∷ l) a x = at (List·Memᴰ·cases-cons x) (somes-mem l a)
     at (inl e) k = List·Memᴰ·head (ap some e)
     at (inr y) k = List·Memᴰ·tail (k y)
 
+-- An element of a list with one replaced.
 set-mem : {A : Type 0} (l : List A) (n : ℕ) (a c : A) → List·Memᴰ c (set l n a) → (c ≡ a) ⊎ List·Memᴰ c l
 set-mem [] n a c m = inr m
 set-mem (x ∷ l) zero a c m = at (List·Memᴰ·cases-cons m)
@@ -142,6 +202,7 @@ set-mem (x ∷ l) (suc n) a c m = at (List·Memᴰ·cases-cons m) (set-mem l n a
         up (inl e) = inl e
         up (inr q) = inr (List·Memᴰ·tail q)
 
+-- What stands at a place is in the list.
 get-mem : {A : Type 0} (l : List A) (n : ℕ) (x : A) → getElem? l n ≡ some x → List·Memᴰ x l
 get-mem [] n x e = absurd (none-some e)
 get-mem (a ∷ l) zero x e = List·Memᴰ·head (some-some x a (sym e))
@@ -163,9 +224,11 @@ cons {P = P} x l h f a q = at (List·Memᴰ·cases-cons q)
     at (inl e) = subst P (sym e) h
     at (inr y) = f a y
 
+-- Nothing is in an empty list.
 nothing : {A B : Type 0} {a : A} → List·Memᴰ a [] → B
 nothing q = absurd (List·Memᴰ·not-nil q)
 
+-- What is found is the newest entry's, or was found before.
 lookup-cons : (e : Entry) (m : List Entry) (s j o : ℕ) → lookup (e ∷ m) s j ≡ some o → (o ≡ e .out) ⊎ (lookup m s j ≡ some o)
 unfolding lookup
 lookup-cons e m s j o = go (eqb (e .scope) s && eqb (e .id) j)
@@ -175,9 +238,11 @@ lookup-cons e m s j o = go (eqb (e .scope) s && eqb (e .id) j)
     go false q = inr q
 
 module _ (I : Input) where
+  -- An answer in P.
   good-ret : {A : Type 0} {P : ℕ → A → Type 0} {m : ℕ} {a : A} → ((n : ℕ) → m ≤ n → P n a) → Good I m P (ret a)
   good-ret f st h b = accepted (record { sound = b; grow = le-refl _; res = f (size st) h })
 
+  -- One step, then the next.
   good-bind : {A B : Type 0} {P : ℕ → A → Type 0} {Q : ℕ → B → Type 0} {m : ℕ} {c : Comp A} {k : A → Comp B} → Good I m P c → ((a : A) (n : ℕ) → m ≤ n → P n a → Good I n Q (k a)) → Good I m Q (c >>= k)
   good-bind g f st h b = bindOut (g st h b) (λ a s p. mapOut (f a (size s) (le-trans h (p .grow)) (p .res) s (le-refl _) (p .sound)) (λ y s′ q. record { sound = q .sound; grow = le-trans (p .grow) (q .grow); res = q .res }))
 
@@ -189,6 +254,7 @@ module _ (I : Input) where
     isMap : st′ .isMap ≡ st .isMap
     externs : (x : ExternProtoDecl) → List·Memᴰ x (st′ .externProtos) → List·Memᴰ x (st .externProtos) ⊎ Valueless x
 
+  -- Such a step leaves the state in order.
   still : {A : Type 0} {m : ℕ} (P : ℕ → A → Type 0) (st st′ : State) (a : A) → Still st st′ → m ≤ size st → ((n : ℕ) → m ≤ n → P n a) → Sound I st → Out (Post I P st) (ok a st′)
   still {m = m} P st st′ a e h f b = accepted (record { sound = same; grow = grown; res = f (size st′) (le-trans h grown) })
     where
@@ -222,13 +288,16 @@ module _ (I : Input) where
   chargeEach-good m [] = good-ret (λ n h. tt)
   chargeEach-good m (x ∷ l) = good-bind (charge-good m) (λ a n h p. chargeEach-good n l)
 
+  -- more nodes do no harm to P
   abbrev Up : {A : Type 0} → (ℕ → A → Type 0) → Type 0
   Up P = (n k : ℕ) (a : _) → n ≤ k → P n a → P k a
 
+  -- A charge afterwards does no harm.
   paid-good : {A : Type 0} {P : ℕ → A → Type 0} {m : ℕ} {c : Comp A} → Up P → Good I m P c → Good I m P (paid I c)
   unfolding paid
   paid-good up h = good-bind h (λ a n q p. good-bind (charge-good n) (λ u k r t. good-ret (λ j s. up n j a (le-trans r s) p)))
 
+  -- Each element, in order.
   mapM-good : {A B : Type 0} (P : ℕ → B → Type 0) → Up P → (g : A → Comp B) (m : ℕ) → ((a : A) (n : ℕ) → m ≤ n → Good I n P (g a)) → (l : List A) → Good I m (λ n l′. All (P n) l′) (mapM g l)
   unfolding mapM
   mapM-good P up g m h [] = good-ret (λ n q. (λ a q. nothing q))
@@ -275,6 +344,7 @@ module _ (I : Input) where
   env-up : (n k : ℕ) (env : Env) → n ≤ k → EnvOk n env → EnvOk k env
   env-up n k env = opt-up ValuesOk values-up n k (env .isValues)
 
+  -- A value that is found is in order.
   found-ok : (n t : ℕ) (l : Values) → ValuesOk n l → Opt ValueOk n (valueOf t l)
   unfolding valueOf
   found-ok n t [] h = tt
@@ -328,7 +398,7 @@ module _ (I : Input) where
           good-bind (charge-good m) (λ a n1 h1 p1. good-bind (chargeEach-good n1 (decl .interface)) (λ b n2 h2 p2. good-bind (chargeEach-good n2 (decl .urls))
           (λ c n3 h3 p3 s h b. still Free s (pushExtern (src env) x decl s) _ (record { nodes = refl; maps = refl; ledger = refl; isMap = refl; externs = λ y q. new decl s y (List·Memᴰ·append-cases (s .externProtos) q) }) h (λ k q. tt) b)))
 
-  -- ---- plain nodes
+  -- ---- plain nodes: what each step answers is in order
 
   copyOrigin-good : (m : ℕ) (env : Env) (o : NodeOrigin) → NotProto o → Good I m (λ n o′. NotProto o′) (copyOrigin I env o)
   unfolding copyOrigin
@@ -373,6 +443,7 @@ module _ (I : Input) where
         go none none = good-ret (λ k r. ((λ a q. nothing q), λ target e. refl))
         go none (some v) = good-bind (value-good c m₀ hc m h0 v) (λ v′ n1 h1 p1. good-ret (λ k r. (value-up n1 k v′ r p1, λ target e. absurd (none-some e))))
 
+  -- A remapped route ends in the output, or nowhere.
   remap-ok : (st : State) (s : ℕ) (r : Route) → Sound I st → RouteBelow (size st) (remapRoute (st .world) s r)
   remap-ok st s r b = record { fromId = λ i e. go (r .fromId) i e; toId = λ i e. go (r .toId) i e }
     where
@@ -413,6 +484,7 @@ module _ (I : Input) where
         instance = λ i e. absurd (none-some e);
       }))))))
 
+  -- A node with nothing in it is in order.
   blank-ok : (n : ℕ) → OutputNode n blank
   blank-ok n = record { origin = tt; fields = (λ a q. nothing q); interface = (λ a q. nothing q); statements = (λ a q. nothing q); instance = λ i e. absurd (none-some e) }
 
@@ -469,6 +541,7 @@ module _ (I : Input) where
           fin : (s2 : State) → size s2 ≡ size st → Sound I s2 → Post I Below st (size s2) (addNode (env .scope) i s2)
           fin s2 e b2 = record { sound = addNode-sound (env .scope) i s2 (rw e (q tt)) b2; grow = omega (arith, length-append (s2 .nodes) (blank ∷ [])); res = omega (arith, length-append (s2 .nodes) (blank ∷ [])) }
 
+  -- a copier answers ids of the output, in every scope
   abbrev Goods : (Env → Copier) → Type 0
   Goods f = (env : Env) (m : ℕ) → EnvOk m env → (i : ℕ) → Good I m Below (f env i)
 
@@ -648,10 +721,12 @@ module _ (I : Input) where
   statement-good c m hc env (Statement.Route r) n h = copyRoute-good TopStatement topStatement-up (λ k r′ q. q) n env r
   statement-good c m hc env (Statement.Other p) n h = paid-good (opt-up TopStatement topStatement-up) (good-ret (λ k q. tt))
 
+  -- The state at the start is in order.
   start-sound : Sound I start
   unfolding lookup
   start-sound = record { listed = refl; maps = λ s j o e. absurd (none-some e); nodes = λ a q. nothing q; isMap = λ a q. nothing q; room = omega arith; externs = λ a q. nothing q }
 
+  -- The whole.
   statements-good : Out (Post I (λ n l. All (TopStatement n) l) start) (statements I start)
   unfolding statements
   statements-good =

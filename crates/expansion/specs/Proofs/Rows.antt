@@ -1,30 +1,31 @@
 -- The charges of every expansion: they cover the output's rows and the scopes, and are at most K; so 11 is never given.
-use mathlib.Core.Path.{_≡_, refl, ap, sym, _∙_, subst}
+use mathlib.Core.Path.{_≡_, refl, ap, sym, subst}
 use mathlib.Core.Logic.{_⊎_, inl, inr}
 use mathlib.Core.List.{List, [], _∷_, _++_, map, List·Memᴰ, List·Memᴰ·head, List·Memᴰ·tail, List·Memᴰ·cases-cons, List·Memᴰ·append-cases, List·Memᴰ·not-nil}
 use mathlib.Core.Option.{Option, none, some}
-use mathlib.Core.Bool.{Bool, true, false, _&&_, _||_}
+use mathlib.Core.Bool.{Bool, true, false, _||_}
 use Prim.Native.Nat.{ℕ, zero, suc, _+_, _≤_, _<_}
 use native.Mathlib.Nat.{le-refl, le-trans}
 use native.Mathlib.Omega.{arith}
 use lib.ListN.{length, getElem?, set, length-append, length-map}
-use lib.Dec.{T, ltb, eqb, ltb→lt, lt→ltb, eqb→eq, eqb-refl}
-use Rattle.ast.specs.Ast.{NodeOrigin, BodyElement, FieldData, FieldValue, FieldBinding, Field, InterfaceDecl, Route, Statement, Association, ProtoInstance, Node, ProtoDecl, ExternProtoDecl}
+use lib.Dec.{T, ltb, eqb, ltb→lt, lt→ltb, eqb→eq}
+use Rattle.ast.specs.Ast.{NodeOrigin, FieldData, FieldValue, FieldBinding, Field, InterfaceDecl, Route, Statement, Association, ProtoInstance, Node, ProtoDecl, ExternProtoDecl}
 use Rattle.ast.specs.Choice.{choose, andThen}
 use Rattle.ast.specs.Lookups.{nodeAt, protoAt, externProtoAt}
 use Rattle.picks.specs.Picks.{Pick}
 use Rattle.expansion.specs.Input.{Input, docs, protoOf, lastField}
 use Rattle.expansion.specs.Scopes.{Scope}
 use Rattle.expansion.specs.Ids.{dataIds, optionIds, bindingIds}
-use Rattle.expansion.specs.State.{World, State, Result, refusal, ok, Comp, bindR, _>>=_, _>>_, ret, fail, mapM, foldM, withWorld, withNodes, lookup, start}
+use Rattle.expansion.specs.State.{State, Result, ok, Comp, bindR, _>>=_, _>>_, ret, fail, mapM, foldM, withWorld, withNodes, lookup, start}
 use Rattle.expansion.specs.Charges.{oneMore, chargeIf, charge, chargeEach, paid}
 use Rattle.expansion.specs.Values.{Values, valueOf, Env, src, Copier, copyData, value, clone}
 use Rattle.expansion.specs.Externs.{lookupExtern, noValue, pushExtern, declare, externProto}
-use Rattle.expansion.specs.PlainCopy.{blank, addNode, reserveIf, reserve, copyOrigin, pushAssociation, associate, isValue, withValue, isField, copyBinding, copyField, isInterface, copyTarget, copyInterface, remapRoute, copyRoute, copyExtern, copyStatement, somes, keptOrder, contents, copyPlain}
+use Rattle.expansion.specs.PlainCopy.{blank, addNode, reserveIf, reserve, copyOrigin, pushAssociation, associate, isValue, isField, copyBinding, copyField, isInterface, copyTarget, copyInterface, remapRoute, copyRoute, copyExtern, copyStatement, somes, keptOrder, contents, copyPlain}
 use Rattle.expansion.specs.Instances.{pushScope, openScope, takeDefault, cloneOption, interfaceValue, store, values, Body, addEntry, place, bodyStatement, rootOf, associationsOf, nestedRoots, nestedRoutes, withInstance, update, recordInstance, instantiate}
 use Rattle.expansion.specs.Copy.{copyNode, mappedOr, copy}
 use Rattle.expansion.specs.Expand.{statement, rootEnv, statements}
-use Rattle.expansion.specs.Expanded.{sumOf, fieldRows, interfaceRows, instanceRows, contentRows, nodeRows, externRows, Refusal, four, five, six, seven, eight, nine, ten}
+use Rattle.expansion.specs.Outputs.{sumOf, fieldRows, interfaceRows, instanceRows, contentRows, nodeRows, externRows}
+use Rattle.expansion.specs.Expanded.{Refusal, four, five, six, seven, eight, nine, ten}
 use Rattle.expansion.specs.Proofs.Outcome.{Outcome, refused, accepted, bindOut, mapOut}
 
 abbrev Out : {A : Type 0} → (A → State → Type 0) → Result A → Type 0
@@ -36,24 +37,29 @@ abbrev oneIf : Bool → ℕ
 oneIf true = 1
 oneIf false = 0
 
+-- A sum over two lists behind one another.
 sum-append : {A : Type 0} (g : A → ℕ) (l r : List A) → sumOf g (l ++ r) ≡ sumOf g l + sumOf g r
 sum-append g [] r = omega arith
 sum-append g (x ∷ l) r = omega (arith, sum-append g l r)
 
+-- A node replaced adds at most its contents' rows.
 set-sum : (l : List Node) (i : ℕ) (x : Node) → sumOf nodeRows (set l i x) ≤ sumOf nodeRows l + contentRows x
 set-sum [] i x = omega arith
 set-sum (y ∷ l) zero x = omega arith
 set-sum (y ∷ l) (suc i) x = omega (arith, set-sum l i x)
 
+-- A node replaced adds its rows and loses the old one's.
 set-at : (l : List Node) (i : ℕ) (y x : Node) → getElem? l i ≡ some y → sumOf nodeRows (set l i x) + nodeRows y ≡ sumOf nodeRows l + nodeRows x
 set-at [] i y x e = absurd (let z : _≡_ {A = ℕ} 0 1 = cc in omega arith)
 set-at (a ∷ l) zero y x e = let q : a ≡ y = cc in omega (arith, ap contentRows q)
 set-at (a ∷ l) (suc i) y x e = omega (arith, set-at l i y x e)
 
+-- An interface without a value is one row.
 valueless-rows : (l : List InterfaceDecl) → sumOf interfaceRows (map noValue l) ≡ length l
 valueless-rows [] = refl
 valueless-rows (d ∷ l) = omega (arith, valueless-rows l)
 
+-- A node with nothing in it has no rows below its own.
 blank-rows : contentRows blank ≡ 0
 unfolding contentRows
 blank-rows = refl
@@ -66,12 +72,14 @@ abbrev optionField : Option Field → ℕ
 optionField none = 0
 optionField (some f) = fieldRows f
 
+-- The rows of the fields that are kept.
 somes-fields : (l : List (Option Field)) → sumOf fieldRows (somes l) ≡ sumOf optionField l
 unfolding somes
 somes-fields [] = refl
 somes-fields (none ∷ l) = omega (arith, somes-fields l)
 somes-fields (some x ∷ l) = omega (arith, somes-fields l)
 
+-- The rows of the statements that are kept.
 somes-rows : {A : Type 0} (l : List (Option A)) → length (somes l) ≡ sumOf optionRow l
 unfolding somes
 somes-rows [] = refl
@@ -87,6 +95,7 @@ waiting ω l = sumOf (λ x. oneIf (ω (x .0))) l
 abbrev also : (ℕ → Bool) → ℕ → ℕ → Bool
 also ω n s = ω s || eqb s n
 
+-- every association is of one of the first n scopes
 abbrev ScopesBelow : ℕ → List (ℕ × Association) → Type 0
 ScopesBelow n l = (x : ℕ × Association) → List·Memᴰ x l → x .0 < n
 
@@ -142,10 +151,12 @@ pub record Covered (I : Input) (l : List Statement) (st : State) : Type 0 where
   pub capped : st .charges ≤ I .limits .maxRows
   pub covers : sumOf nodeRows (st .nodes) + sumOf externRows (st .externProtos) + length (st .world .scopes) + (2 + length l) ≤ st .charges
 
+-- after a step: no scope is gone, and the charges pay for all and for k more
 record Booked (I : Input) (ω : ℕ → Bool) (k : ℕ) (st st′ : State) : Type 0 where
   grown : count st ≤ count st′
   books : Books I ω k st′
 
+-- ω holds no scope from number n on
 abbrev Unopened : (ℕ → Bool) → ℕ → Type 0
 Unopened ω n = (s : ℕ) → n ≤ s → ω s ≡ false
 
@@ -155,22 +166,27 @@ Cov I n ω k c m = (st : State) → n ≤ count st → Unopened ω (count st) �
 
 module _ (I : Input) where
   module _ (n : ℕ) (ω : ℕ → Bool) where
+    -- The books after a step, told part by part.
     booked : {A : Type 0} (m : A → ℕ) (st : State) (a : A) (st′ : State) → count st ≤ count st′ → ScopesBelow (count st′) (st′ .isMap) → st′ .charges ≤ I .limits .maxRows → worth ω st′ + m a ≤ st′ .charges → Out (λ x s. Booked I ω (m x) st s) (ok a st′)
     booked m st a st′ h1 h2 h3 h4 = accepted (record { grown = h1; books = record { below = h2; capped = h3; covers = h4 } })
 
+    -- An answer costs nothing.
     cov-ret : {A : Type 0} {k : ℕ} {m : A → ℕ} (a : A) → m a ≤ k → Cov I n ω k (ret a) m
     cov-ret {m = m} a h st hn hω b = booked m st a st (le-refl _) (b .below) (b .capped) (omega arith)
 
+    -- One step, then the next.
     cov-bind : {A B : Type 0} {k : ℕ} {m : A → ℕ} {p : B → ℕ} {c : Comp A} {f : A → Comp B} → Cov I n ω k c m → ((a : A) → Cov I n ω (m a) (f a) p) → Cov I n ω k (c >>= f) p
     cov-bind h g st hn hω b =
         bindOut (h st hn hω b) (λ a s q. mapOut (g a s (le-trans hn (q .grown)) (λ i r. hω i (le-trans (q .grown) r)) (q .books)) (λ x s′ r. record { grown = le-trans (q .grown) (r .grown); books = r .books }))
 
+    -- More credit does no harm, and some may be left unused.
     cov-less : {A : Type 0} {k l : ℕ} {m p : A → ℕ} {c : Comp A} → k ≤ l → ((a : A) → p a ≤ m a) → Cov I n ω k c m → Cov I n ω l c p
     cov-less {k = k} {l} {m} {p} h g x st hn hω b = mapOut (x st hn hω (record { below = b .below; capped = b .capped; covers = omega arith })) (λ a s q. record { grown = q .grown; books = less a s (q .books) })
       where
         less : (a : _) (s : State) → Books I ω (m a) s → Books I ω (p a) s
         less a s q = record { below = q .below; capped = q .capped; covers = omega (arith, g a) }
 
+    -- A charge is one more credit, or refusal 10.
     charge-cov : (k : ℕ) → Cov I n ω k (charge I) (λ u. suc k)
     unfolding charge chargeIf
     charge-cov k st hn hω b = go (ltb (st .charges) (I .limits .maxRows)) (ltb→lt (st .charges) (I .limits .maxRows))
@@ -271,7 +287,7 @@ module _ (I : Input) where
         go false = λ s hn hω b. refused eight
         go true = cov-bind (charge-cov k) (λ u. cov-bind (charge-cov (suc k)) (λ u2 s hn hω b. booked (λ new. k) s (length (s .nodes)) (addNode (env .scope) i s) (le-refl _) (b .below) (b .capped) (omega (arith, sum-append nodeRows (s .nodes) (blank ∷ []), blank-rows))))
 
-  -- ---- plain nodes
+  -- ---- plain nodes: each step is charged for what it leaves
 
   -- a copier of ids in a scope
   abbrev Pays : ℕ → (ℕ → Bool) → Copier → Type 0
@@ -329,6 +345,7 @@ module _ (I : Input) where
     older : ScopesBelow (count st) (st′ .isMap)
     books : Books I ω k st′
 
+  -- A scope is charged before its entry, so that there is room for it.
   openScope-books : (ω : ℕ → Bool) (k : ℕ) (e : Scope) (st : State) → Unopened ω (count st) → Books I ω k st → Out (λ n st′. Opened ω k st n st′) (openScope I e st)
   unfolding openScope pushScope charge chargeIf bindR
   openScope-books ω k e st hω b = go (ltb (st .charges) (I .limits .maxRows)) (ltb→lt (st .charges) (I .limits .maxRows))
@@ -350,6 +367,7 @@ module _ (I : Input) where
       go false q = refused ten
       go true q = push (ltb (count st) (I .limits .maxRows)) (q tt) (lt→ltb (count st) (I .limits .maxRows) (omega (arith, q tt, b .covers)))
 
+  -- a copier leaves the credit as it was, in every open scope
   abbrev Paying : (Env → Copier) → Type 0
   Paying f = (env : Env) (n : ℕ) (ω : ℕ → Bool) → env .scope < n → Pays n ω (f env)
 
@@ -416,6 +434,7 @@ module _ (I : Input) where
 
   -- ---- the record
 
+  -- An instance's record adds its own row, roots, routes and associations.
   withInstance-rows : (defName : Option ℕ) (x : ProtoInstance) (node : Node) → contentRows (withInstance defName x node) ≤ contentRows node + suc (length (x .extraRoots) + length (x .routes) + length (x .isMap))
   unfolding contentRows
   withInstance-rows defName x node = go (node .instance)
@@ -444,6 +463,7 @@ module _ (I : Input) where
         covers = omega (arith, h .covers, waiting-own ω n hn (st .isMap), set-at (st .nodes) o node (withInstance defName x node) e, withInstance-rows defName x node, length-map (b .routes) (remapRoute (st .world) n));
       }
 
+  -- A scope just opened is not beyond the list.
   unopened-also : (ω : ℕ → Bool) (n m : ℕ) → Unopened ω n → n < m → Unopened (also ω n) m
   unopened-also ω n m h lt s le = go (ω s) (h s (omega arith)) (eqb s n) (eqb→eq s n)
     where
@@ -452,6 +472,7 @@ module _ (I : Input) where
       go true e false q = e
       go false e false q = refl
 
+  -- An instance: while its body is copied, its scope's associations wait too.
   instantiate-cov : (f : Env → Copier) → Paying f → (n : ℕ) (ω : ℕ → Bool) (env : Env) → env .scope < n → (k i : ℕ) (node : Node) (p : Pick) (decl : Option ProtoDecl) → Cov I n ω k (instantiate I f env i node p decl) (λ o. k)
   unfolding instantiate
   instantiate-cov f hf n ω env lt k i node p none st hn hω b = refused (six (p .document) (p .proto))
@@ -502,6 +523,7 @@ module _ (I : Input) where
   abbrev nobody : ℕ → Bool
   nobody s = false
 
+  -- The books at the start.
   start-books : Books I nobody 0 start
   start-books = record { below = λ x q. absurd (List·Memᴰ·not-nil q); capped = omega arith; covers = omega arith }
 

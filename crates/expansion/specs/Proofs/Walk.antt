@@ -1,27 +1,28 @@
 -- Every accepted call of the definition is a run of the steps.
 use mathlib.Core.Path.{_≡_, refl, ap, sym, _∙_, subst}
-use mathlib.Core.List.{List, [], _∷_, _++_, map, append-nil, append-assoc, List·Memᴰ, List·Memᴰ·head, List·Memᴰ·tail, List·Memᴰ·cases-cons, List·Memᴰ·not-nil}
+use mathlib.Core.List.{List, [], _∷_, _++_, map, append-assoc, List·Memᴰ, List·Memᴰ·head, List·Memᴰ·tail, List·Memᴰ·cases-cons, List·Memᴰ·not-nil}
 use mathlib.Core.Logic.{_⊎_, inl, inr}
 use mathlib.Core.Option.{Option, none, some}
 use mathlib.Core.Bool.{Bool, true, false, _&&_}
-use Prim.Native.Nat.{ℕ, zero, suc, _+_, _≤_, _<_}
+use Prim.Native.Nat.{ℕ, zero, suc, _+_}
 use native.Mathlib.Omega.{arith}
-use lib.ListN.{length, getElem?, set, length-append}
+use lib.ListN.{length, getElem?, length-append}
 use lib.Dec.{T, ltb, eqb, eqb→eq, eqb-refl}
 use Rattle.ast.specs.Ast.{NodeOrigin, FieldData, FieldValue, FieldBinding, Field, InterfaceDecl, Route, Statement, Association, Node, ProtoDecl, ExternProtoDecl}
 use Rattle.ast.specs.Choice.{choose, andThen}
-use Rattle.ast.specs.Lookups.{nodeAt, protoAt, externProtoAt}
+use Rattle.ast.specs.Lookups.{externProtoAt}
 use Rattle.picks.specs.Picks.{Pick}
-use Rattle.steps.specs.Steps.{Kind, noNode, plainNode, instanceNode, Action, copyId, openDefault, copies, Graph, addMapped, addPlain, addDefault, addBody, firstWorld, Mapped, count, Task, one, all, Run, mappedStep, plainStep, instanceStep, noAction, thenCopy, thenDefault, WholeRun, append-run}
+use Rattle.steps.specs.Steps.{Action, copyId, addMapped, addPlain, addDefault, addBody, Mapped, Task, one, all, Run, mappedStep, plainStep, instanceStep, noAction, thenCopy, thenDefault, WholeRun}
+use Rattle.steps.specs.Laws.{append-run}
 use Rattle.steps.specs.Steps
 use Rattle.expansion.specs.Input.{Input, docs, protoOf, lastField}
-use Rattle.expansion.specs.Scopes.{Scope, documentOf, isBody}
+use Rattle.expansion.specs.Scopes.{Scope, isBody}
 use Rattle.expansion.specs.Ids.{dataIds, optionIds, bindingIds, statementIds, flat}
-use Rattle.expansion.specs.State.{Entry, World, State, Result, refusal, ok, Comp, bindR, _>>=_, _>>_, ret, fail, mapM, foldM, withWorld, withNodes, lookup, start}
+use Rattle.expansion.specs.State.{Entry, World, State, Result, Comp, bindR, _>>=_, _>>_, ret, mapM, foldM, lookup, start}
 use Rattle.expansion.specs.Charges.{chargeIf, charge, chargeEach, paid}
 use Rattle.expansion.specs.Values.{Values, valueOf, Env, src, Copier, copyData, value, clone}
 use Rattle.expansion.specs.Externs.{lookupExtern, declare, externProto}
-use Rattle.expansion.specs.PlainCopy.{addNode, reserveIf, reserve, copyOrigin, associate, isValue, isField, copyBinding, copyField, isInterface, copyTarget, copyInterface, copyRoute, copyExtern, copyStatement, somes, keptOrder, contents, copyPlain}
+use Rattle.expansion.specs.PlainCopy.{reserveIf, reserve, copyOrigin, associate, isValue, isField, copyBinding, copyField, isInterface, copyTarget, copyInterface, copyRoute, copyExtern, copyStatement, contents, copyPlain}
 use Rattle.expansion.specs.Instances.{pushScope, openScope, takeDefault, cloneOption, interfaceValue, store, values, Body, place, bodyStatement, rootOf, recordInstance, instantiate}
 use Rattle.expansion.specs.Copy.{copyNode, mappedOr, copy}
 use Rattle.expansion.specs.Expand.{statement, rootEnv, statements}
@@ -31,14 +32,16 @@ use Rattle.expansion.specs.Proofs.Outcome.{Outcome, refused, accepted, A
 abbrev Out : {A : Type 0} → (A → State → Type 0) → Result A → Type 0
 Out P m = Outcome Any P m
 
--- ---- what leaves the world as it is
+-- ---- what leaves the world as it is: each step that opens no scope, maps nothing and lists nothing
 
+-- the world is the same after the step
 abbrev Keep : {A : Type 0} → Comp A → Type 0
 Keep c = (st : State) → Out (λ a st′. st′ .world ≡ st .world) (c st)
 
 keep-ret : {A : Type 0} (a : A) → Keep (ret a)
 keep-ret a st = accepted refl
 
+-- Two steps that keep the world keep it.
 keep-bind : {A B : Type 0} {c : Comp A} {k : A → Comp B} → Keep c → ((a : A) → Keep (k a)) → Keep (c >>= k)
 keep-bind h f st = bindOut (h st) (λ a s e. mapOut (f a s) (λ b s′ e′. e′ ∙ e))
 
@@ -132,6 +135,7 @@ recordInstance-keep name defName n b o st = accepted refl
 
 -- ---- the world that the steps see
 
+-- what the steps see of a map entry
 abbrev key : Entry → ℕ × ℕ
 key e = (e .scope, e .id)
 
@@ -139,6 +143,7 @@ key e = (e .scope, e .id)
 abbrev pub see : List (ℕ × ℕ) → World → Steps.World Scope
 see g w = record { mapped = map key (w .map); ledger = w .ledger; openers = g; scopes = w .scopes }
 
+-- An id that is found is mapped.
 lookup-here : (m : List Entry) (s i o : ℕ) → lookup m s i ≡ some o → List·Memᴰ (s, i) (map key m)
 unfolding lookup
 lookup-here [] s i o q = absurd (let z : _≡_ {A = ℕ} 0 1 = cc in omega arith)
@@ -150,6 +155,7 @@ lookup-here (e ∷ m) s i o q = go (eqb (e .scope) s) (eqb (e .id) i) (eqb→eq 
     go false true f g k r = List·Memᴰ·tail (k r)
     go false false f g k r = List·Memᴰ·tail (k r)
 
+-- An id that is not found is not mapped.
 lookup-none : (m : List Entry) (s i : ℕ) → lookup m s i ≡ none → List·Memᴰ (s, i) (map key m) → ⊥
 unfolding lookup
 lookup-none [] s i q h = List·Memᴰ·not-nil h
@@ -169,11 +175,12 @@ lookup-none (e ∷ m) s i q h = at (lookup-none m s i) (List·Memᴰ·cases-cons
     at k (inl x) = first (eqb (e .scope) s) (eqb (e .id) i) (rw (ap (λ (y : ℕ × ℕ). y .0) x) (eqb-refl (e .scope))) (rw (ap (λ (y : ℕ × ℕ). y .1) x) (eqb-refl (e .id))) q
     at k (inr x) = k (rest (eqb (e .scope) s && eqb (e .id) i) q) x
 
+-- A map over two lists behind one another.
 map-append : {A B : Type 0} (g : A → B) (l k : List A) → map g (l ++ k) ≡ map g l ++ map g k
 map-append g [] k = refl
 map-append g (x ∷ l) k = ap (λ (r : List _). g x ∷ r) (map-append g l k)
 
--- ---- runs
+-- ---- runs: each step is a run of what it copies and opens
 
 module _ (I : Input) where
   -- the task is run, from the openers g on
@@ -181,21 +188,27 @@ module _ (I : Input) where
     openers : List (ℕ × ℕ)
     run : Run (graph I) t (see g w) (see openers w′)
 
+  -- the step runs the task, whoever opened a body before
   abbrev Runs : {A : Type 0} → Task Scope → Comp A → Type 0
   Runs t c = (g : List (ℕ × ℕ)) (st : State) → Out (λ a st′. Ran t g (st .world) (st′ .world)) (c st)
 
+  -- A run from an equal world.
   from : {t : Task Scope} {g : List (ℕ × ℕ)} {u v w : World} → v ≡ u → Ran t g v w → Ran t g u w
   from {t} {g} {w = w} q r = record { openers = r .openers; run = subst (λ (x : World). Run (graph I) t (see g x) (see (r .openers) w)) q (r .run) }
 
+  -- A run to an equal world.
   upto : {t : Task Scope} {g : List (ℕ × ℕ)} {u v w : World} → w ≡ v → Ran t g u v → Ran t g u w
   upto {t} {g} {u = u} q r = record { openers = r .openers; run = subst (λ (x : World). Run (graph I) t (see g u) (see (r .openers) x)) (sym q) (r .run) }
 
+  -- A step that keeps the world, then a run.
   keep-then : {A B : Type 0} {t : Task Scope} {c : Comp A} {k : A → Comp B} → Keep c → ((a : A) → Runs t (k a)) → Runs t (c >>= k)
   keep-then h f g st = bindOut (h st) (λ a s q. mapOut (f a g s) (λ b s′ r. from q r))
 
+  -- A run, then a step that keeps the world.
   then-keep : {A B : Type 0} {t : Task Scope} {c : Comp A} {k : A → Comp B} → Runs t c → ((a : A) → Keep (k a)) → Runs t (c >>= k)
   then-keep h f g st = bindOut (h g st) (λ a s r. mapOut (f a s) (λ b s′ q. upto q r))
 
+  -- A charge after a run adds nothing to it.
   paid-run : {A : Type 0} {t : Task Scope} {m : Comp A} → Runs t m → Runs t (paid I m)
   unfolding paid
   paid-run h = then-keep h (λ a. keep-bind (charge-keep I) (λ u. keep-ret a))
@@ -205,24 +218,30 @@ module _ (I : Input) where
     abbrev Copies : {A : Type 0} → List ℕ → Comp A → Type 0
     Copies l c = Runs (all n e (map copyId l)) c
 
+    -- A step that keeps the world runs no action.
     no-run : {A : Type 0} {c : Comp A} → Keep c → Runs (all n e []) c
     no-run h g st = mapOut (h st) (λ a s q. upto q (record { openers = g; run = noAction }))
 
+    -- Two runs of actions, one after the other.
     then-run : {A B : Type 0} {l k : List (Action Scope)} {c : Comp A} {f : A → Comp B} → Runs (all n e l) c → ((a : A) → Runs (all n e k) (f a)) → Runs (all n e (l ++ k)) (c >>= f)
     then-run h f g st = bindOut (h g st) (λ a s r. mapOut (f a (r .openers) s) (λ b s′ r′. record { openers = r′ .openers; run = append-run (r .run) (r′ .run) }))
 
+    -- Ids copied, then others.
     then-copies : {A B : Type 0} (l k : List ℕ) {c : Comp A} {f : A → Comp B} → Copies l c → ((a : A) → Copies k (f a)) → Copies (l ++ k) (c >>= f)
     then-copies l k {c} {f} h g = subst (λ (x : List (Action Scope)). Runs (all n e x) (c >>= f)) (sym (map-append copyId l k)) (then-run h g)
 
+    -- One id copied, then actions.
     one-run : {A B : Type 0} {i : ℕ} {l : List (Action Scope)} {c : Comp A} {f : A → Comp B} → Runs (one n e i) c → ((a : A) → Runs (all n e l) (f a)) → Runs (all n e (copyId i ∷ l)) (c >>= f)
     one-run h f g st = bindOut (h g st) (λ a s r. mapOut (f a (r .openers) s) (λ b s′ r′. record { openers = r′ .openers; run = thenCopy (r .run) (r′ .run) }))
 
+    -- Ids copied for each element, in order.
     mapM-run : {A B : Type 0} (g : A → Comp B) (ids : A → List ℕ) → ((a : A) → Copies (ids a) (g a)) → (l : List A) → Copies (flat ids l) (mapM g l)
     unfolding mapM
     mapM-run g ids h [] = no-run (keep-ret [])
     mapM-run g ids h (a ∷ l) = then-copies (ids a) (flat ids l) (h a) (λ b. then-keep (mapM-run g ids h l) (λ bs. keep-ret (b ∷ bs)))
 
     module _ (c : Copier) (hc : (i : ℕ) → Runs (one n e i) (c i)) where
+      -- A list of ids copied, each charged after its copy.
       ids-run : (l : List ℕ) → Copies l (mapM (λ i. paid I (c i)) l)
       unfolding mapM
       ids-run [] = no-run (keep-ret [])
@@ -254,6 +273,7 @@ module _ (I : Input) where
           go none none = no-run (keep-ret _)
           go none (some v) = then-keep (value-run v) (λ v′. keep-ret _)
 
+      -- The contents of a plain node copy where its steps lead.
       contents-run : (env : Env) (new : ℕ) (node : Node) → Copies (plainNexts node) (contents I c env new node)
       unfolding contents
       contents-run env new node =
@@ -270,6 +290,7 @@ module _ (I : Input) where
 
   -- ---- plain nodes
 
+  -- A reserved node is mapped and listed.
   reserve-world : (env : Env) (i : ℕ) (g : List (ℕ × ℕ)) (st : State) → Out (λ o st′. see g (st′ .world) ≡ addPlain (env .scope) i (see g (st .world))) (reserve I env i st)
   unfolding reserve reserveIf
   reserve-world env i g st = go (ltb (length (st .nodes)) (I .limits .maxNodes))
@@ -278,6 +299,7 @@ module _ (I : Input) where
       go false = refused tt
       go true = bindOut (charge-keep I st) (λ u s1 e1. bindOut (charge-keep I s1) (λ u2 s2 e2. accepted (ap (λ (x : World). addPlain (env .scope) i (see g x)) (e2 ∙ e1))))
 
+  -- a copier runs the copy of every id, in every scope
   abbrev Copying : (Env → Copier) → Type 0
   Copying f = (env : Env) (i : ℕ) → Runs (one (env .scope) (env .entry) i) (f env i)
 
@@ -287,12 +309,15 @@ module _ (I : Input) where
     proto : protoOf I (src env) (node .origin) ≡ p
 
   module _ (env : Env) (i : ℕ) (node : Node) (p : Option Pick) (h : Node′ env i node p) where
+    -- Plain or an instance, as its PROTO says.
     kind-is : graph I .kind (env .entry) i ≡ kindBy p
     kind-is = ap (kindOf I (src env)) (h .there) ∙ ap kindBy (h .proto)
 
+    -- What its copy asks for, as its PROTO says.
     actions-are : graph I .actions (env .entry) i ≡ actionsBy I node p
     actions-are = ap (actionsOf I (src env)) (h .there) ∙ ap (actionsBy I node) (h .proto)
 
+  -- A plain node.
   copyPlain-run : (f : Env → Copier) → Copying f → (env : Env) (i : ℕ) (node : Node) → Node′ env i node none → (g : List (ℕ × ℕ)) (st : State) → (Mapped (see g (st .world)) (env .scope) i → ⊥)
       → Out (λ o st′. Ran (one (env .scope) (env .entry) i) g (st .world) (st′ .world)) (copyPlain I (f env) env i node st)
   unfolding copyPlain
@@ -311,6 +336,7 @@ module _ (I : Input) where
     number : n ≡ length (w .scopes)
     after : w′ ≡ record { map = w .map; ledger = w .ledger; scopes = w .scopes ++ (e ∷ []) }
 
+  -- A scope is opened at the end of the list.
   openScope-world : (e : Scope) (st : State) → Out (λ n st′. Opens e (st .world) n (st′ .world)) (openScope I e st)
   unfolding openScope pushScope
   openScope-world e st = bindOut (charge-keep I st) (λ u s q. go s q (ltb (length (s .world .scopes)) (I .limits .maxRows)))
@@ -319,6 +345,7 @@ module _ (I : Input) where
       go s q false = refused tt
       go s q true = accepted (record { number = ap (λ (w : World). length (w .scopes)) q; after = ap (λ (w : World). record { map = w .map; ledger = w .ledger; scopes = w .scopes ++ (e ∷ []) }) q })
 
+  -- A default, in its own scope, if there is one.
   takeDefault-run : (f : Env → Copier) → Copying f → (n : ℕ) (e : Scope) (b : ℕ → Scope) (v : Option FieldValue) → isBody (b n) ≡ false → starts I (b n) ≡ optionIds v → Runs (all n e (valueActions b v none)) (takeDefault I f (b n) v)
   unfolding takeDefault
   takeDefault-run f hf n e b none tb eb g st = accepted (record { openers = g; run = noAction })
@@ -334,6 +361,7 @@ module _ (I : Input) where
       inner m s1 s2 k em ew r =
           rw eb (subst (λ (x : ℕ). Run (graph I) (all x (b n) (map copyId (dataIds (v .«data»)))) (addDefault (b n) (see g (st .world))) (see k (s2 .world))) em (subst (λ (x : World). Run (graph I) (all m (b n) (map copyId (dataIds (v .«data»)))) (see g x) (see k (s2 .world))) ew r))
 
+  -- The value of one interface.
   interfaceValue-run : (f : Env → Copier) → Copying f → (env : Env) (b : ℕ → Scope) (default : Option FieldValue) (given : Option FieldBinding) → isBody (b (env .scope)) ≡ false → starts I (b (env .scope)) ≡ optionIds default
       → Runs (all (env .scope) (env .entry) (valueActions b default given)) (interfaceValue I f env (b (env .scope)) default given)
   unfolding interfaceValue
@@ -341,6 +369,7 @@ module _ (I : Input) where
   interfaceValue-run f hf env b default (some (FieldBinding.Is target)) tb eb = no-run (env .scope) (env .entry) (cloneOption-keep I (andThen (env .isValues) (valueOf target)))
   interfaceValue-run f hf env b default none tb eb = takeDefault-run f hf (env .scope) (env .entry) b default tb eb
 
+  -- The element behind a list stands at its length.
   at-length : {A : Type 0} (l : List A) (x : A) (r : List A) → getElem? (l ++ (x ∷ r)) (length l) ≡ some x
   at-length [] x r = refl
   at-length (y ∷ l) x r = at-length l x r
@@ -368,10 +397,12 @@ module _ (I : Input) where
       root′ : b .root ≡ root
       world : w′ ≡ w
 
+    -- An ExternProto statement of a body.
     externBody : (x : ℕ) (b : Body) (root : Option ℕ) → b .root ≡ root → (st : State) → Out (λ c st′. Passed root (st .world) c (st′ .world)) (bodyStatement I f env i inner b (Statement.ExternProto x) st)
     unfolding bodyStatement
     externBody x b root q st = bindOut (externProto-keep I inner x st) (λ m s1 h. accepted (record { root′ = q; world = h }))
 
+    -- A Route of a body.
     routeBody : (r : Route) (b : Body) (root : Option ℕ) → b .root ≡ root → (st : State) → Out (λ c st′. Passed root (st .world) c (st′ .world)) (bodyStatement I f env i inner b (Statement.Route r) st)
     unfolding bodyStatement paid bindR
     routeBody r b root q st = bindOut (charge-keep I st) (λ m s1 h. accepted (record { root′ = q; world = h }))
@@ -381,14 +412,17 @@ module _ (I : Input) where
       root : b .root ≡ some o
       ran : Ran (all (inner .scope) (inner .entry) (map copyId l)) g w w′
 
+    -- A further Node of a body is no new root.
     place-more : (o new : ℕ) (b : Body) (root : Option ℕ) → root ≡ some o → (st : State) → Out (λ c st′. Passed (some o) (st .world) c (st′ .world)) (place I env i new b root st)
     unfolding place paid bindR
     place-more o new b none q st = absurd (let z : _≡_ {A = ℕ} 0 1 = cc in omega arith)
     place-more o new b (some root) q st = bindOut (charge-keep I st) (λ u s1 h. accepted (record { root′ = q; world = h }))
 
+    -- A statement that is no Node copies nothing.
     passed-more : {o : ℕ} {g : List (ℕ × ℕ)} {w w′ : World} {b : Body} → Passed (some o) w b w′ → More o [] g w b w′
     passed-more {g = g} h = record { root = h .root′; ran = upto (h .world) (record { openers = g; run = noAction }) }
 
+    -- One statement, once the root stands.
     statement-more : (o : ℕ) (b : Body) → b .root ≡ some o → (s : Statement) (g : List (ℕ × ℕ)) (st : State) → Out (λ c st′. More o (statementIds s) g (st .world) c (st′ .world)) (bodyStatement I f env i inner b s st)
     unfolding bodyStatement
     statement-more o b q (Statement.Node j) g st =
@@ -398,6 +432,7 @@ module _ (I : Input) where
     statement-more o b q (Statement.Route r) g st = mapOut (routeBody r b (some o) q st) (λ c s h. passed-more h)
     statement-more o b q (Statement.Other p) g st = accepted (passed-more (record { root′ = q; world = refl }))
 
+    -- The statements left, once the root stands.
     body-more : (o : ℕ) (b : Body) → b .root ≡ some o → (l : List Statement) (g : List (ℕ × ℕ)) (st : State) → Out (λ c st′. More o (flat statementIds l) g (st .world) c (st′ .world)) (foldM (bodyStatement I f env i inner) b l st)
     unfolding foldM
     body-more o b q [] g st = accepted (record { root = q; ran = record { openers = g; run = noAction } })
@@ -415,12 +450,14 @@ module _ (I : Input) where
       run : Run (graph I) (one (inner .scope) (inner .entry) j) (see g w) (see openers mid)
       mapped : see openers w′ ≡ addMapped (env .scope) i (see openers mid)
 
+    -- The first Node is the root, and the instance is mapped.
     place-first : (j new : ℕ) (b : Body) (root : Option ℕ) → root ≡ none → (g : List (ℕ × ℕ)) (w : World) (st : State) → Ran (one (inner .scope) (inner .entry) j) g w (st .world) → Out (λ c st′. FirstNode j g w c (st′ .world)) (place I env i new b root st)
     unfolding place
     place-first j new b (some root) q g w st r = absurd (let z : _≡_ {A = ℕ} 0 1 = cc in omega arith)
     place-first j new b none q g w st r =
         bindOut (charge-keep I st) (λ u s1 h. accepted (record { out = new; root = refl; mid = st .world; openers = r .openers; run = r .run; mapped = ap (λ (x : World). addMapped (env .scope) i (see (r .openers) x)) h }))
 
+    -- a body that has a root: its first Node, the instance's map entry, its other Nodes
     record Rooted (l : List ℕ) (g : List (ℕ × ℕ)) (w w′ : World) : Type 0 where
       r : ℕ
       rs : List ℕ
@@ -431,6 +468,7 @@ module _ (I : Input) where
       first : Run (graph I) (one (inner .scope) (inner .entry) r) (see g w) (see openers mid)
       others : Run (graph I) (all (inner .scope) (inner .entry) (map copyId rs)) (addMapped (env .scope) i (see openers mid)) (see openers′ w′)
 
+    -- The same, from an equal world.
     rooted-from : {l : List ℕ} {g : List (ℕ × ℕ)} {u v w : World} → v ≡ u → Rooted l g v w → Rooted l g u w
     rooted-from {g = g} q x = record { r = x .r; rs = x .rs; mid = x .mid; openers = x .openers; openers′ = x .openers′; ids = x .ids; first = subst (λ (y : World). Run (graph I) (one (inner .scope) (inner .entry) (x .r)) (see g y) (see (x .openers) (x .mid))) q (x .first); others = x .others }
 
@@ -438,10 +476,12 @@ module _ (I : Input) where
       rootless : b .root ≡ none → BodyRan l g w b w′
       rooted : Rooted l g w w′ → BodyRan l g w b w′
 
+    -- The same of any body.
     ran-from : {l : List ℕ} {g : List (ℕ × ℕ)} {u v w : World} {b : Body} → v ≡ u → BodyRan l g v b w → BodyRan l g u b w
     ran-from q (rootless h) = rootless h
     ran-from q (rooted x) = rooted (rooted-from q x)
 
+    -- A body from its start on.
     body-first : (b : Body) → b .root ≡ none → (l : List Statement) (g : List (ℕ × ℕ)) (st : State) → Out (λ c st′. BodyRan (flat statementIds l) g (st .world) c (st′ .world)) (foldM (bodyStatement I f env i inner) b l st)
     unfolding foldM bodyStatement bindR
     body-first b q [] g st = accepted (rootless q)
@@ -453,6 +493,7 @@ module _ (I : Input) where
     body-first b q (Statement.Route r ∷ l) g st = bindOut (routeBody r b none q st) (λ c s1 h. mapOut (body-first c (h .root′) l g s1) (λ c′ s2 k. ran-from (h .world) k))
     body-first b q (Statement.Other p ∷ l) g st = body-first b q l g st
 
+  -- An instance.
   instantiate-run : (f : Env → Copier) → Copying f → (env : Env) (i : ℕ) (node : Node) (p : Pick) → Node′ env i node (some p) → (g : List (ℕ × ℕ)) (st : State) → (Mapped (see g (st .world)) (env .scope) i → ⊥)
       → (decl : Option ProtoDecl) → declOf I p ≡ decl → Out (λ o st′. Ran (one (env .scope) (env .entry) i) g (st .world) (st′ .world)) (instantiate I f env i node p decl st)
   unfolding instantiate rootOf bindR
@@ -504,12 +545,14 @@ module _ (I : Input) where
 
   -- ---- the copier
 
+  -- A node that is not mapped.
   copyNode-run : (f : Env → Copier) → Copying f → (env : Env) (i : ℕ) (node : Node) → nodeIn I (env .entry) i ≡ some node → (g : List (ℕ × ℕ)) (st : State) → (Mapped (see g (st .world)) (env .scope) i → ⊥)
       → (p : Option Pick) → protoOf I (src env) (node .origin) ≡ p → Out (λ o st′. Ran (one (env .scope) (env .entry) i) g (st .world) (st′ .world)) (copyNode I f env i node p st)
   unfolding copyNode
   copyNode-run f hf env i node en g st un none ep = copyPlain-run f hf env i node (record { there = en; proto = ep }) g st un
   copyNode-run f hf env i node en g st un (some p) ep = instantiate-run f hf env i node p (record { there = en; proto = ep }) g st un (declOf I p) refl
 
+  -- A mapped id answers; a node is copied.
   mappedOr-run : (env : Env) (i : ℕ) (next : Node → Comp ℕ) (g : List (ℕ × ℕ)) (st : State)
       → ((node : Node) → nodeIn I (env .entry) i ≡ some node → (Mapped (see g (st .world)) (env .scope) i → ⊥) → Out (λ o st′. Ran (one (env .scope) (env .entry) i) g (st .world) (st′ .world)) (next node st))
       → (o : Option ℕ) → lookup (st .world .map) (env .scope) i ≡ o → (node : Option Node) → nodeIn I (env .entry) i ≡ node
@@ -519,6 +562,7 @@ module _ (I : Input) where
   mappedOr-run env i next g st h none el none en = refused tt
   mappedOr-run env i next g st h none el (some node) en = h node en (lookup-none (st .world .map) (env .scope) i el)
 
+  -- The copier, at every depth.
   copy-run : (left : ℕ) → Copying (copy I left)
   unfolding copy
   copy-run zero env i g st = mappedOr-run env i _ g st (λ node en un. refused tt) _ refl _ refl
