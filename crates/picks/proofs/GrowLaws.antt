@@ -1,5 +1,5 @@
 -- The table only grows, and a base is skipped only when the table is full: so the final table gives each extern its pick.
-use mathlib.Core.Path.{_≡_, refl, sym, ap, _∙_}
+use mathlib.Core.Path.{_≡_, refl, sym, ap}
 use mathlib.Core.Bool.{Bool, true, false}
 use mathlib.Core.List.{List, [], _∷_, _++_}
 use mathlib.Core.Option.{Option, none, some}
@@ -39,6 +39,7 @@ remember-cases P base T known new full = go (member base T) refl (decLt (length 
     go false e (yes h) = rw (lt-ltb _ _ h) (new e h)
     go false e (no h) = let l : 64 ≤ length T = omega arith in rw (le-ltb _ _ l) (full e l)
 
+-- looking for a base makes the table grow, if anything
 grows-kept : (base : ℕ) (T : Bases) → Grows T (kept T (remember base T))
 grows-kept base T =
     remember-cases (λ r. Grows T (kept T r)) base T
@@ -46,6 +47,7 @@ grows-kept base T =
     (λ e h. record { known = λ b i. member-more b base T i; full = λ l b i. absurd (omega arith); longer = simp length-append (omega arith) })
     (λ e h. grows-same T)
 
+-- a base that a table knows, and a new one that it has no place for
 is-known : (base : ℕ) (F : Bases) → member base F ≡ true → remember base F ≡ some F
 unfolding remember
 is-known base F e = rw e
@@ -69,6 +71,7 @@ pub try-kept : (library : List File) (url : Url) (next : Bases → Picked) (T : 
 try-kept library url next T none = refl
 try-kept library url next T (some t) = refl
 
+-- whatever a url leads to, the table grows
 grows-next : (next : Bases → Picked) (T : Bases) (p : Option Pick) → ((U : Bases) → Grows U (next U .1)) → Grows T (orNext next T p .1)
 grows-next next T none f = f T
 grows-next next T (some p) f = grows-same T
@@ -82,10 +85,12 @@ grows-urls library (u ∷ l) T =
     rw (try-kept library u (pickUrls library l) T (remember (u .base) T))
     (grows-on (grows-kept (u .base) T) (grows-next (pickUrls library l) k p (grows-urls library l)))
 
+-- the urls after one that led to no pick are the same by F if they are so alone
 same-next : (next : Bases → Picked) (T F : Bases) (p : Option Pick) → (Grows (next T .1) F → next F ≡ (next T .0, F)) → Grows (orNext next T p .1) F → orNext next F p ≡ (orNext next T p .0, F)
 same-next next T F none f g = f g
 same-next next T F (some p) f g = refl
 
+-- by F a url is tried or skipped as it was
 try-final : (library : List File) (url : Url) (next : Bases → Picked) (F : Bases) (r : Option Bases) → tryUrl library url next F (andThen r (λ t. some F)) ≡ orNext next F (andThen r (λ t. pickUrl library url))
 try-final library url next F none = refl
 try-final library url next F (some t) = refl
@@ -105,11 +110,13 @@ same-urls library (u ∷ l) T F g =
 
 -- ---- the externs of the root
 
+-- the externs make the table grow
 grows-all : (library : List File) (l : List ExternProtoDecl) (T : Bases) → Grows T (basesFrom library l T)
 unfolding basesFrom
 grows-all library [] T = grows-same T
 grows-all library (x ∷ l) T = grows-on (grows-urls library (x .urls) T) (grows-all library l (pickUrls library (x .urls) T .1))
 
+-- each pick of a list of externs is the one by F
 final : (library : List File) (l : List ExternProtoDecl) (T F : Bases) (i : ℕ) → Grows (basesFrom library l T) F → getElem? (picksFrom library l T) i ≡ mapO (λ x. pickUrls library (x .urls) F .0) (getElem? l i)
 unfolding picksFrom basesFrom
 final library [] T F i g = refl

@@ -22,6 +22,7 @@ module _ (base : ℕ) where
   member-at (suc n) (b ∷ l) zero h i e = rw (eq-eqb _ _ e)
   member-at (suc n) (b ∷ l) (suc j) h i e = rw (member-at n l j (omega arith) (omega arith) e) (or-true (eqb b base))
 
+  -- a base that does not is new
   pub member-none : (n : ℕ) (l : List ℕ) → ((k : ℕ) → k < n → getD l k 0 ≡ base → ⊥) → member base (take n l) ≡ false
   unfolding member
   member-none zero l f = refl
@@ -29,7 +30,7 @@ module _ (base : ℕ) where
   member-none (suc n) (b ∷ l) f =
       rw (ne-eqb _ _ (f 0 (omega arith))) (member-none n l (λ k h. f (suc k) (omega arith)))
 
--- a table with one base more still knows the others, and knows that one
+-- a table with one base more still knows the others
 pub member-more : (b base : ℕ) (T : Bases) → member b T ≡ true → member b (T ++ (base ∷ [])) ≡ true
 unfolding member
 member-more b base [] e = let z : _≡_ {A = ℕ} 0 1 = cc in absurd (omega arith)
@@ -39,6 +40,7 @@ member-more b base (x ∷ T) e = go (eqb x b) (member-more b base T) e
     go true f e = refl
     go false f e = f e
 
+-- and it knows that one
 pub member-last : (base : ℕ) (T : Bases) → member base (T ++ (base ∷ [])) ≡ true
 unfolding member
 member-last base [] = rw (eq-eqb base base refl)

@@ -2,15 +2,15 @@
 use mathlib.Core.Path.{_≡_, refl, sym, ap, _∙_}
 use mathlib.Core.List.{List, [], _∷_, map}
 use mathlib.Core.Option.{Option, none, some}
-use Prim.Native.Nat.{ℕ, _+_, _≤_}
-use lib.ListN.{length, getD, drop, getElem?}
+use Prim.Native.Nat.{ℕ, _+_}
+use lib.ListN.{getD, drop}
 use borrow.Author.Tests.{eq-eqb, ne-eqb}
 use Rattle.ast.specs.declared.ProtoId.{ProtoId}
 use Rattle.ast.specs.Ast.{Url, ExternProtoDecl, File}
 use Rattle.ast.specs.Choice.{andThen, mapO}
 use Rattle.sheet.specs.declared.row.Row.{Row}
 use Rattle.sheet.specs.declared.part.Part.the-variants.{Externs, Urls}
-use Rattle.sheet.specs.Rows.{blank, front}
+use Rattle.sheet.specs.Rows.{blank}
 use Rattle.sheet.specs.Parse.{elements, optional, urlOf, externProtoOf, documentOf, filesOf}
 use Rattle.lookup.specs.declared.walk.Found.{Found}
 use Rattle.lookup.specs.declared.walk.Found.the-variants as found
@@ -25,8 +25,8 @@ use Rattle.picks.specs.declared.table.Looked as looked
 use Rattle.picks.specs.declared.Chosen.{Chosen}
 use Rattle.picks.specs.declared.Chosen.the-variants.{Proto, Nothing}
 use Rattle.picks.specs.declared.Choice.{Choice}
-use Rattle.picks.specs.Picks.{Pick, Bases, Picked, firstFile, pickIn, pickFrom, pickUrl, remember, orNext, pickUrls, pickAt, basesFrom, finalBases}
-use Rattle.picks.specs.Table.{basesOf, fileAt, kept, Empty, Sound, Remembered}
+use Rattle.picks.specs.Picks.{Bases, Picked, firstFile, pickIn, pickFrom, pickUrl, remember, orNext, pickUrls, pickAt, basesFrom, finalBases}
+use Rattle.picks.specs.Table.{basesOf, Empty, Sound, Remembered}
 use Rattle.picks.specs.File.{idOf}
 use Rattle.picks.specs.Chosen.{pickOf, Leads, Tried, Final}
 use Rattle.picks.proofs.GrowLaws.{try-kept, pick-final}
@@ -34,13 +34,16 @@ use Rattle.picks.proofs.GrowLaws.{try-kept, pick-final}
 -- ---- what a url leads to, by the file of its base
 
 module _ (R : List Row) (s : Source) (fragment : ℕ) where
+  -- a base without a file
   pub from-none : s .number ≡ 0 → Leads R s fragment Nothing
   from-none e base = rw (eq-eqb _ _ e)
 
   module _ (x : TopProto) (n : s .number ≡ 0 → ⊥) (is : idOf x ≡ pickIn (documentAt R (s .row)) (optional fragment)) where
+    -- a file without such a Proto
     pub from-nothing : x ≡ top.Nothing → Leads R s fragment Nothing
     from-nothing e base = rw (ne-eqb _ _ n, sym is, e)
 
+    -- a file with one
     pub from-proto : (id : ProtoId) {next : ℕ} → x ≡ top.At (id .0) next → Leads R s fragment (Proto (s .number) id)
     from-proto id e base = rw (ne-eqb _ _ n, sym is, e)
 
@@ -57,15 +60,18 @@ pub record Trying (root : List Row) (row : ℕ) (R : List Row) (before t : Table
   pub sound : Sound R t
   pub is : pickUrls (filesOf R) (externProtoOf (drop row root) .urls) (basesOf before) ≡ pickUrls (filesOf R) (urlsFrom root at) (basesOf t)
 
+-- the walk begins at the row after the extern's
 pub try-start : (root : List Row) (row : ℕ) (R : List Row) (t : Table) → Sound R t → Trying root row R t t (row + 1)
 unfolding externProtoOf
 try-start root row R t s = record { sound = s; is = rw (rest-drop root row) }
 
+-- two steps of which the second does not look at what the first found
 then : {A B C : Type 0} (r : Option A) (f : Option B) (g : B → Option C) → andThen r (λ a. andThen f g) ≡ andThen (andThen r (λ a. f)) g
 then none f g = refl
 then (some a) f g = refl
 
 module _ {root : List Row} {row : ℕ} {R : List Row} {before t : Table} {at : ℕ} (w : Trying root row R before t at) where
+  -- no url is left
   pub try-none : elements Urls (drop at root) ≡ [] → Tried root row R before (record { chosen = Nothing; table = t })
   unfolding pickUrls
   try-none e =
@@ -76,12 +82,14 @@ module _ {root : List Row} {row : ℕ} {R : List Row} {before t : Table} {at : �
     unfolding urlOf
     url-is = rw (front-drop root q, sym is)
 
+    -- what the url leads to, unless its base is skipped
     pick-is : andThen (remember (r .a) (basesOf t)) (λ b. pickUrl (filesOf R) (urlIn r)) ≡ pickOf x
     unfolding pickUrl
     pick-is =
         then (remember (r .a) (basesOf t)) (firstFile (r .a) 1 (filesOf R)) (pickFrom (urlIn r)) ∙
         ap (λ (f : Option (ℕ × File)). andThen f (pickFrom (urlIn r))) (m .source) ∙ sym (s (r .a))
 
+    -- one url's step
     step : pickUrls (filesOf R) (urlsFrom root at) (basesOf t) ≡ orNext (pickUrls (filesOf R) (urlsFrom root (q + 1))) (basesOf (l .table)) (pickOf x)
     unfolding pickUrls
     step =
@@ -89,9 +97,11 @@ module _ {root : List Row} {row : ℕ} {R : List Row} {before t : Table} {at : �
         try-kept (filesOf R) (urlIn r) (pickUrls (filesOf R) (urlsFrom root (q + 1))) (basesOf t) (remember (r .a) (basesOf t)) ∙
         rw (sym (m .bases), pick-is)
 
+    -- the next url led to a pick
     pub try-proto : {document : ℕ} {id : ProtoId} → x ≡ Proto document id → Tried root row R before (record { chosen = x; table = l .table })
     try-proto e = record { sound = m .sound; is = w .is ∙ step ∙ rw e }
 
+    -- it led to none
     pub try-next : x ≡ Nothing → Trying root row R before (l .table) (q + 1)
     try-next e = record { sound = m .sound; is = w .is ∙ step ∙ rw e }
 
@@ -105,16 +115,19 @@ pub record Gathering (root R : List Row) (t : Table) (at : ℕ) : Type 0 where
   pub sound : Sound R t
   pub is : finalBases (documentOf root) (filesOf R) ≡ basesFrom (filesOf R) (externsFrom root at) (basesOf t)
 
+-- the walk begins with the empty table, at the row after the document's
 pub gather-start : (root R : List Row) {t : Table} → Empty t → Gathering root R t 1
 unfolding finalBases documentOf
 gather-start root R e = record { sound = e .sound R; is = rw (e .bases, rest-drop root 0) }
 
 module _ {root R : List Row} {t : Table} {at : ℕ} (w : Gathering root R t at) where
+  -- no extern is left
   pub gather-none : elements Externs (drop at root) ≡ [] → Final root R t
   unfolding basesFrom
   gather-none e =
       record { sound = w .sound; bases = sym (w .is ∙ ap (λ (l : List ExternProtoDecl). basesFrom (filesOf R) l (basesOf t)) (each-none externProtoOf Externs root at e)) }
 
+  -- one extern more
   pub gather-next : {q : ℕ} {x : Choice} → Stands Externs root at q → Tried root q R t x → Gathering root R (x .table) (q + 1)
   unfolding basesFrom
   gather-next {q} {x} h s = record {
@@ -126,9 +139,11 @@ module _ {root R : List Row} {t : Table} {at : ℕ} (w : Gathering root R t at) 
 -- ---- the pick of an id, by the final table
 
 module _ (root R : List Row) (id : ℕ) {x : Found} (s : Looked externProtoOf (documentAt root 0 .externProtos) root id x) where
+  -- no such extern
   pub pick-missing : x ≡ found.Nothing → pickOf Nothing ≡ pickAt (documentOf root) (filesOf R) id
   pick-missing e = rw (pick-final (documentOf root) (filesOf R) id, s .is, e)
 
+  -- its urls, by the final table
   pub pick-found : {q : ℕ} {t : Table} {y : Choice} → x ≡ found.At q → Final root R t → Tried root q R t y → pickOf (y .chosen) ≡ pickAt (documentOf root) (filesOf R) id
   pick-found {q} e f w =
       let D = documentOf root in

@@ -1,35 +1,38 @@
 -- The table of bases: a base that it knows, a new one, one too many.
-use mathlib.Core.Path.{_≡_, refl, sym, ap, _∙_}
-use mathlib.Core.Bool.{true, false}
-use mathlib.Core.List.{List, [], _∷_, _++_}
-use mathlib.Core.Option.{none, some}
-use Prim.Native.Nat.{ℕ, zero, suc, _+_, _≤_, _<_}
+use mathlib.Core.Path.{_≡_}
+use mathlib.Core.Bool.{false}
+use mathlib.Core.List.{List}
+use Prim.Native.Nat.{ℕ, _+_, _≤_, _<_}
 use native.Mathlib.Omega.{arith}
 use native.Mathlib.Numerals.{add-one}
 use native.Mathlib.Decide.{ℕ-discrete}
-use lib.ListN.{length, getD, take, set, length-set}
+use lib.ListN.{length, getD, length-set}
 use lib.Seq.{length-take-le, take-suc-set, getD-set-same, getD-set-other}
 use borrow.Author.Tests.{lt-ltb, le-ltb}
 use Rattle.sheet.specs.declared.row.Row.{Row}
 use Rattle.picks.specs.declared.table.Source.{Source}
 use Rattle.picks.specs.declared.table.Table.{Table}
-use Rattle.picks.specs.Picks.{Bases, member, remember}
+use Rattle.picks.specs.Picks.{member, remember}
 use Rattle.picks.specs.Table.{basesOf, Sourced, sourceAt, Sound, Position, Added, Remembered}
 use Rattle.picks.proofs.MemberLaws.{member-at, member-none}
 
 module _ (R : List Row) (t : Table) (base j : ℕ) (s : Sound R t) (p : Position t base j) where
+  -- the table counts its bases
   count-is : length (basesOf t) ≡ t .count
   count-is = length-take-le (t .count) (t .bases) (omega (arith, s .room, s .long .0))
 
+  -- a base that the table knows: the table stays
   pub remember-known : j < t .count → Remembered R t base (record { source = sourceAt t j; table = t })
   unfolding remember
   remember-known h =
       let e = member-at base (t .count) (t .bases) j h (omega (arith, s .room, s .long .0)) (p .here h) in
       record { sound = s; bases = rw e; source = rw e (rw (p .here h) at (s .sources j h)) }
 
+  -- a position past the last says that the base is new
   not-member : t .count ≤ j → member base (basesOf t) ≡ false
   not-member n = member-none base (t .count) (t .bases) (λ k h. p .before k (omega (arith, p .upto)))
 
+  -- a new base and a full table: the base is skipped
   pub remember-full : t .count ≤ j → 64 ≤ j → Remembered R t base (record { source = record { number = 0; row = 0 }; table = t })
   unfolding remember
   remember-full n m =
@@ -37,6 +40,7 @@ module _ (R : List Row) (t : Table) (base j : ℕ) (s : Sound R t) (p : Position
       let i = le-ltb (length (basesOf t)) 64 (omega (arith, p .upto, count-is)) in
       record { sound = s; bases = rw (e, i); source = rw (e, i) }
 
+  -- a new base and a place for it: it is looked for in the library and added
   module _ {x : Source} {u : Table} (m : j < 64) (a : Added t base x u) where
     source-new : t .count ≤ j → (k : ℕ) → k < t .count + 1 → Sourced R base x → Dec (k ≡ t .count) → Sourced R (getD (u .bases) k 0) (sourceAt u k)
     source-new n k h f (yes z) =

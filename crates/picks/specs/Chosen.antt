@@ -15,6 +15,7 @@ use Rattle.picks.specs.declared.Choice.{Choice}
 use Rattle.picks.specs.Picks.{Pick, pickFrom, pickUrls, finalBases}
 use Rattle.picks.specs.Table.{fileAt, basesOf, Sound}
 
+-- the pick that an answer stands for
 abbrev pub pickOf : Chosen → Option Pick
 pickOf (Proto document id) = some (record { document = document; proto = id .0 })
 pickOf Nothing = none
@@ -29,7 +30,7 @@ pub record Tried (root : List Row) (row : ℕ) (R : List Row) (t : Table) (x : C
   pub sound : Sound R (x .table)
   pub is : pickUrls (filesOf R) (externProtoOf (drop row root) .urls) (basesOf t) ≡ (pickOf (x .chosen), basesOf (x .table))
 
--- the table once the urls of every extern were tried
+-- the table once the urls of every extern were tried: bases_of makes it, pick asks it
 pub record Final (root R : List Row) (t : Table) : Type 0 where
   pub sound : Sound R t
   pub bases : basesOf t ≡ finalBases (documentOf root) (filesOf R)

@@ -8,10 +8,13 @@ use Rattle.ast.specs.Ast.{ProtoDecl, Document}
 use Rattle.sheet.specs.declared.row.Row.{Row}
 use Rattle.sheet.specs.declared.part.Part.the-variants.{Protos}
 use Rattle.sheet.specs.Parse.{elements, protoOf, statementsOf}
+use Rattle.lookup.specs.Index.{Filled}
+use Rattle.picks.specs.declared.file.ProtoIndex.{ProtoIndex}
 use Rattle.picks.specs.declared.file.TopProto.{TopProto}
 use Rattle.picks.specs.declared.file.TopProto.the-variants.{At, Nothing}
 use Rattle.picks.specs.Picks.{topProtos, firstNamed}
 
+-- the id that a Proto statement names
 abbrev pub idOf : TopProto → Option ℕ
 idOf (At id next) = some id
 idOf Nothing = none
@@ -33,6 +36,11 @@ NextProto R p Nothing = protosFrom R p ≡ []
 -- the prototypes from a row on
 abbrev pub protosAt : List Row → ℕ → List ProtoDecl
 protosAt R p = map protoOf (elements Protos (drop p R))
+
+-- x counts the prototypes from its row on, and slots hold an index of them
+pub record ProtosIndexed (R : List Row) (slots : List ℕ) (x : ProtoIndex) : Type 0 where
+  pub count : x .count ≡ length (elements Protos (drop (x .from) R))
+  pub filled : Filled Protos R (x .from) (x .stride) slots (x .filled)
 
 -- x is the first Proto statement from row p on whose prototype, of those from row q on, has a name
 abbrev pub FirstNamed : List Row → ℕ → ℕ → ℕ → TopProto → Type 0

@@ -2,7 +2,7 @@
 use mathlib.Core.Path.{_≡_}
 use mathlib.Core.List.{List, []}
 use mathlib.Core.Option.{Option, none, some}
-use Prim.Native.Nat.{ℕ, _+_, _≤_, _<_}
+use Prim.Native.Nat.{ℕ, _+_, _*_, _≤_, _<_}
 use lib.ListN.{length, getD, take, set}
 use lib.Dec.{eqb}
 use Rattle.ast.specs.Ast.{File}
@@ -14,6 +14,10 @@ use Rattle.picks.specs.declared.table.Source.{Source}
 use Rattle.picks.specs.declared.table.Table.{Table}
 use Rattle.picks.specs.declared.table.Looked.{Looked}
 use Rattle.picks.specs.Picks.{Bases, firstFile, remember}
+
+-- a sheet of at most 1,048,576 rows, as refusal 2 has it
+abbrev pub Capped : List ℕ → Type 0
+Capped sheet = length sheet ≤ 8 * 1048576
 
 -- the bases that a table holds, in order
 abbrev pub basesOf : Table → Bases
@@ -28,6 +32,7 @@ fileAt R base s =
 abbrev pub Sourced : List Row → ℕ → Source → Type 0
 Sourced R base s = firstFile base 1 (filesOf R) ≡ fileAt R base s
 
+-- what stands beside the j-th base
 abbrev pub sourceAt : Table → ℕ → Source
 sourceAt t j = record { number = getD (t .files) j 0; row = getD (t .rows) j 0 }
 
@@ -37,6 +42,7 @@ pub record Sound (R : List Row) (t : Table) : Type 0 where
   pub long : (length (t .bases) ≡ 64) × (length (t .files) ≡ 64) × (length (t .rows) ≡ 64)
   pub sources : (j : ℕ) → j < t .count → Sourced R (getD (t .bases) j 0) (sourceAt t j)
 
+-- the table of no base, whatever the library is
 pub record Empty (t : Table) : Type 0 where
   pub bases : basesOf t ≡ []
   pub sound : (R : List Row) → Sound R t

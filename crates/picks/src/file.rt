@@ -5,15 +5,16 @@ use lookup::walk::Found;
 use sheet::part::Part;
 use sheet::row;
 ghost use mathlib.Core.Path.{_≡_};
-ghost use Prim.Native.Nat.{_*_, _≤_};
+ghost use Prim.Native.Nat.{_*_, _≤_, _<_};
 ghost use lib.ListN.{length, drop, getElem?};
 ghost use Rattle.sheet.specs.declared.part.Part.the-variants.{Protos};
 ghost use Rattle.sheet.specs.Rows.{rows};
 ghost use Rattle.sheet.specs.Parse.{elements, optional};
-ghost use Rattle.lookup.specs.Index.{Filled};
+ghost use Rattle.lookup.specs.Walk.{Nth};
 ghost use Rattle.lookup.specs.Lookup.{documentAt};
 ghost use Rattle.picks.specs.Picks.{isNamed, pickIn};
-ghost use Rattle.picks.specs.File.{idOf, NextProto, protosAt, FirstNamed};
+ghost use Rattle.picks.specs.Table.{Capped};
+ghost use Rattle.picks.specs.File.{idOf, NextProto, protosAt, ProtosIndexed, FirstNamed};
 
 // A top-level Proto statement: the id that it names, and the row after it.
 pub enum TopProto {
@@ -21,9 +22,10 @@ pub enum TopProto {
     Nothing,
 }
 
-// An index of the prototypes from a row on, in lent words.
-pub struct Index {
+// The prototypes from a row on: how many they are, and an index of them in lent words.
+pub struct ProtoIndex {
     pub from: usize,
+    pub count: usize,
     pub stride: u32,
     pub filled: usize,
 }
@@ -60,37 +62,63 @@ fn count(sheet: &[u32], from: usize) -> usize
     }
 }
 
-// So many prototypes to a slot that the index reaches the last. Any other number would give the same picks.
-fn stride(sheet: &[u32], from: usize, room: usize) -> u32
-    requires { ⌜ length (now sheet) ≤ 8 * 1048576 ⌝ }
+// So many prototypes to a slot that the slots reach the last. Any other number would give the same picks.
+fn stride(count: usize, room: usize) -> u32
+    requires { ⌜ count ≤ 1048576 ⌝ }
+    ensures { λ n. ⌜ (0 < room → count ≤ n * room) ⌝ }
 {
-    let n = count(sheet, from);
-    if n <= room {
+    if count <= room {
         return 1;
     }
     if room == 0 {
         return 1;
     }
-    (n / room + 1) as u32
+    (count / room + 1) as u32
 }
 
-// Whether the prototype of an id exists and has a name.
-fn is_named(sheet: &[u32], protos: Index, slots: &[u32], id: u32, name: u32) -> bool
-    requires { ⌜ Filled Protos (rows (now sheet)) (protos .from) (protos .stride) (now slots) (protos .filled) ⌝ }
-    ensures { λ b. ⌜ b ≡ isNamed name (getElem? (protosAt (rows (now (sheet .entry))) (protos .from)) id) ⌝ }
+fn index_protos(sheet: &[u32], from: usize, slots: &mut [u32]) -> ProtoIndex
+    requires { ⌜ Capped (now sheet) ⌝ }
+    ensures { λ x. ⌜ (x .from ≡ from) × ProtosIndexed (rows (now (sheet .entry))) (now (slots .exit)) x ⌝ }
 {
+    let count = count(sheet, from);
+    let stride = stride(count, slots.len());
+    let filled = index::index(sheet, Part::Protos, from, stride, slots);
+    ProtoIndex {
+        from,
+        count,
+        stride,
+        filled,
+    }
+}
+
+// The row of the prototype of an id. An id past the last is told without a walk.
+fn proto_row(sheet: &[u32], protos: ProtoIndex, slots: &[u32], id: u32) -> Found
+    requires { ⌜ ProtosIndexed (rows (now sheet)) (now slots) protos ⌝ }
+    ensures { λ x. ⌜ Nth Protos (rows (now (sheet .entry))) (protos .from) id x ⌝ }
+{
+    if protos.count <= id as usize {
+        return Found::Nothing;
+    }
     let from = protos.from;
     let stride = protos.stride;
     let filled = protos.filled;
-    let Found::At(q) = index::find(sheet, Part::Protos, from, stride, slots, filled, id) else {
+    index::find(sheet, Part::Protos, from, stride, slots, filled, id)
+}
+
+// Whether the prototype of an id exists and has a name.
+fn is_named(sheet: &[u32], protos: ProtoIndex, slots: &[u32], id: u32, name: u32) -> bool
+    requires { ⌜ ProtosIndexed (rows (now sheet)) (now slots) protos ⌝ }
+    ensures { λ b. ⌜ b ≡ isNamed name (getElem? (protosAt (rows (now (sheet .entry))) (protos .from)) id) ⌝ }
+{
+    let Found::At(q) = proto_row(sheet, protos, slots, id) else {
         return false;
     };
     row::row_at(sheet, q).a == name
 }
 
 // The first Proto statement from a row on whose prototype exists and has a name.
-fn first_named(sheet: &[u32], from: usize, name: u32, protos: Index, slots: &[u32]) -> TopProto
-    requires { ⌜ Filled Protos (rows (now sheet)) (protos .from) (protos .stride) (now slots) (protos .filled) ⌝ }
+fn first_named(sheet: &[u32], from: usize, name: u32, protos: ProtoIndex, slots: &[u32]) -> TopProto
+    requires { ⌜ ProtosIndexed (rows (now sheet)) (now slots) protos ⌝ }
     ensures { λ x. ⌜ FirstNamed (rows (now (sheet .entry))) (protos .from) name from x ⌝ }
 {
     let mut at = from;
@@ -108,7 +136,7 @@ fn first_named(sheet: &[u32], from: usize, name: u32, protos: Index, slots: &[u3
 // The pick in the document that begins at a row. With a fragment, the first top-level Proto of that name; without, the
 // first top-level Proto, dangling or not.
 pub fn pick_in(sheet: &[u32], document: usize, fragment: u32, slots: &mut [u32]) -> TopProto
-    requires { ⌜ length (now sheet) ≤ 8 * 1048576 ⌝ }
+    requires { ⌜ Capped (now sheet) ⌝ }
     ensures { λ x. ⌜ idOf x ≡ pickIn (documentAt (rows (now (sheet .entry))) document) (optional fragment) ⌝ }
 {
     if sheet.len() / 8 <= document {
@@ -121,12 +149,6 @@ pub fn pick_in(sheet: &[u32], document: usize, fragment: u32, slots: &mut [u32])
     if fragment == 4294967295 {
         return next_proto(sheet, top + 1);
     }
-    let stride = stride(sheet, from, slots.len());
-    let filled = index::index(sheet, Part::Protos, from, stride, slots);
-    let protos = Index {
-        from,
-        stride,
-        filled,
-    };
+    let protos = index_protos(sheet, from, slots);
     first_named(sheet, top + 1, fragment, protos, slots)
 }

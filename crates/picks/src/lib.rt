@@ -1,5 +1,5 @@
 // Picks (document 01, Modules: Picks): for each extern of the root, the document and the PROTO that its urls lead to.
-pub mod file;
+mod file;
 pub mod table;
 
 use ast::ExternProtoId;
@@ -13,12 +13,12 @@ use sheet::row;
 use table::Source;
 use table::Table;
 ghost use mathlib.Core.Path.{_≡_};
-ghost use Prim.Native.Nat.{_*_, _≤_, _<_};
+ghost use Prim.Native.Nat.{_<_};
 ghost use lib.ListN.{length};
 ghost use Rattle.sheet.specs.Rows.{rows};
 ghost use Rattle.sheet.specs.Parse.{documentOf, filesOf};
 ghost use Rattle.picks.specs.Picks.{pickAt};
-ghost use Rattle.picks.specs.Table.{Sound};
+ghost use Rattle.picks.specs.Table.{Capped, Sound};
 ghost use Rattle.picks.specs.Chosen.{pickOf, Leads, Tried, Final};
 
 // The picked document's number and the PROTO's id in it.
@@ -35,7 +35,7 @@ pub struct Choice {
 
 // What a url leads to, by the file of its base.
 fn pick_from(library: &[u32], source: Source, fragment: u32, slots: &mut [u32]) -> Chosen
-    requires { ⌜ length (now library) ≤ 8 * 1048576 ⌝ }
+    requires { ⌜ Capped (now library) ⌝ }
     ensures { λ x. ⌜ Leads (rows (now (library .entry))) source fragment x ⌝ }
 {
     let number = source.number;
@@ -59,7 +59,7 @@ pub fn pick_urls(
     table: Table,
     slots: &mut [u32],
 ) -> Choice
-    requires { ⌜ (length (now library) ≤ 8 * 1048576) × (row < length (rows (now root))) × Sound (rows (now library)) table ⌝ }
+    requires { ⌜ Capped (now library) × (row < length (rows (now root))) × Sound (rows (now library)) table ⌝ }
     ensures { λ x. ⌜ Tried (rows (now (root .entry))) row (rows (now (library .entry))) table x ⌝ }
 {
     let mut table = table;
@@ -85,7 +85,7 @@ pub fn pick_urls(
 
 // The table once the urls of every extern of the root were tried, in order.
 pub fn bases_of(root: &[u32], library: &[u32], slots: &mut [u32]) -> Table
-    requires { ⌜ length (now library) ≤ 8 * 1048576 ⌝ }
+    requires { ⌜ Capped (now library) ⌝ }
     ensures { λ t. ⌜ Final (rows (now (root .entry))) (rows (now (library .entry))) t ⌝ }
 {
     let mut table = table::empty();
@@ -108,7 +108,7 @@ pub fn pick(
     id: ExternProtoId,
     slots: &mut [u32],
 ) -> Chosen
-    requires { ⌜ (length (now library) ≤ 8 * 1048576) × Final (rows (now root)) (rows (now library)) table ⌝ }
+    requires { ⌜ Capped (now library) × Final (rows (now root)) (rows (now library)) table ⌝ }
     ensures { λ x. ⌜ pickOf x ≡ pickAt (documentOf (rows (now (root .entry)))) (filesOf (rows (now (library .entry)))) (id .0) ⌝ }
 {
     let Found::At(q) = document::extern_row(root, 0, id) else {

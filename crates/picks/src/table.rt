@@ -3,10 +3,9 @@ use lookup::walk;
 use lookup::walk::Found;
 use sheet::part::Part;
 use sheet::row;
-ghost use Prim.Native.Nat.{_*_, _≤_, _<_};
-ghost use lib.ListN.{length};
+ghost use Prim.Native.Nat.{_≤_, _<_};
 ghost use Rattle.sheet.specs.Rows.{rows};
-ghost use Rattle.picks.specs.Table.{Empty, Position, Sourced, Sound, Added, Remembered};
+ghost use Rattle.picks.specs.Table.{Capped, Empty, Position, Sourced, Sound, Added, Remembered};
 
 // A file of the library: its number, from 1, and the row where its document begins. Number 0 stands for no file.
 pub struct Source {
@@ -56,7 +55,7 @@ fn position(table: Table, base: u32) -> usize
 
 // The library's first file of a base.
 fn first_file(library: &[u32], base: u32) -> Source
-    requires { ⌜ length (now library) ≤ 8 * 1048576 ⌝ }
+    requires { ⌜ Capped (now library) ⌝ }
     ensures { λ s. ⌜ Sourced (rows (now (library .entry))) base s ⌝ }
 {
     let mut number = 1;
@@ -89,7 +88,7 @@ fn add(table: Table, base: u32, source: Source) -> Table
 
 // Looks for a base, in the table and else in the library. Unresolved bases count; a new one past the 64th is skipped.
 pub fn remember(library: &[u32], table: Table, base: u32) -> Looked
-    requires { ⌜ (length (now library) ≤ 8 * 1048576) × Sound (rows (now library)) table ⌝ }
+    requires { ⌜ Capped (now library) × Sound (rows (now library)) table ⌝ }
     ensures { λ x. ⌜ Remembered (rows (now (library .entry))) table base x ⌝ }
 {
     let at = position(table, base);

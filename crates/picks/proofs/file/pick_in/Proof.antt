@@ -4,11 +4,10 @@ use Rattle.picks.proofs.file.pick_in.Statement.{statement}
 use Rattle.picks.proofs.file.pick_in.Tie as tie
 use Rattle.picks.proofs.file.pick_in.Reads as reads
 use Rattle.picks.proofs.file.pick_in.Lts as lts
-use Rattle.lookup.proofs.index.index.Reads as index-reads
 use Rattle.lookup.proofs.walk.seek.Reads as seek-reads
 use Rattle.picks.proofs.file.first_named.Reads as first-named-reads
+use Rattle.picks.proofs.file.index_protos.Reads as index-protos-reads
 use Rattle.picks.proofs.file.next_proto.Reads as next-proto-reads
-use Rattle.picks.proofs.file.stride.Reads as stride-reads
 use Prim.Native.Nat.{_+_}
 use denote.Ref.{now}
 use Rattle.sheet.specs.declared.part.Part.the-variants.{Tops}
@@ -46,14 +45,11 @@ next-proto-requires c κs = search needs
 returns-3 : tie.Need-returns-3
 returns-3 c = let R = rows (now (c .before .before .before .before .before .before .before .before .before .args .sheet)) in pick-first R (c .before .before .before .before .before .before .before .before .before .args .document) ((c .before .before .before .top .given .0 .0) + 1) (top-at R (c .before .before .before .before .before .before .before .before .before .args .document) (stands Tops R ((c .before .before .before .before .before .before .before .before .before .args .document) + 1) (c .before .before .before .before .before .seek .ensures) (c .before .before .before .top .given .1))) (c .before .before .before .before .before .before .before .before .before .args .fragment) (c .next-proto .result) (c .before .if2 .taken) (c .next-proto .ensures)
 
-stride-requires : tie.Need-stride-requires
-stride-requires c κs = search needs
-
-index-requires : tie.Need-index-requires
-index-requires c κs = search needs
+index-protos-requires : tie.Need-index-protos-requires
+index-protos-requires c κs = search needs
 
 add-first-named : tie.Need-add-first-named
-add-first-named c = omega (arith, stands Tops (rows (now (c .before .before .before .before .before .before .before .before .before .before .before .before .before .args .sheet))) _ (c .before .before .before .before .before .before .before .before .before .seek .ensures) (c .before .before .before .before .before .before .before .top .given .1) .below, rows-length (now (c .before .before .before .before .before .before .before .before .before .before .before .before .before .args .sheet)))
+add-first-named c = omega (arith, stands Tops (rows (now (c .before .before .before .before .before .before .before .before .before .before .before .before .args .sheet))) _ (c .before .before .before .before .before .before .before .before .seek .ensures) (c .before .before .before .before .before .before .top .given .1) .below, rows-length (now (c .before .before .before .before .before .before .before .before .before .before .before .before .args .sheet)))
 
 first-named-requires : tie.Need-first-named-requires
 first-named-requires c κs = search needs
@@ -62,7 +58,7 @@ same-length : tie.Need-same-length
 same-length c = search needs
 
 returns-4 : tie.Need-returns-4
-returns-4 c = let R = rows (now (c .before .before .before .before .before .before .before .before .before .before .before .before .before .before .before .args .sheet)) in pick-named R (c .before .before .before .before .before .before .before .before .before .before .before .before .before .before .before .args .document) ((c .before .before .before .before .before .before .before .before .before .top .given .0 .0) + 1) (top-at R (c .before .before .before .before .before .before .before .before .before .before .before .before .before .before .before .args .document) (stands Tops R ((c .before .before .before .before .before .before .before .before .before .before .before .before .before .before .before .args .document) + 1) (c .before .before .before .before .before .before .before .before .before .before .before .seek .ensures) (c .before .before .before .before .before .before .before .before .before .top .given .1))) (c .before .before .before .before .before .before .before .before .before .before .before .before .before .before .before .args .fragment) (c .first-named .result) (c .before .before .before .before .before .before .before .if2 .left) (c .first-named .ensures)
+returns-4 c = let R = rows (now (c .before .before .before .before .before .before .before .before .before .before .before .before .before .before .args .sheet)) in pick-named R (c .before .before .before .before .before .before .before .before .before .before .before .before .before .before .args .document) ((c .before .before .before .before .before .before .before .before .top .given .0 .0) + 1) (top-at R (c .before .before .before .before .before .before .before .before .before .before .before .before .before .before .args .document) (stands Tops R ((c .before .before .before .before .before .before .before .before .before .before .before .before .before .before .args .document) + 1) (c .before .before .before .before .before .before .before .before .before .before .seek .ensures) (c .before .before .before .before .before .before .before .before .top .given .1))) (c .before .before .before .before .before .before .before .before .before .before .before .before .before .before .args .fragment) (c .first-named .result) (c .before .before .before .before .before .before .if2 .left) (rw (c .before .before .before .before .index-protos .ensures .0) at (c .first-named .ensures))
 
 pub pick-in-spec : {M : Type 1} → statement M
 pick-in-spec =
@@ -77,8 +73,7 @@ pick-in-spec =
     add-next-proto
     next-proto-requires
     returns-3
-    stride-requires
-    index-requires
+    index-protos-requires
     add-first-named
     first-named-requires
     same-length

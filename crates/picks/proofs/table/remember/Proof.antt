@@ -10,6 +10,7 @@ use Rattle.picks.proofs.table.position.Reads as position-reads
 use denote.Ref.{now}
 use Rattle.sheet.specs.Rows.{rows}
 use Rattle.picks.proofs.TableLaws.{remember-known, remember-new, remember-full}
+use native.Mathlib.Omega.{arith}
 
 position-requires : tie.Need-position-requires
 position-requires c κs = search needs
@@ -36,10 +37,10 @@ add-requires : tie.Need-add-requires
 add-requires c κs = search needs
 
 returns-2 : tie.Need-returns-2
-returns-2 c = remember-new (rows (now (c .before .before .before .before .before .before .args .library))) _ (c .before .before .before .before .before .before .args .base) (c .before .before .before .before .position .result) (c .before .before .before .before .before .before .pre .1) (c .before .before .before .before .position .ensures) (c .before .before .if2 .taken) (c .add .ensures) (c .before .before .before .if1 .left) (c .before .first-file .ensures)
+returns-2 c = remember-new (rows (now (c .before .before .before .before .before .before .args .library))) _ (c .before .before .before .before .before .before .args .base) (c .before .before .before .before .position .result) (c .before .before .before .before .before .before .pre .1) (c .before .before .before .before .position .ensures) (omega arith) (c .add .ensures) (c .before .before .before .if1 .left) (c .before .first-file .ensures)
 
 returns-3 : tie.Need-returns-3
-returns-3 c = remember-full (rows (now (c .before .before .before .before .args .library))) _ (c .before .before .before .before .args .base) (c .before .before .position .result) (c .before .before .before .before .pre .1) (c .before .before .position .ensures) (c .before .if1 .left) (c .if2 .left)
+returns-3 c = remember-full (rows (now (c .before .before .before .before .args .library))) _ (c .before .before .before .before .args .base) (c .before .before .position .result) (c .before .before .before .before .pre .1) (c .before .before .position .ensures) (c .before .if1 .left) (omega arith)
 
 pub remember-spec : {M : Type 1} → statement M
 remember-spec =
