@@ -13,13 +13,13 @@ use sheet::Checked;
 use sheet::grammar::Form;
 use sheet::row::Row;
 
-// 1: a form, b number of words, c 1 if they are those of the case before; then their rows.
+// 1 check: a form, b number of words, c number of rows kept; the other rows follow.
 pub fn check(input: &[u8], at: usize, h: Row, words: &mut [u32]) -> usize {
     let n = h.b as usize;
     if 2 < h.a {
         return 0;
     }
-    let next = new_rows(input, at, h.c, (n + 7) / 8, words);
+    let next = frame::rows(input, at, h.c, (n + 7) / 8, words);
     if next == 0 {
         return 0;
     }
@@ -28,14 +28,6 @@ pub fn check(input: &[u8], at: usize, h: Row, words: &mut [u32]) -> usize {
     }
     print_check(sheet::check(&words[..n], form_of(h.a)));
     next
-}
-
-// Rows that follow, unless those of the case before are to be kept.
-fn new_rows(input: &[u8], at: usize, kept: u32, count: usize, words: &mut [u32]) -> usize {
-    if kept == 1 {
-        return at;
-    }
-    frame::rows(input, at, count, words)
 }
 
 fn form_of(n: u32) -> Form {
@@ -53,7 +45,7 @@ fn print_check(checked: Checked) {
     }
 }
 
-// 2: a number of bytes, b number of words lent; then the bytes.
+// 2 read lines: a number of bytes, b number of words lent; the bytes follow.
 pub fn read(input: &[u8], at: usize, h: Row) -> usize {
     let n = h.a as usize;
     let lent = h.b as usize;
@@ -80,12 +72,12 @@ fn print_read(text: &[u8], words: &mut [u32]) {
     }
 }
 
-// 3: a number of words, b number of bytes lent; then the words' rows.
+// 3 write lines: a number of words, b number of bytes lent, c number of rows kept; the other rows follow.
 pub fn write(input: &[u8], at: usize, h: Row, words: &mut [u32]) -> usize {
     let n = h.a as usize;
     let lent = h.b as usize;
     let mut bytes = [165u8; 4096];
-    let next = frame::rows(input, at, (n + 7) / 8, words);
+    let next = frame::rows(input, at, h.c, (n + 7) / 8, words);
     if next == 0 {
         return 0;
     }
@@ -106,8 +98,8 @@ fn print_write(words: &[u32], bytes: &mut [u8]) {
     }
 }
 
-// 4: a rows of the root, b rows of the library, c document, d what is looked up, e its id, f 1 if the sheets are those of the
-// case before; then the rows of both.
+// 4 lookup: a rows of the root, b rows of the library, c document, d what is looked up (0 node, 1 proto, 2 extern, 3 the rows
+// of a proto), e its id, f and g number of rows kept of each; the other rows follow.
 pub fn lookup<'a>(
     input: &[u8],
     at: usize,
@@ -120,11 +112,11 @@ pub fn lookup<'a>(
     if 3 < h.d {
         return 0;
     }
-    let after_root = new_rows(input, at, h.f, n, root);
+    let after_root = frame::rows(input, at, h.f, n, root);
     if after_root == 0 {
         return 0;
     }
-    let next = new_rows(input, after_root, h.f, m, library);
+    let next = frame::rows(input, after_root, h.g, m, library);
     if next == 0 {
         return 0;
     }

@@ -10,7 +10,7 @@ use sheet::row;
 // A case's answer, on a line of its own: the place after the case, or 0 where it is malformed.
 fn case<'a>(input: &[u8], at: usize, root: &'a mut [u32], library: &'a mut [u32]) -> usize {
     let mut header = [0u32; 8];
-    let data = frame::rows(input, at, 1, &mut header);
+    let data = frame::lines(input, at, 1, &mut header);
     let h = row::row_at(&header, 0);
     let tag = h.kind;
     match tag {

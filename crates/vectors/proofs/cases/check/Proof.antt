@@ -6,8 +6,8 @@ use Rattle.vectors.proofs.cases.check.Reads as reads
 use Rattle.vectors.proofs.cases.check.Lts as lts
 use Rattle.sheet.proofs.check.Reads as check-reads
 use Rattle.vectors.proofs.cases.form_of.Reads as form-of-reads
-use Rattle.vectors.proofs.cases.new_rows.Reads as new-rows-reads
 use Rattle.vectors.proofs.cases.print_check.Reads as print-check-reads
+use Rattle.vectors.proofs.frame.rows.Reads as rows-reads
 use lib.ListN.{length-take}
 use native.Mathlib.Omega.{arith}
 
@@ -17,11 +17,11 @@ cast-n c = search needs
 returns : tie.Need-returns
 returns c = search needs
 
-add-new-rows : tie.Need-add-new-rows
-add-new-rows c = search needs
+add-rows : tie.Need-add-rows
+add-rows c = search needs
 
-new-rows-requires : tie.Need-new-rows-requires
-new-rows-requires c κs = search needs
+rows-requires : tie.Need-rows-requires
+rows-requires c κs = search needs
 
 same-length : tie.Need-same-length
 same-length c = search needs
@@ -62,8 +62,8 @@ check-spec =
     (tie.spec
     cast-n
     returns
-    add-new-rows
-    new-rows-requires
+    add-rows
+    rows-requires
     same-length
     returns-2
     same-length-2

@@ -4,8 +4,8 @@ use Rattle.vectors.proofs.cases.lookup.Statement.{statement}
 use Rattle.vectors.proofs.cases.lookup.Tie as tie
 use Rattle.vectors.proofs.cases.lookup.Reads as reads
 use Rattle.vectors.proofs.cases.lookup.Lts as lts
-use Rattle.vectors.proofs.cases.new_rows.Reads as new-rows-reads
 use Rattle.vectors.proofs.cases.print_lookup.Reads as print-lookup-reads
+use Rattle.vectors.proofs.frame.rows.Reads as rows-reads
 use lib.ListN.{length-take}
 use native.Mathlib.Omega.{arith}
 
@@ -18,8 +18,8 @@ cast-m c = search needs
 returns : tie.Need-returns
 returns c = search needs
 
-new-rows-requires : tie.Need-new-rows-requires
-new-rows-requires c κs = search needs
+rows-requires : tie.Need-rows-requires
+rows-requires c κs = search needs
 
 same-length : tie.Need-same-length
 same-length c = search needs
@@ -27,8 +27,8 @@ same-length c = search needs
 returns-2 : tie.Need-returns-2
 returns-2 c = search needs
 
-new-rows-requires-2 : tie.Need-new-rows-requires-2
-new-rows-requires-2 c κs = search needs
+rows-requires-2 : tie.Need-rows-requires-2
+rows-requires-2 c κs = search needs
 
 same-length-2 : tie.Need-same-length-2
 same-length-2 c = search needs
@@ -94,10 +94,10 @@ lookup-spec =
     cast-n
     cast-m
     returns
-    new-rows-requires
+    rows-requires
     same-length
     returns-2
-    new-rows-requires-2
+    rows-requires-2
     same-length-2
     same-length-3
     returns-3
