@@ -179,15 +179,19 @@ TOPS = [TOP, statement(0, 0), statement(1, 0), statement(2, 1), route(ids=(1, 2)
 
 RICH = [document(NONE)] + RICH_NODE + PLAIN_NODES + PROTOS + EXTERNS + TOPS
 SMALL = [document(), TOP]
-FILES = (
-    [file(80), document(1), node(19), node(20), proto(66), statement(0, 1), extern(76), url(83), TOP, statement(1, 0)]
-    + [file(81), document(2), TOP]
-    + [file(80), document(3)]
-    + [node(21), instance(52, 1, 1, 1), of_id(0), route(), association(1, 2, 3)]
+FIRST = (
+    [file(80), document(1), node(19), node(20)] + nodes(6, 1)
+    + [interface(0, 3, 20), route(), mark(0), instance(53, 0, 0, 1), association(4, 5, 6)]
+    + [proto(66), statement(0, 1), extern(76), url(83), TOP, statement(1, 0)]
+)
+SECOND = [file(81), document(2), TOP]
+THIRD = (
+    [file(80), document(3), node(21), instance(52, 1, 1, 1), of_id(0), route(), association(1, 2, 3)]
     + [node(22)] + nodes(6, 0, 1) + [statement(2, 0)]
     + [proto(67), interface(3, 6, 62, NONE, (6, 2, 1)), of_id(1), statement(0, 0), proto(68), proto(69), statement(0, 1)]
     + [extern(77), interface(0, 0, 71), url(84), extern(78), TOP, statement(1, 2), statement(0, 1)]
 )
+FILES = FIRST + SECOND + THIRD
 EXPANDED_NODE = (
     [node(30), field(11), field_is(13, 14)] + nodes(6, 1)
     + [interface(0, 3, 20, 30), interface(2, 0, 22, NONE, (1, 1, 5)), statement(2, 0), route(), mark(0)]
@@ -474,7 +478,7 @@ def changed(chance, sheet):
 
 TO_CHANGE = [
     (ROOT, IN_NODE + nodes(6, 1, 2) + [statement(1, 0)] + PROTOS[:1] + PROTOS[2:6] + EXTERNS[:4] + TOPS[:3]),
-    (LIBRARY, FILES[:3] + FILES[8:20] + TOPS[:1]),
+    (LIBRARY, FIRST[:3] + TOPS[:2] + SECOND + THIRD[:7] + TOPS[:1]),
     (EXPANDED, FLAT[:2] + FLAT[4:9] + FLAT[11:15] + FLAT[17:22]),
 ]
 

@@ -39,5 +39,8 @@ fn main() {
     let mut root = [0u32; 1024];
     let mut library = [0u32; 1024];
     let n = io::read_full(STDIN_FILENO, &mut input);
+    if n == 0 {
+        frame::print(9, 0, 0, 0, 0);
+    }
     run(&input[..n], &mut root, &mut library);
 }
