@@ -1,0 +1,55 @@
+-- Written by `needs write`, from answers.txt: edit that. The proof.
+use Rattle.vectors.proofs.sum.of_words.Statement.{statement}
+use Rattle.vectors.proofs.sum.of_words.Tie as tie
+use Rattle.vectors.proofs.sum.of_words.Reads as reads
+use Rattle.vectors.proofs.sum.of_words.Lts as lts
+use Rattle.vectors.proofs.sum.with.Reads as with-reads
+use Prim.Native.Nat.{_≤_, _-_}
+use lib.ListN.{length}
+use native.Mathlib.Omega.{arith}
+use borrow.Author.Needs.{needs}
+
+abbrev Inv-loop : tie.InvT-loop
+Inv-loop words sum₀ i₀ sum i = i ≤ length words
+
+abbrev μ-loop : tie.MeasureT-loop
+μ-loop words sum₀ i₀ sum i = length words - i
+
+loop-holds : tie.Need-loop-holds Inv-loop μ-loop
+loop-holds c = omega arith
+
+mul-with : tie.Need-mul-with Inv-loop μ-loop
+mul-with c = omega arith
+
+shared-slice-read-with : tie.Need-shared-slice-read-with Inv-loop μ-loop
+shared-slice-read-with c = omega arith
+
+with-requires : tie.Need-with-requires Inv-loop μ-loop
+with-requires c κs = search needs
+
+add-i : tie.Need-add-i Inv-loop μ-loop
+add-i c = omega arith
+
+loop-less : tie.Need-loop-less Inv-loop μ-loop
+loop-less c = omega arith
+
+loop-again : tie.Need-loop-again Inv-loop μ-loop
+loop-again c = omega arith
+
+returns : tie.Need-returns Inv-loop μ-loop
+returns c = tt
+
+pub of-words-spec : {M : Type 1} → statement M
+of-words-spec =
+    tie.close
+    (tie.spec
+    Inv-loop
+    μ-loop
+    loop-holds
+    mul-with
+    shared-slice-read-with
+    with-requires
+    add-i
+    loop-less
+    loop-again
+    returns)

@@ -1,0 +1,45 @@
+// What cases are made of: headers and rows as lines, and the lines of the answers.
+use libc::STDOUT_FILENO;
+use lines::Read;
+
+// A number for an answer; none of the cases has a longer one.
+pub fn word(n: usize) -> u32 {
+    if n < 4294967295 { n as u32 } else { 4294967295 }
+}
+
+// Lines at a place, into the lent words: the place after them, or 0 where they are malformed.
+pub fn lines(input: &[u8], at: usize, count: usize, words: &mut [u32]) -> usize {
+    if input.len() < at {
+        return 0;
+    }
+    if (input.len() - at) / 89 < count {
+        return 0;
+    }
+    let end = at + 89 * count;
+    match lines::read_lines(&input[at..end], words) {
+        Read::Rows(_) => end,
+        Read::WrongLength => 0,
+        Read::BadLine(_) => 0,
+    }
+}
+
+// Rows in the lent words: the first are kept from the cases before, the others stand as lines at a place. The place after
+// them, or 0 where they are malformed.
+pub fn rows(input: &[u8], at: usize, kept: u32, count: usize, words: &mut [u32]) -> usize {
+    let n = kept as usize;
+    let from = 8 * n;
+    if count < n {
+        return 0;
+    }
+    if words.len() < from {
+        return 0;
+    }
+    lines(input, at, count - n, &mut words[from..])
+}
+
+pub fn print(tag: u32, a: u32, b: u32, c: u32, d: u32) {
+    let words = [tag, a, b, c, d, 0, 0, 0];
+    let mut line = [0u8; 89];
+    lines::write_lines(&words, &mut line);
+    io::write_all(STDOUT_FILENO, &line);
+}
