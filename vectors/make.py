@@ -164,18 +164,18 @@ RICH_NODE = (
     + [field_is(13, 14, 1), field(15, (0, 2, 0), 1)]
     + [interface(0, 3, 20), interface(1, 41, 21, 30), interface(2, 0, 22, NONE, (1, 1, NONE))]
     + [interface(3, 6, 23, 31, (7, 2, 2)), of_id(0), of_id(1)]
-    + [statement(0, 1), statement(1, 0), statement(2, 0), route(ids=(NONE, 1)), statement(4, 99)]
+    + [statement(0, 1), statement(1, 0), statement(2, 0), route(ids=(2, 1)), statement(4, 99)]
     + [mark(0), mark(1), mark(2), instance(50, 2, 2, 2), of_id(1), of_id(2)]
-    + [route((1, 2, 3, 4), (0, NONE)), route(ids=(7, 8)), association(20, 1, 11), association(21, 2, 12)]
+    + [route((1, 2, 3, 4), (0, NONE)), route(ids=(2, 8)), association(20, 1, 11), association(21, 2, 12)]
 )
 PLAIN_NODES = [node(16, 33, 1, 0), node(17, NONE, 2, 0), node(18, 34, 3, 0), instance(51)]
 PROTOS = (
     [proto(60), interface(2, 0, 61, NONE, (0, 1, 3)), interface(3, 6, 62, 63, (6, 2, 2)), of_id(0), of_id(3)]
-    + [statement(0, 0), route(), statement(1, 0), statement(2, 0), statement(4, NONE)]
+    + [statement(0, 0), route(ids=(2, 1)), statement(1, 0), statement(2, 0), statement(4, NONE)]
     + [proto(64), proto(65), statement(0, 2)]
 )
 EXTERNS = [extern(70), interface(0, 0, 71, 72), interface(1, 1, 73), url(80), url(80, 81), extern(74), url(82), extern(75)]
-TOPS = [TOP, statement(0, 0), statement(1, 0), statement(2, 1), route(ids=(1, 2)), statement(4, 7)]
+TOPS = [TOP, statement(0, 0), statement(1, 0), statement(2, 1), route(ids=(2, 2)), statement(4, 7)]
 
 RICH = [document(NONE)] + RICH_NODE + PLAIN_NODES + PROTOS + EXTERNS + TOPS
 SMALL = [document(), TOP]
@@ -191,10 +191,11 @@ THIRD = (
     + [proto(67), interface(3, 6, 62, NONE, (6, 2, 1)), of_id(1), statement(0, 0), proto(68), proto(69), statement(0, 1)]
     + [extern(77), interface(0, 0, 71), url(84), extern(78), TOP, statement(1, 2), statement(0, 1)]
 )
-FILES = FIRST + SECOND + THIRD
+FOURTH = [file(82), document(4), node(23), proto(63), statement(0, 0), TOP]
+FILES = FIRST + SECOND + THIRD + FOURTH
 EXPANDED_NODE = (
     [node(30), field(11), field_is(13, 14)] + nodes(6, 1)
-    + [interface(0, 3, 20, 30), interface(2, 0, 22, NONE, (1, 1, 5)), statement(2, 0), route(), mark(0)]
+    + [interface(0, 3, 20, 30), interface(2, 0, 22, NONE, (1, 1, 5)), statement(2, 0), route(ids=(2, NONE)), mark(0)]
     + [instance(50, 1, 1, 1), of_id(1), route(ids=(0, 1)), association(20, 1, 11), node(31, 4, 2, 0), node(32, NONE, 3, 0)]
 )
 FLAT = (
@@ -208,7 +209,7 @@ FORMS = ((ROOT, "root"), (LIBRARY, "library"), (EXPANDED, "expanded"))
 
 def fitting(v):
     sheets = (([], "an empty sheet"), (SMALL, "a document and its top"), (RICH, "every kind"))
-    for sheet, title in sheets + ((FLAT, "an expanded document"), (FILES, "three files")):
+    for sheet, title in sheets + ((FLAT, "an expanded document"), (FILES, "four files")):
         for form, wanted in FORMS:
             v.check(f"{title}, {wanted}", form, sheet)
     v.check("every kind in a file", LIBRARY, [file(1)] + RICH)
@@ -585,7 +586,7 @@ LOOKUPS = ((NODE, "node"), (PROTO, "proto"), (EXTERN, "extern"), (PROTO_ROWS, "r
 
 
 def looking_up(v):
-    for root, library, files in ((RICH, FILES, "three files"), (FLAT, [file(1)] + SMALL, "one file"), (SMALL, [], "no file")):
+    for root, library, files in ((RICH, FILES, "four files"), (FLAT, [file(1)] + SMALL, "one file"), (SMALL, [], "no file")):
         past = sum(r[0] == 12 for r in library) + 1
         for which, title in LOOKUPS:
             for doc in range(past):
