@@ -2,8 +2,8 @@
 -- First the shape of a row by its kind, the table's columns; then what may follow what.
 use mathlib.Core.List.{List, [], _∷_}
 use mathlib.Core.Bool.{Bool, true, false, not, _&&_, _||_}
-use Prim.Native.Nat.{ℕ, suc, _-_}
-use lib.ListN.{getD}
+use Prim.Native.Nat.{ℕ, suc, _-_, _%_}
+use lib.ListN.{length, getD}
 use lib.Dec.{ltb, leb, eqb}
 use Rattle.ast.specs.Choice.{choose}
 use Rattle.sheet.specs.declared.row.Row.{Row}
@@ -14,6 +14,7 @@ use Rattle.sheet.specs.declared.grammar.Role.{Role}
 use Rattle.sheet.specs.declared.grammar.Role.the-variants.{Starts, Opens, Inner, Files, Owed, Never}
 use Rattle.sheet.specs.declared.grammar.Next.{Next}
 use Rattle.sheet.specs.declared.grammar.Next.the-variants.{Go, No}
+use Rattle.sheet.specs.Rows.{rows}
 use Rattle.sheet.specs.declared.Checked.{Checked}
 use Rattle.sheet.specs.declared.Checked.the-variants.{Fits, Bad}
 
@@ -207,3 +208,11 @@ start form = opened (choose (isLibrary form) 12 0)
 
 abbrev pub checked : Form → List Row → Checked
 checked form l = run form (start form) 0 l
+
+abbrev pub isFits : Checked → Bool
+isFits Fits = true
+isFits (Bad n) = false
+
+-- "An operation that takes one calls any other sheet malformed, also a length not a multiple of 8 words"
+abbrev pub isExpanded : List ℕ → Bool
+isExpanded s = choose (eqb (length s % 8) 0) (isFits (checked Expanded (rows s))) false

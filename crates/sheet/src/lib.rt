@@ -8,7 +8,7 @@ use grammar::Form;
 use grammar::Next;
 ghost use mathlib.Core.Path.{_≡_};
 ghost use Rattle.sheet.specs.Rows.{rows};
-ghost use Rattle.sheet.specs.Grammar.{checked};
+ghost use Rattle.sheet.specs.Grammar.{checked, isExpanded};
 
 // Whether a sheet fits its form, or else the first row, from 0, that doesn't: the row count, where the sheet ends early.
 // Words past the last whole row are no row.
@@ -34,5 +34,19 @@ pub fn check(sheet: &[u32], form: Form) -> Checked
         Checked::Fits
     } else {
         Checked::Bad(at)
+    }
+}
+
+// Whether a sheet is an expanded document: whole rows, each of which fits.
+pub fn is_expanded(sheet: &[u32]) -> bool
+    ensures { λ b. ⌜ b ≡ isExpanded (now (sheet .entry)) ⌝ }
+{
+    if sheet.len() % 8 == 0 {
+        match check(sheet, Form::Expanded) {
+            Checked::Fits => true,
+            Checked::Bad(_) => false,
+        }
+    } else {
+        false
     }
 }
