@@ -1,0 +1,521 @@
+//! The reference: document 01's operation Expand, written from its text and its readings.
+//!
+//! `expand` gives the whole answer of a call: refusal and places, counts, and the words of out, ledger and scopes. One switch
+//! breaks one reading on purpose (see `mutants`).
+
+use std::collections::HashMap;
+
+use crate::grammar;
+use crate::mutants::Mutant;
+use crate::picks::picks;
+use crate::rows::*;
+use crate::tree::*;
+
+/// What Expand is called with. Of the lent slices only the lengths matter.
+#[derive(Clone, Debug)]
+pub struct Call {
+    pub root: Vec<u32>,
+    pub library: Vec<u32>,
+    pub max_nodes: u32,
+    pub max_depth: u32,
+    pub max_rows: u32,
+    /// Words of out, ledger, scopes and work.
+    pub lent: [u64; 4],
+}
+
+impl Call {
+    /// The least lengths that refusal 1 lets by.
+    pub fn needed(max_nodes: u32, max_depth: u32, max_rows: u32) -> [u64; 4] {
+        let (n, d, k) = (max_nodes as u64, max_depth as u64, max_rows as u64);
+        [8 * k, 3 * n, 5 * k, 16 * k + 64 * (d + 1)]
+    }
+
+    /// A call with slices of exactly the needed lengths.
+    pub fn new(root: Vec<u32>, library: Vec<u32>, max_nodes: u32, max_depth: u32, max_rows: u32) -> Call {
+        let lent = Call::needed(max_nodes, max_depth, max_rows);
+        Call { root, library, max_nodes, max_depth, max_rows, lent }
+    }
+
+    /// Rows of both sheets, for finding the smallest of several inputs.
+    pub fn size(&self) -> usize {
+        (self.root.len() + self.library.len()) / 8
+    }
+}
+
+/// A refusal with its two place numbers.
+#[derive(Clone, Copy, Debug, PartialEq, Eq)]
+pub struct Refusal {
+    pub number: u32,
+    pub places: [u32; 2],
+}
+
+/// An accepted expansion. Where words past these are lent, they stay.
+#[derive(Clone, Debug, PartialEq, Eq)]
+pub struct Expanded {
+    pub nodes: u32,
+    pub charges: u32,
+    pub out: Vec<Row>,
+    /// Scope, document, source id.
+    pub ledger: Vec<[u32; 3]>,
+    /// Kind, document, PROTO id, interface index, opening scope.
+    pub scopes: Vec<[u32; 5]>,
+}
+
+pub type Answer = Result<Expanded, Refusal>;
+
+fn refuse<T>(number: u32, first: u32, second: u32) -> Result<T, Refusal> {
+    Err(Refusal { number, places: [first, second] })
+}
+
+/// The answer of a call.
+pub fn expand(call: &Call, mutant: Option<Mutant>) -> Answer {
+    let needed = Call::needed(call.max_nodes, call.max_depth, call.max_rows);
+    let short = call.lent.iter().zip(needed).any(|(lent, needed)| *lent < needed);
+    if call.max_nodes > 4_000_000 || call.max_depth > 512 || call.max_rows > 16_777_216 || short {
+        return refuse(1, 0, 0);
+    }
+    if [&call.root, &call.library].iter().any(|s| s.len() % 8 != 0 || s.len() / 8 > MOST_ROWS) {
+        return refuse(2, 0, 0);
+    }
+    let root = grammar::root(&call.root).or_else(|row| refuse(3, 0, row as u32))?;
+    let files = grammar::library(&call.library).or_else(|row| refuse(3, 1, row as u32))?;
+    let mut steps = Steps {
+        docs: std::iter::once(&root).chain(files.iter().map(|f| &f.doc)).collect(),
+        picks: picks(&root, &files),
+        limits: [call.max_nodes as usize, call.max_depth as usize, call.max_rows as usize],
+        scopes_lent: call.lent[2] / 5,
+        mutant,
+        charges: 0,
+        nodes: Vec::new(),
+        ledger: Vec::new(),
+        scopes: Vec::new(),
+        map: HashMap::new(),
+        externs: Vec::new(),
+        declared: HashMap::new(),
+    };
+    let top = steps.run()?;
+    let out = Doc { header: root.header, nodes: steps.nodes, protos: Vec::new(), externs: steps.externs, top };
+    Ok(Expanded {
+        nodes: out.nodes.len() as u32,
+        charges: steps.charges as u32,
+        out: print(&out),
+        ledger: steps.ledger,
+        scopes: steps.scopes.iter().map(|s| s.entry).collect(),
+    })
+}
+
+/// A scope: its entry, and what a body scope knows besides.
+struct Scope {
+    entry: [u32; 5],
+    document: usize,
+    /// The interface values of a body scope; nothing elsewhere.
+    values: Option<HashMap<u32, Value>>,
+    /// Associations met, in order.
+    associations: Vec<[u32; 3]>,
+    /// The scope under whose number its copies are mapped: itself.
+    mapped_as: usize,
+}
+
+type Step<T> = Result<T, Refusal>;
+
+struct Steps<'a> {
+    docs: Vec<&'a Doc>,
+    picks: Vec<Option<(usize, u32)>>,
+    /// Nodes, depth, rows.
+    limits: [usize; 3],
+    scopes_lent: u64,
+    mutant: Option<Mutant>,
+    charges: usize,
+    nodes: Vec<Node>,
+    ledger: Vec<[u32; 3]>,
+    scopes: Vec<Scope>,
+    /// Scope and source id to output id.
+    map: HashMap<(usize, u32), u32>,
+    externs: Vec<Extern>,
+    /// Document and extern id to output extern id.
+    declared: HashMap<(usize, u32), u32>,
+}
+
+impl<'a> Steps<'a> {
+    fn is(&self, mutant: Mutant) -> bool {
+        self.mutant == Some(mutant)
+    }
+
+    /// Scope 0 and the top statements.
+    fn run(&mut self) -> Step<Vec<Statement>> {
+        self.charge(2)?;
+        let scope = self.open([0, 0, 0, 0, 0], None)?;
+        let root = self.docs[0];
+        let mut top = Vec::new();
+        for statement in &root.top {
+            let kept = match statement {
+                Statement::Node(id) => Statement::Node(self.copy(scope, *id, 0)?),
+                Statement::Proto(_) => continue,
+                Statement::Extern(id) => Statement::Extern(self.declare(0, *id)?),
+                Statement::Route(route) => Statement::Route(self.remap(scope, route)),
+                Statement::Other(payload) => Statement::Other(*payload),
+            };
+            self.charge(1)?;
+            top.push(kept);
+        }
+        Ok(top)
+    }
+
+    /// That many charges, one after the other.
+    fn charge(&mut self, count: usize) -> Step<()> {
+        if count > self.limits[2] - self.charges {
+            return refuse(10, 0, 0);
+        }
+        self.charges += count;
+        Ok(())
+    }
+
+    /// A new scope, charged and listed.
+    fn open(&mut self, entry: [u32; 5], values: Option<HashMap<u32, Value>>) -> Step<usize> {
+        self.charge(1)?;
+        let number = self.scopes.len();
+        if number as u64 >= self.scopes_lent {
+            return refuse(11, 0, 0);
+        }
+        let document = entry[1] as usize;
+        self.scopes.push(Scope { entry, document, values, associations: Vec::new(), mapped_as: number });
+        Ok(number)
+    }
+
+    /// The map's key of a source id in a scope.
+    fn key(&self, scope: usize, id: u32) -> (usize, u32) {
+        let scope = &self.scopes[scope];
+        if self.is(Mutant::OneMapForAllScopes) {
+            (scope.document, id)
+        } else {
+            (scope.mapped_as, id)
+        }
+    }
+
+    fn mapped(&self, scope: usize, id: u32) -> Option<u32> {
+        self.map.get(&self.key(scope, id)).copied()
+    }
+
+    fn enter(&mut self, scope: usize, id: u32, out: u32) {
+        let key = self.key(scope, id);
+        self.map.insert(key, out);
+    }
+
+    /// A route with the ends that the scope's map has now.
+    fn remap(&self, scope: usize, route: &Route) -> Route {
+        let end = |id: Option<u32>| id.and_then(|id| self.mapped(scope, id));
+        Route { names: route.names, from: end(route.from), to: end(route.to) }
+    }
+
+    /// The PROTO that a node of this document is an instance of: document and PROTO id.
+    fn prototype(&self, document: usize, node: &Node) -> Option<(usize, u32)> {
+        match node.origin {
+            Origin::Proto(id) => Some((document, id)),
+            Origin::Extern(id) if document == 0 || self.is(Mutant::FetchedExternsFollowed) => {
+                self.picks.get(id as usize).copied().flatten()
+            }
+            _ => None,
+        }
+    }
+
+    /// The copy of a node in a scope, made `depth` nodes deep.
+    fn copy(&mut self, scope: usize, id: u32, depth: usize) -> Step<u32> {
+        let depth = depth + 1;
+        if self.is(Mutant::DepthBeforeMap) && depth > self.limits[1] {
+            return refuse(9, 0, 0);
+        }
+        if let Some(out) = self.mapped(scope, id) {
+            return Ok(out);
+        }
+        let document = self.scopes[scope].document;
+        let Some(node) = self.docs[document].nodes.get(id as usize) else {
+            return refuse(5, document as u32, id);
+        };
+        if depth > self.limits[1] {
+            return refuse(9, 0, 0);
+        }
+        match self.prototype(document, node) {
+            Some((document, proto)) => self.instance(scope, id, node, document, proto, depth),
+            None => self.plain(scope, id, node, depth),
+        }
+    }
+
+    /// A value's copy; each id is charged after its node is copied.
+    fn value(&mut self, scope: usize, value: &Value, depth: usize) -> Step<Value> {
+        let Value::Nodes { tag, ids } = value else { return Ok(value.clone()) };
+        let mut copies = Vec::new();
+        for id in ids {
+            copies.push(self.copy(scope, *id, depth)?);
+            self.charge(1)?;
+        }
+        Ok(Value::Nodes { tag: *tag, ids: copies })
+    }
+
+    /// The value that an IS target has in a scope, cloned: each id is charged.
+    fn take_value(&mut self, scope: usize, target: u32) -> Step<Option<Value>> {
+        let value = self.scopes[scope].values.as_ref().and_then(|v| v.get(&target)).cloned();
+        if let Some(v) = &value {
+            self.charge(v.ids().len())?;
+        }
+        Ok(value)
+    }
+
+    fn in_body(&self, scope: usize) -> bool {
+        self.scopes[scope].values.is_some()
+    }
+
+    /// The output id of an extern of a document, declared at its first mention.
+    fn declare(&mut self, document: usize, id: u32) -> Step<u32> {
+        let key = if self.is(Mutant::ExternDeclaredPerId) { (0, id) } else { (document, id) };
+        if let Some(out) = self.declared.get(&key) {
+            return Ok(*out);
+        }
+        let Some(declaration) = self.docs[document].externs.get(id as usize) else {
+            return refuse(4, document as u32, id);
+        };
+        self.charge(1 + declaration.interfaces.len() + declaration.urls.len())?;
+        let out = self.externs.len() as u32;
+        self.externs.push(declaration.clone());
+        self.declared.insert(key, out);
+        Ok(out)
+    }
+
+    /// The copy of a plain node.
+    fn plain(&mut self, scope: usize, id: u32, node: &'a Node, depth: usize) -> Step<u32> {
+        let document = self.scopes[scope].document;
+        if self.is(Mutant::NodesLimitAfterExtern) {
+            if let Origin::Extern(e) = node.origin {
+                self.declare(document, e)?;
+            }
+        }
+        if self.nodes.len() >= self.limits[0] {
+            return refuse(8, 0, 0);
+        }
+        self.charge(2)?;
+        let new = self.nodes.len();
+        let out = new as u32;
+        let mut copy = Node::new(node.type_name, node.origin);
+        copy.def = node.def;
+        self.nodes.push(copy);
+        self.ledger.push([scope as u32, document as u32, id]);
+        self.enter(scope, id, out);
+        if let Origin::Extern(e) = node.origin {
+            self.nodes[new].origin = Origin::Extern(self.declare(document, e)?);
+        }
+        let fields_kept = self.fields(scope, node, new, depth)?;
+        self.interfaces(scope, node, new, depth)?;
+        let statements_kept = self.statements(scope, node, new)?;
+        self.order(node, new, &fields_kept, &statements_kept)?;
+        Ok(out)
+    }
+
+    /// An IS: charged and noted in the scope.
+    fn associate(&mut self, scope: usize, target: u32, new: usize, name: u32) -> Step<()> {
+        self.charge(1)?;
+        self.scopes[scope].associations.push([target, new as u32, name]);
+        Ok(())
+    }
+
+    /// The fields of a plain copy; which ones were kept.
+    fn fields(&mut self, scope: usize, node: &'a Node, new: usize, depth: usize) -> Step<Vec<bool>> {
+        let mut kept = Vec::new();
+        for field in &node.fields {
+            let binding = match &field.binding {
+                Binding::Value(value) => Some(Binding::Value(self.value(scope, value, depth)?)),
+                Binding::Is(target) => {
+                    self.associate(scope, *target, new, field.name)?;
+                    if self.in_body(scope) {
+                        self.take_value(scope, *target)?.map(Binding::Value)
+                    } else if self.is(Mutant::IsOutsideBodyDropped) {
+                        None
+                    } else {
+                        Some(Binding::Is(*target))
+                    }
+                }
+            };
+            kept.push(binding.is_some());
+            if let Some(binding) = binding {
+                self.charge(1)?;
+                self.nodes[new].fields.push(Field { name: field.name, binding, inferred: field.inferred });
+            }
+        }
+        Ok(kept)
+    }
+
+    /// The interfaces of a plain copy; all are kept.
+    fn interfaces(&mut self, scope: usize, node: &'a Node, new: usize, depth: usize) -> Step<()> {
+        for interface in &node.interfaces {
+            let (is, value) = match (interface.is, &interface.value) {
+                (Some(target), _) => {
+                    self.associate(scope, target, new, interface.name)?;
+                    if self.in_body(scope) {
+                        (None, self.take_value(scope, target)?)
+                    } else {
+                        (Some(target), None)
+                    }
+                }
+                (None, Some(value)) => (None, Some(self.value(scope, value, depth)?)),
+                (None, None) => (None, None),
+            };
+            self.charge(1)?;
+            self.nodes[new].interfaces.push(Interface { is, value, ..*interface });
+        }
+        Ok(())
+    }
+
+    /// The statements of a plain copy, Route and ExternProto only; which ones were kept.
+    fn statements(&mut self, scope: usize, node: &'a Node, new: usize) -> Step<Vec<bool>> {
+        let document = self.scopes[scope].document;
+        let mut kept = Vec::new();
+        for statement in &node.statements {
+            let copy = match statement {
+                Statement::Route(route) => Some(Statement::Route(self.remap(scope, route))),
+                Statement::Extern(id) => Some(Statement::Extern(self.declare(document, *id)?)),
+                _ => None,
+            };
+            kept.push(copy.is_some());
+            if let Some(copy) = copy {
+                self.charge(1)?;
+                self.nodes[new].statements.push(copy);
+            }
+        }
+        Ok(kept)
+    }
+
+    /// The body order of a plain copy, without the marks of what was dropped and of what isn't there.
+    fn order(&mut self, node: &Node, new: usize, fields: &[bool], statements: &[bool]) -> Step<()> {
+        let past = self.is(Mutant::MarksPastTheEndKept);
+        let mut fields = fields.iter();
+        let mut statements = statements.iter();
+        for mark in &node.order {
+            let keep = match *mark {
+                MARK_FIELD => fields.next().copied().unwrap_or(past),
+                MARK_STATEMENT => statements.next().copied().unwrap_or(past),
+                _ => true,
+            };
+            if keep {
+                self.charge(1)?;
+                self.nodes[new].order.push(*mark);
+            }
+        }
+        Ok(())
+    }
+
+    /// The value that an instance has for one interface of its PROTO.
+    fn given(
+        &mut self,
+        scope: usize,
+        node: &'a Node,
+        at: (usize, u32, usize),
+        interface: &'a Interface,
+        depth: usize,
+    ) -> Step<Option<Value>> {
+        let mut equal = node.fields.iter().filter(|f| f.name == interface.name);
+        let field = if self.is(Mutant::FirstOfEqualFields) { equal.next() } else { equal.last() };
+        match field.map(|f| &f.binding) {
+            Some(Binding::Value(value)) => return self.value(scope, value, depth).map(Some),
+            Some(Binding::Is(target)) => {
+                let value = self.take_value(scope, *target)?;
+                if value.is_some() || !self.is(Mutant::IsToNothingTakesDefault) {
+                    return Ok(value);
+                }
+            }
+            None => {}
+        }
+        let Some(default) = &interface.value else { return Ok(None) };
+        let (document, proto, index) = at;
+        let opened = self.open([2, document as u32, proto, index as u32, scope as u32], None)?;
+        if self.is(Mutant::DefaultSharesInstanceMap) {
+            self.scopes[opened].mapped_as = self.scopes[scope].mapped_as;
+        }
+        self.value(opened, default, depth).map(Some)
+    }
+
+    /// An instance: its values, its body in a fresh scope, its record on the body's root.
+    fn instance(
+        &mut self,
+        scope: usize,
+        id: u32,
+        node: &'a Node,
+        document: usize,
+        proto_id: u32,
+        depth: usize,
+    ) -> Step<u32> {
+        let Some(proto) = self.docs[document].protos.get(proto_id as usize) else {
+            return refuse(6, document as u32, proto_id);
+        };
+        if self.is(Mutant::InstanceMappedBeforeValues) {
+            self.enter(scope, id, self.nodes.len() as u32);
+        }
+        let mut values = HashMap::new();
+        for (index, interface) in proto.interfaces.iter().enumerate() {
+            if let Some(value) = self.given(scope, node, (document, proto_id, index), interface, depth)? {
+                self.charge(1)?;
+                values.insert(interface.name, value);
+            } else if self.is(Mutant::RepeatedNameOverwritesWithNothing) {
+                values.remove(&interface.name);
+            }
+        }
+        if self.is(Mutant::RootlessBeforeBody) && !proto.body.iter().any(|s| matches!(s, Statement::Node(_))) {
+            return refuse(7, document as u32, proto_id);
+        }
+        let body = self.open([1, document as u32, proto_id, 0, scope as u32], Some(values))?;
+        let mut root = None;
+        let mut roots = Vec::new();
+        let mut routes = Vec::new();
+        for statement in &proto.body {
+            match statement {
+                Statement::Node(inner) => {
+                    let out = self.copy(body, *inner, depth)?;
+                    self.charge(1)?;
+                    if root.is_none() {
+                        root = Some(out);
+                        self.enter(scope, id, out);
+                    } else {
+                        roots.push(out);
+                    }
+                }
+                Statement::Route(route) => {
+                    self.charge(1)?;
+                    let now = self.remap(body, route);
+                    routes.push((route, now));
+                }
+                Statement::Extern(inner) => {
+                    self.declare(document, *inner)?;
+                }
+                Statement::Proto(_) | Statement::Other(_) => {}
+            }
+        }
+        let early = self.is(Mutant::RoutesRemappedWhereTheyStand);
+        let routes = routes.into_iter().map(|(r, now)| if early { now } else { self.remap(body, r) }).collect();
+        let Some(root) = root else { return refuse(7, document as u32, proto_id) };
+        self.charge(1)?;
+        let associations = std::mem::take(&mut self.scopes[body].associations);
+        let record = Record { name: proto.name, roots, routes, associations };
+        self.attach(root, node.def, record);
+        Ok(root)
+    }
+
+    /// The record and the DEF name of an instance go to its root; a nested record's roots and routes follow.
+    fn attach(&mut self, root: u32, def: Option<u32>, mut record: Record) {
+        let nested_first = self.is(Mutant::NestedRootsFirst);
+        let nested_associations = self.is(Mutant::NestedAssociationsKept);
+        let keep_def = self.is(Mutant::DefNotReplaced);
+        let node = &mut self.nodes[root as usize];
+        if def.is_some() && !keep_def {
+            node.def = def;
+        }
+        if let Some(mut nested) = node.instance.take() {
+            if nested_first {
+                std::mem::swap(&mut record.roots, &mut nested.roots);
+                std::mem::swap(&mut record.routes, &mut nested.routes);
+            }
+            record.roots.append(&mut nested.roots);
+            record.routes.append(&mut nested.routes);
+            if nested_associations {
+                record.associations.append(&mut nested.associations);
+            }
+        }
+        node.instance = Some(record);
+    }
+}
