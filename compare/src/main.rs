@@ -2,7 +2,11 @@
 
 mod automaton;
 mod closure;
+mod flights;
+mod frames;
 mod grammar;
+#[cfg(feature = "library")]
+mod library;
 mod mutants;
 mod picks;
 mod random;
@@ -10,6 +14,7 @@ mod reckon;
 mod rows;
 mod rust;
 mod scenes;
+mod shrink;
 mod translate;
 mod tree;
 mod versus;
@@ -21,7 +26,13 @@ compare flights                            the flights and examples of document 
 compare original COUNT SEED [FROM]         cases FROM and on, against the original
 compare sweeps COUNT SEED                  COUNT scenes with every K, every N and every D
 compare mutants COUNT SEED                 every mutant over the families and COUNT random cases
-compare case NUMBER SEED                   one case and both answers";
+compare case NUMBER SEED                   one case and both answers
+compare frames write FILE COUNT SEED [--small] [--caps]
+compare frames check CASES ANSWERS
+compare frames answer CASES ANSWERS [MUTANT]
+compare library COUNT SEED                 the linked static library (feature `library`)";
+
+const FLAGS: [&str; 2] = ["--small", "--caps"];
 
 fn main() -> ExitCode {
     // Copies nest up to 512 deep on both sides.
@@ -52,6 +63,27 @@ fn command() -> Result<u64, String> {
             println!("{:?}\nagainst the original: {original:?}", reckon::expand(&call, None));
             Ok(0)
         }
+        ["flights"] => Ok(flights::run()),
+        ["mutants", count, seed] => Ok(mutants::run(number(count)?, number(seed)?)),
+        ["frames", "write", path, count, seed, ref flags @ ..] if flags.iter().all(|f| FLAGS.contains(f)) => {
+            let has = |flag| flags.contains(&flag);
+            let batch = frames::Batch {
+                count: number(count)?,
+                seed: number(seed)?,
+                small: has("--small"),
+                caps: has("--caps"),
+            };
+            frames::write(path, &batch).map_err(|e| e.to_string())?;
+            Ok(0)
+        }
+        ["frames", "check", cases, answers] => frames::check(cases, answers).map_err(|e| e.to_string()),
+        ["frames", "answer", cases, answers, ref mutant @ ..] if mutant.len() < 2 => {
+            let mutant = mutant.first().map(|name| mutants::named(name)).transpose()?;
+            frames::answer(cases, answers, mutant).map_err(|e| e.to_string())?;
+            Ok(0)
+        }
+        #[cfg(feature = "library")]
+        ["library", count, seed] => Ok(library::run(number(count)?, number(seed)?)),
         _ => Err(USAGE.into()),
     }
 }

@@ -1,5 +1,10 @@
 //! The deliberately broken readings of document 01 that `reckon` can be switched to.
 
+use crate::reckon::{self, Answer, Call};
+use crate::scenes::families;
+use crate::shrink::shrink;
+use crate::versus;
+
 #[derive(Clone, Copy, Debug, PartialEq, Eq)]
 pub enum Mutant {
     InstanceMappedBeforeValues,
@@ -41,3 +46,66 @@ pub const ALL: &[(Mutant, &str)] = &[
     (Mutant::IsOutsideBodyDropped, "an IS outside a body is dropped"),
     (Mutant::NodesLimitAfterExtern, "4 comes before 8"),
 ];
+
+/// The mutant of a name, as `compare mutants` prints it.
+pub fn named(name: &str) -> Result<Mutant, String> {
+    let found = ALL.iter().find(|(mutant, _)| format!("{mutant:?}") == name);
+    found.map(|(mutant, _)| *mutant).ok_or(format!("no such mutant: {name}"))
+}
+
+/// What the comparison with the original saw of a mutant.
+#[derive(Default)]
+struct Notice {
+    cases: u64,
+    smallest: Option<Call>,
+}
+
+/// How a mutant's answer parts from the original's on an input that the true reading lets by.
+fn parts(mutant: Mutant, call: &Call, truth: &Answer) -> Option<String> {
+    let answer = reckon::expand(call, Some(mutant));
+    // Where nothing changes there is nothing to notice.
+    if versus::stands_before(truth) || answer == *truth {
+        return None;
+    }
+    versus::against_original(call, &answer)?.err()
+}
+
+/// Every mutant over all families and `count` random cases. The number of mutants that nothing noticed.
+pub fn run(count: u64, seed: u64) -> u64 {
+    let mut notices: Vec<Notice> = ALL.iter().map(|_| Notice::default()).collect();
+    let mut compared = 0;
+    for number in 0..families::total() + count {
+        let call = versus::case(seed, number);
+        let truth = reckon::expand(&call, None);
+        if versus::stands_before(&truth) {
+            continue;
+        }
+        compared += 1;
+        for ((mutant, _), notice) in ALL.iter().zip(&mut notices) {
+            if parts(*mutant, &call, &truth).is_some() {
+                notice.cases += 1;
+                if notice.smallest.as_ref().is_none_or(|c| call.size() < c.size()) {
+                    notice.smallest = Some(call.clone());
+                }
+            }
+        }
+    }
+    let mut missed = 0;
+    for ((mutant, wrong), notice) in ALL.iter().zip(&notices) {
+        match &notice.smallest {
+            Some(call) => {
+                let what = |c: &Call| parts(*mutant, c, &reckon::expand(c, None));
+                let call = shrink(call, |c| what(c).is_some());
+                println!("{mutant:?}: {wrong}");
+                println!("  noticed in {} of {compared} cases; smallest: {}", notice.cases, what(&call).unwrap());
+                print!("{}", versus::show(&call));
+            }
+            None => {
+                missed += 1;
+                println!("{mutant:?}: {wrong}: NOT NOTICED in {compared} cases");
+            }
+        }
+    }
+    println!("{} mutants, {missed} not noticed", ALL.len());
+    missed
+}

@@ -3,22 +3,21 @@
 use std::fmt;
 
 use crate::closure;
-use crate::mutants::Mutant;
 use crate::random::Random;
 use crate::reckon::{self, Answer, Call};
 use crate::rows::{self, rows_of};
 use crate::rust;
 use crate::scenes::{damage, families, free, MOST_CHARGES};
+use crate::shrink::shrink;
 use crate::{automaton, grammar, translate};
 
 /// The case of a number: first every scene of the families, then random ones, one in eight of them damaged.
 pub fn case(seed: u64, number: u64) -> Call {
-    let exhaustive: u64 = families::sizes().iter().map(|(_, size)| size).sum();
-    if number < exhaustive {
+    if number < families::total() {
         return families::scene(number).call(MOST_CHARGES);
     }
     let mut r = Random::new(seed, number);
-    let most_nodes = r.of(&[3, 5, 8, 8, 12]);
+    let most_nodes = r.of(&[3, 5, 8, 8, 12, 20]);
     let mut call = free::scene(&mut r, most_nodes).call(MOST_CHARGES);
     if r.below(8) == 0 {
         let in_library = !call.library.is_empty() && r.percent(40);
@@ -140,9 +139,14 @@ fn round_trip(call: &Call) -> Result<(), String> {
     Ok(())
 }
 
+/// Refusals 1, 2, 3 and 10 stand before any comparison with the original.
+pub fn stands_before(answer: &Answer) -> bool {
+    matches!(answer, Err(r) if matches!(r.number, 1 | 2 | 3 | 10))
+}
+
 /// The answer held against the original's; nothing where refusals 1, 2, 3 and 10 stand before it.
 pub fn against_original(call: &Call, answer: &Answer) -> Option<Result<(), String>> {
-    if matches!(answer, Err(r) if matches!(r.number, 1 | 2 | 3 | 10)) {
+    if stands_before(answer) {
         return None;
     }
     let original = rust::expand(&call.root, &call.library, call.max_nodes, call.max_depth);
@@ -188,8 +192,10 @@ pub fn run(count: u64, seed: u64, from: u64) -> u64 {
         }
     }
     print!("{tally}");
-    if let Some((number, call, what)) = smallest {
-        println!("smallest difference, case {number} of seed {seed}: {what}\n{}", show(&call));
+    if let Some((number, call, _)) = smallest {
+        let call = shrink(&call, |c| check(c, &mut Tally::default()).is_err());
+        let what = check(&call, &mut Tally::default()).unwrap_err();
+        println!("smallest difference, from case {number} of seed {seed}: {what}\n{}", show(&call));
     }
     println!("{differences} differences");
     differences
@@ -207,8 +213,8 @@ pub fn sweeps(count: u64, seed: u64) -> u64 {
         let call = case(seed, number);
         let full = reckon::expand(&call, None);
         let charges = match &full {
-            Ok(e) if e.charges > 8 && e.charges < 400 => Some(e.charges),
-            Err(r) if (4..=9).contains(&r.number) => None,
+            Ok(e) if e.charges > 30 && e.charges < 600 => Some(e.charges),
+            Err(r) if (4..=9).contains(&r.number) && number % 16 == 0 => None,
             _ => continue,
         };
         swept += 1;
@@ -254,37 +260,4 @@ pub fn sweeps(count: u64, seed: u64) -> u64 {
     println!("the same scenes with every K: {rows_tried} calls");
     println!("{differences} differences");
     differences
-}
-
-/// How often and on what smallest case the comparison with the original notices a mutant.
-pub struct Notice {
-    pub noticed: u64,
-    pub compared: u64,
-    /// How many of the noticed also break demand 3.
-    pub smallest: Option<(u64, Call, String)>,
-}
-
-/// One mutant over the cases of a seed.
-pub fn notice(mutant: Mutant, numbers: impl Iterator<Item = u64>, seed: u64) -> Notice {
-    let mut notice = Notice { noticed: 0, compared: 0, smallest: None };
-    for number in numbers {
-        let call = case(seed, number);
-        // Only inputs that the true reading lets by are compared.
-        let truth = reckon::expand(&call, None);
-        if matches!(&truth, Err(r) if matches!(r.number, 1 | 2 | 3 | 10)) {
-            continue;
-        }
-        let answer = reckon::expand(&call, Some(mutant));
-        notice.compared += 1;
-        if answer == truth {
-            continue;
-        }
-        if let Some(Err(what)) = against_original(&call, &answer) {
-            notice.noticed += 1;
-            if notice.smallest.as_ref().is_none_or(|(_, c, _)| call.size() < c.size()) {
-                notice.smallest = Some((number, call, what));
-            }
-        }
-    }
-    notice
 }

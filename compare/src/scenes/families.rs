@@ -1,5 +1,7 @@
 //! Exhaustive small families: every scene of a few shapes, numbered from 0.
 
+use std::sync::OnceLock;
+
 use super::Scene;
 use crate::rows::{MARK_FIELD, MARK_INTERFACE, MARK_STATEMENT};
 use crate::tree::*;
@@ -56,21 +58,27 @@ const FAMILIES: [(&str, Family); 7] = [
 ];
 
 /// Name and size of each family.
-pub fn sizes() -> Vec<(&'static str, u64)> {
-    FAMILIES
-        .iter()
-        .map(|(name, family)| {
+pub fn sizes() -> &'static [(&'static str, u64)] {
+    static SIZES: OnceLock<Vec<(&'static str, u64)>> = OnceLock::new();
+    SIZES.get_or_init(|| {
+        let size = |family: &Family| {
             let mut digits = Digits { rest: 0, size: 1 };
             family(&mut digits);
-            (*name, digits.size)
-        })
-        .collect()
+            digits.size
+        };
+        FAMILIES.iter().map(|(name, family)| (*name, size(family))).collect()
+    })
+}
+
+/// The number of scenes in all families.
+pub fn total() -> u64 {
+    sizes().iter().map(|(_, size)| size).sum()
 }
 
 /// The scene of a number below the sum of the sizes.
 pub fn scene(mut number: u64) -> Scene {
-    for (at, (_, size)) in sizes().into_iter().enumerate() {
-        if number < size {
+    for (at, (_, size)) in sizes().iter().enumerate() {
+        if number < *size {
             return FAMILIES[at].1(&mut Digits { rest: number, size: 1 });
         }
         number -= size;
@@ -206,12 +214,12 @@ fn picks(d: &mut Digits) -> Scene {
         }
     }
     let files = d.list(&may, 2);
-    let at_top = d.choose(2) == 0;
+    let top = d.of(&[mention(&[0]), mention(&[1]), vec![Statement::Extern(0), Statement::Node(0)]]);
     let mut list = vec![node(50, Origin::Extern(0), vec![given(1, payload(2))]), node(51, Origin::Proto(0), vec![])];
     list[0].def = Some(3);
     let protos = vec![Proto { name: 9, interfaces: vec![], body: mention(&[0]) }];
     let externs = vec![Extern { name: 3, interfaces: vec![declared(1, None)], urls }];
-    let root = Doc { header: 5, nodes: list, protos, externs, top: mention(&[if at_top { 0 } else { 1 }]) };
+    let root = Doc { header: 5, nodes: list, protos, externs, top };
     Scene { root, files, max_nodes: 40, max_depth: 7 }
 }
 

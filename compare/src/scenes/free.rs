@@ -25,13 +25,13 @@ struct Style {
 impl Style {
     fn random(r: &mut Random, most_nodes: usize) -> Style {
         Style {
-            nodes: r.range(1, most_nodes),
-            protos: r.of(&[0, 1, 1, 2, 2, 3, 4]),
+            nodes: r.range(2, most_nodes),
+            protos: r.of(&[0, 1, 1, 2, 2, 3, 3, 4, 6]),
             externs: r.of(&[0, 0, 1, 2, 3]),
             names: r.range(1, 6),
-            instance: r.of(&[0, 20, 40, 60, 90]),
-            fetched: r.of(&[0, 0, 10, 30]),
-            backward: r.of(&[0, 0, 10, 40, 100]),
+            instance: r.of(&[10, 40, 60, 60, 90]),
+            fetched: r.of(&[0, 10, 30, 60]),
+            backward: r.of(&[0, 0, 0, 10, 40, 100]),
             anywhere: r.of(&[0, 0, 5, 30]),
             dangling: r.of(&[0, 0, 0, 0, 1, 3, 12]),
             recursion: r.of(&[0, 0, 0, 3, 20]),
@@ -76,7 +76,7 @@ fn many_bases(r: &mut Random, root: &mut Doc) {
 }
 
 fn base(r: &mut Random) -> u32 {
-    r.range(1, 4) as u32
+    r.range(1, 3) as u32
 }
 
 /// A document in the making: each node belongs to the top (0) or to a PROTO (its id + 1).
@@ -88,9 +88,9 @@ struct Maker<'r> {
 }
 
 fn document(r: &mut Random, style: Style) -> Doc {
-    let mut owner = Vec::new();
-    for _ in 0..style.nodes {
-        owner.push(r.below(style.protos + 1));
+    let mut owner = vec![0];
+    for _ in 1..style.nodes {
+        owner.push(if r.percent(30) { 0 } else { r.below(style.protos + 1) });
     }
     let header = r.below(4) as u32;
     let mut m = Maker { r, style, owner, protos: Vec::new() };
@@ -99,8 +99,11 @@ fn document(r: &mut Random, style: Style) -> Doc {
         m.protos.push(proto);
     }
     let externs = (0..style.externs).map(|_| m.declaration()).collect();
-    let nodes = (0..style.nodes).map(|i| m.node(i)).collect();
-    let bodies: Vec<_> = (0..style.protos).map(|p| m.body(p + 1)).collect();
+    let mut nodes: Vec<Node> = (0..style.nodes).map(|i| m.node(i)).collect();
+    if m.r.percent(20) {
+        m.ring(&mut nodes);
+    }
+    let bodies: Vec<_> = (0..style.protos).map(|p| m.body(p + 1, &nodes)).collect();
     let top = m.top();
     let mut protos = m.protos;
     for (proto, body) in protos.iter_mut().zip(bodies) {
@@ -277,6 +280,34 @@ impl Maker<'_> {
         node
     }
 
+    /// A loop through an instance: a declared field of it names a node whose field names it.
+    fn ring(&mut self, nodes: &mut [Node]) {
+        let interfaces = |node: &Node| match node.origin {
+            Origin::Proto(p) => self.protos.get(p as usize).map_or(&[][..], |p| &p.interfaces),
+            _ => &[],
+        };
+        let may: Vec<usize> = (0..nodes.len()).filter(|i| !interfaces(&nodes[*i]).is_empty()).collect();
+        if may.is_empty() {
+            return;
+        }
+        let i = self.r.of(&may);
+        // Only over a plain node does the loop close; over instances alone it runs into the depth limit.
+        let any = self.r.percent(5);
+        let plain = |j: &usize| any || !matches!(nodes[*j].origin, Origin::Proto(_));
+        let beside: Vec<usize> =
+            (0..nodes.len()).filter(|j| self.owner[*j] == self.owner[i]).filter(plain).collect();
+        if beside.is_empty() {
+            return;
+        }
+        let j = self.r.of(&beside);
+        let there = self.name_of(&interfaces(&nodes[i]).to_vec());
+        let back = self.name();
+        for (at, name, id) in [(i, there, j), (j, back, i)] {
+            let value = Value::Nodes { tag: self.tag(), ids: vec![id as u32] };
+            nodes[at].fields.push(Field { name, binding: Binding::Value(value), inferred: 0 });
+        }
+    }
+
     /// Marks: none, one to an entry in some order, or any.
     fn order(&mut self, node: &Node) -> Vec<u32> {
         let mut marks = Vec::new();
@@ -352,18 +383,19 @@ impl Maker<'_> {
         list
     }
 
-    fn body(&mut self, owner: usize) -> Vec<Statement> {
+    fn body(&mut self, owner: usize, nodes: &[Node]) -> Vec<Statement> {
         let mut list = self.list(owner, &[1, 1, 1, 2, 2, 3]);
         let empty = !list.iter().any(|s| matches!(s, Statement::Node(_)));
         if empty && !self.r.percent(10) {
-            // Nothing belongs to this PROTO: any node, rather than 7.
-            list.push(Statement::Node(self.style.nodes as u32 - 1));
+            // Nothing belongs to this PROTO: some plain node, rather than 7.
+            let plain = nodes.iter().rposition(|n| !matches!(n.origin, Origin::Proto(_)));
+            list.push(Statement::Node(plain.unwrap_or(0) as u32));
         }
         list
     }
 
     fn top(&mut self) -> Vec<Statement> {
-        let mut list = self.list(0, &[0, 1, 1, 2, 3, 4]);
+        let mut list = self.list(0, &[0, 1, 1, 1, 2, 2, 2, 3, 4]);
         for p in 0..self.style.protos {
             if self.r.percent(70) {
                 let id = if self.r.percent(self.style.dangling) { self.nowhere(self.style.protos) } else { p as u32 };
