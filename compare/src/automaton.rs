@@ -5,8 +5,8 @@ use crate::rows::*;
 /// What each column of a kind may be: `n` a name or id, `w` any word, `0` zero, `1` `2` `3` at most that, `t` a type tag.
 /// What depends on another column is left to `linked`.
 const COLUMNS: [&[u8; 7]; 14] = [
-    b"w000000", b"nw3w000", b"n1w1w2w", b"3tnww2w", b"wwwwwww", b"2000000", b"n000000", b"n000000", b"n000000", b"nw00000",
-    b"0000000", b"n000000", b"nwww000", b"nnn0000",
+    b"w000000", b"nw3w000", b"n1w1w2w", b"3tnww2w", b"wwwwwww", b"2000000", b"n000000", b"n000000", b"n000000",
+    b"nw00000", b"0000000", b"n000000", b"nwww000", b"nnn0000",
 ];
 
 fn columns_fit(r: &Row) -> bool {

@@ -89,10 +89,7 @@ impl<'a> Sheets<'a> {
     fn starts(&self, entry: [u32; 5]) -> Result<Vec<u32>, String> {
         let [kind, document, proto, index, _] = entry;
         let nodes = |statements: &[Statement]| {
-            statements
-                .iter()
-                .filter_map(|s| if let Statement::Node(id) = s { Some(*id) } else { None })
-                .collect()
+            statements.iter().filter_map(|s| if let Statement::Node(id) = s { Some(*id) } else { None }).collect()
         };
         match kind {
             0 => Ok(nodes(&self.docs[0].top)),
@@ -113,7 +110,7 @@ pub fn check(call: &Call, answer: &Expanded) -> Result<Seen, String> {
     let files = grammar::library(&call.library).map_err(|_| "the library doesn't fit")?;
     let sheets = Sheets {
         docs: std::iter::once(&root).chain(files.iter().map(|f| &f.doc)).collect(),
-        picks: picks(&root, &files),
+        picks: picks(&root, &files, None),
     };
     output(call, answer, &sheets)?;
     let (seen, plain) = scopes(&answer.scopes, &sheets)?;

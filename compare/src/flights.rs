@@ -1,7 +1,9 @@
 //! The ten flights of document 01, its example and the examples of its readings, by their words.
 
+use original::ast::FieldType;
+
 use crate::reckon::{self, Answer, Call};
-use crate::rows::{words_of, Row, NONE};
+use crate::rows::{words_of, Row, NONE, TAGS};
 use crate::scenes::MOST_CHARGES;
 use crate::versus;
 
@@ -37,9 +39,9 @@ fn refusal(answer: &Answer) -> Vec<u32> {
 
 /// Nodes, scopes, body scopes.
 fn counts(answer: &Answer) -> Vec<u32> {
-    answer.as_ref().map_or(vec![], |e| {
-        vec![e.nodes, e.scopes.len() as u32, e.scopes.iter().filter(|s| s[0] == 1).count() as u32]
-    })
+    answer
+        .as_ref()
+        .map_or(vec![], |e| vec![e.nodes, e.scopes.len() as u32, e.scopes.iter().filter(|s| s[0] == 1).count() as u32])
 }
 
 /// Nodes, scopes, charges and the words of out.
@@ -57,19 +59,8 @@ fn charges(answer: &Answer) -> Vec<u32> {
 
 /// A pod I given plain P, whose child is I: from I or from P.
 fn pod(start: u32) -> Vec<u32> {
-    let rows: [&[u32]; 11] = [
-        &[1, 5],
-        INSTANCE,
-        CHILD,
-        &[9, 1],
-        PLAIN,
-        CHILD,
-        &[9, 0],
-        PLAIN,
-        &[7, 8],
-        DECLARED,
-        &[5, 0, 2],
-    ];
+    let rows: [&[u32]; 11] =
+        [&[1, 5], INSTANCE, CHILD, &[9, 1], PLAIN, CHILD, &[9, 0], PLAIN, &[7, 8], DECLARED, &[5, 0, 2]];
     let mut words = sheet(&rows);
     words.extend(sheet(&[&[11], &[5, 0, start]]));
     words
@@ -97,7 +88,13 @@ fn flights() -> Vec<Flight> {
         flight("D = 0, N = 0", one.clone(), [0, 0, MOST_CHARGES], refusal, vec![9, 0, 0]),
         flight("three nested, D = 2", three.clone(), [400, 2, MOST_CHARGES], refusal, vec![9, 0, 0]),
         flight("three nested, D = 3", three, [400, 3, MOST_CHARGES], counts, vec![3, 1, 0]),
-        flight("one node mentioned twice", sheet(&[&[1, 5], PLAIN, &[11], &[5, 0, 0], &[5, 0, 0]]), free, counts, vec![1, 1, 0]),
+        flight(
+            "one node mentioned twice",
+            sheet(&[&[1, 5], PLAIN, &[11], &[5, 0, 0], &[5, 0, 0]]),
+            free,
+            counts,
+            vec![1, 1, 0],
+        ),
         flight("one instance mentioned twice", two_instances(&[&[5, 0, 0], &[5, 0, 0]]), free, counts, vec![1, 2, 1]),
         flight("two instances of it", two_instances(&[&[5, 0, 0], &[5, 0, 1]]), free, counts, vec![2, 3, 2]),
         flight("the pod from I", pod(0), free, counts, vec![3, 3, 2]),
@@ -114,7 +111,7 @@ fn flights() -> Vec<Flight> {
 /// Every flight, against its words and against the original. The number that fail.
 pub fn run() -> u64 {
     let flights = flights();
-    let mut wrong = 0;
+    let mut wrong = (FieldType::ALL.len() != TAGS as usize) as u64;
     for f in &flights {
         let [nodes, depth, rows] = f.limits;
         let call = Call::new(f.rows.clone(), Vec::new(), nodes, depth, rows);

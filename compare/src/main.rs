@@ -1,6 +1,7 @@
 //! Comparison of the expansion of document 01 with the original Rust, and frames for a program under test.
 
 mod automaton;
+mod charges;
 mod closure;
 mod flights;
 mod frames;
@@ -25,6 +26,7 @@ const USAGE: &str = "\
 compare flights                            the flights and examples of document 01 and its readings
 compare original COUNT SEED [FROM]         cases FROM and on, against the original
 compare sweeps COUNT SEED                  COUNT scenes with every K, every N and every D
+compare large                              large scenes, against the original
 compare mutants COUNT SEED                 every mutant over the families and COUNT random cases
 compare case NUMBER SEED                   one case and both answers
 compare frames write FILE COUNT SEED [--small] [--caps]
@@ -64,6 +66,7 @@ fn command() -> Result<u64, String> {
             Ok(0)
         }
         ["flights"] => Ok(flights::run()),
+        ["large"] => Ok(versus::large()),
         ["mutants", count, seed] => Ok(mutants::run(number(count)?, number(seed)?)),
         ["frames", "write", path, count, seed, ref flags @ ..] if flags.iter().all(|f| FLAGS.contains(f)) => {
             let has = |flag| flags.contains(&flag);

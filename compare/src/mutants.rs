@@ -1,5 +1,6 @@
 //! The deliberately broken readings of document 01 that `reckon` can be switched to.
 
+use crate::closure;
 use crate::reckon::{self, Answer, Call};
 use crate::scenes::families;
 use crate::shrink::shrink;
@@ -24,6 +25,10 @@ pub enum Mutant {
     FetchedExternsFollowed,
     IsOutsideBodyDropped,
     NodesLimitAfterExtern,
+    BasesWithoutEnd,
+    UnresolvedBasesDoNotCount,
+    LastFileOfBase,
+    DanglingPickPassedOver,
 }
 
 /// Every mutant, with what it does wrong.
@@ -45,6 +50,10 @@ pub const ALL: &[(Mutant, &str)] = &[
     (Mutant::FetchedExternsFollowed, "picks apply to externs of fetched files too"),
     (Mutant::IsOutsideBodyDropped, "an IS outside a body is dropped"),
     (Mutant::NodesLimitAfterExtern, "4 comes before 8"),
+    (Mutant::BasesWithoutEnd, "bases past the 64th are looked for too"),
+    (Mutant::UnresolvedBasesDoNotCount, "bases without a file do not count toward the 64"),
+    (Mutant::LastFileOfBase, "the library's last file of a base is taken"),
+    (Mutant::DanglingPickPassedOver, "without a fragment a dangling Proto statement is passed over"),
 ];
 
 /// The mutant of a name, as `compare mutants` prints it.
@@ -57,6 +66,8 @@ pub fn named(name: &str) -> Result<Mutant, String> {
 #[derive(Default)]
 struct Notice {
     cases: u64,
+    /// Accepted answers that break demand 3.
+    broken: u64,
     smallest: Option<Call>,
 }
 
@@ -84,6 +95,8 @@ pub fn run(count: u64, seed: u64) -> u64 {
         for ((mutant, _), notice) in ALL.iter().zip(&mut notices) {
             if parts(*mutant, &call, &truth).is_some() {
                 notice.cases += 1;
+                let answer = reckon::expand(&call, Some(*mutant));
+                notice.broken += answer.is_ok_and(|e| closure::check(&call, &e).is_err()) as u64;
                 if notice.smallest.as_ref().is_none_or(|c| call.size() < c.size()) {
                     notice.smallest = Some(call.clone());
                 }
@@ -97,7 +110,8 @@ pub fn run(count: u64, seed: u64) -> u64 {
                 let what = |c: &Call| parts(*mutant, c, &reckon::expand(c, None));
                 let call = shrink(call, |c| what(c).is_some());
                 println!("{mutant:?}: {wrong}");
-                println!("  noticed in {} of {compared} cases; smallest: {}", notice.cases, what(&call).unwrap());
+                println!("  noticed in {} of {compared} cases, demand 3 broken in {}", notice.cases, notice.broken);
+                println!("  smallest, {} rows: {}", call.size(), what(&call).unwrap());
                 print!("{}", versus::show(&call));
             }
             None => {

@@ -59,6 +59,8 @@ pub struct Expanded {
     pub ledger: Vec<[u32; 3]>,
     /// Kind, document, PROTO id, interface index, opening scope.
     pub scopes: Vec<[u32; 5]>,
+    /// The instance that opened each scope, by its node id (0 for scope 0). No part of the answer's words.
+    pub instances: Vec<u32>,
 }
 
 pub type Answer = Result<Expanded, Refusal>;
@@ -81,7 +83,7 @@ pub fn expand(call: &Call, mutant: Option<Mutant>) -> Answer {
     let files = grammar::library(&call.library).or_else(|row| refuse(3, 1, row as u32))?;
     let mut steps = Steps {
         docs: std::iter::once(&root).chain(files.iter().map(|f| &f.doc)).collect(),
-        picks: picks(&root, &files),
+        picks: picks(&root, &files, mutant),
         limits: [call.max_nodes as usize, call.max_depth as usize, call.max_rows as usize],
         scopes_lent: call.lent[2] / 5,
         mutant,
@@ -101,6 +103,7 @@ pub fn expand(call: &Call, mutant: Option<Mutant>) -> Answer {
         out: print(&out),
         ledger: steps.ledger,
         scopes: steps.scopes.iter().map(|s| s.entry).collect(),
+        instances: steps.scopes.iter().map(|s| s.instance).collect(),
     })
 }
 
@@ -108,12 +111,22 @@ pub fn expand(call: &Call, mutant: Option<Mutant>) -> Answer {
 struct Scope {
     entry: [u32; 5],
     document: usize,
+    instance: u32,
     /// The interface values of a body scope; nothing elsewhere.
     values: Option<HashMap<u32, Value>>,
     /// Associations met, in order.
     associations: Vec<[u32; 3]>,
     /// The scope under whose number its copies are mapped: itself.
     mapped_as: usize,
+}
+
+/// An instance node in its scope, and its PROTO by document and id.
+struct Instance<'a> {
+    scope: usize,
+    id: u32,
+    node: &'a Node,
+    document: usize,
+    proto: u32,
 }
 
 type Step<T> = Result<T, Refusal>;
@@ -144,7 +157,7 @@ impl<'a> Steps<'a> {
     /// Scope 0 and the top statements.
     fn run(&mut self) -> Step<Vec<Statement>> {
         self.charge(2)?;
-        let scope = self.open([0, 0, 0, 0, 0], None)?;
+        let scope = self.open([0, 0, 0, 0, 0], 0, None)?;
         let root = self.docs[0];
         let mut top = Vec::new();
         for statement in &root.top {
@@ -171,14 +184,14 @@ impl<'a> Steps<'a> {
     }
 
     /// A new scope, charged and listed.
-    fn open(&mut self, entry: [u32; 5], values: Option<HashMap<u32, Value>>) -> Step<usize> {
+    fn open(&mut self, entry: [u32; 5], instance: u32, values: Option<HashMap<u32, Value>>) -> Step<usize> {
         self.charge(1)?;
         let number = self.scopes.len();
         if number as u64 >= self.scopes_lent {
             return refuse(11, 0, 0);
         }
         let document = entry[1] as usize;
-        self.scopes.push(Scope { entry, document, values, associations: Vec::new(), mapped_as: number });
+        self.scopes.push(Scope { entry, document, instance, values, associations: Vec::new(), mapped_as: number });
         Ok(number)
     }
 
@@ -235,7 +248,7 @@ impl<'a> Steps<'a> {
             return refuse(9, 0, 0);
         }
         match self.prototype(document, node) {
-            Some((document, proto)) => self.instance(scope, id, node, document, proto, depth),
+            Some((document, proto)) => self.instance(&Instance { scope, id, node, document, proto }, depth),
             None => self.plain(scope, id, node, depth),
         }
     }
@@ -401,15 +414,10 @@ impl<'a> Steps<'a> {
         Ok(())
     }
 
-    /// The value that an instance has for one interface of its PROTO.
-    fn given(
-        &mut self,
-        scope: usize,
-        node: &'a Node,
-        at: (usize, u32, usize),
-        interface: &'a Interface,
-        depth: usize,
-    ) -> Step<Option<Value>> {
+    /// The value that an instance has for the interface of this index of its PROTO.
+    fn given(&mut self, instance: &Instance<'a>, proto: &'a Proto, index: usize, depth: usize) -> Step<Option<Value>> {
+        let Instance { scope, id, node, document, proto: proto_id } = *instance;
+        let interface = &proto.interfaces[index];
         let mut equal = node.fields.iter().filter(|f| f.name == interface.name);
         let field = if self.is(Mutant::FirstOfEqualFields) { equal.next() } else { equal.last() };
         match field.map(|f| &f.binding) {
@@ -423,8 +431,7 @@ impl<'a> Steps<'a> {
             None => {}
         }
         let Some(default) = &interface.value else { return Ok(None) };
-        let (document, proto, index) = at;
-        let opened = self.open([2, document as u32, proto, index as u32, scope as u32], None)?;
+        let opened = self.open([2, document as u32, proto_id, index as u32, scope as u32], id, None)?;
         if self.is(Mutant::DefaultSharesInstanceMap) {
             self.scopes[opened].mapped_as = self.scopes[scope].mapped_as;
         }
@@ -432,15 +439,8 @@ impl<'a> Steps<'a> {
     }
 
     /// An instance: its values, its body in a fresh scope, its record on the body's root.
-    fn instance(
-        &mut self,
-        scope: usize,
-        id: u32,
-        node: &'a Node,
-        document: usize,
-        proto_id: u32,
-        depth: usize,
-    ) -> Step<u32> {
+    fn instance(&mut self, instance: &Instance<'a>, depth: usize) -> Step<u32> {
+        let Instance { scope, id, node, document, proto: proto_id } = *instance;
         let Some(proto) = self.docs[document].protos.get(proto_id as usize) else {
             return refuse(6, document as u32, proto_id);
         };
@@ -449,7 +449,7 @@ impl<'a> Steps<'a> {
         }
         let mut values = HashMap::new();
         for (index, interface) in proto.interfaces.iter().enumerate() {
-            if let Some(value) = self.given(scope, node, (document, proto_id, index), interface, depth)? {
+            if let Some(value) = self.given(instance, proto, index, depth)? {
                 self.charge(1)?;
                 values.insert(interface.name, value);
             } else if self.is(Mutant::RepeatedNameOverwritesWithNothing) {
@@ -459,7 +459,7 @@ impl<'a> Steps<'a> {
         if self.is(Mutant::RootlessBeforeBody) && !proto.body.iter().any(|s| matches!(s, Statement::Node(_))) {
             return refuse(7, document as u32, proto_id);
         }
-        let body = self.open([1, document as u32, proto_id, 0, scope as u32], Some(values))?;
+        let body = self.open([1, document as u32, proto_id, 0, scope as u32], id, Some(values))?;
         let mut root = None;
         let mut roots = Vec::new();
         let mut routes = Vec::new();

@@ -2,14 +2,14 @@
 
 use std::fmt;
 
-use crate::closure;
 use crate::random::Random;
 use crate::reckon::{self, Answer, Call};
 use crate::rows::{self, rows_of};
 use crate::rust;
-use crate::scenes::{damage, families, free, MOST_CHARGES};
+use crate::scenes::{damage, families, free, large, MOST_CHARGES};
 use crate::shrink::shrink;
 use crate::{automaton, grammar, translate};
+use crate::{charges, closure};
 
 /// The case of a number: first every scene of the families, then random ones, one in eight of them damaged.
 pub fn case(seed: u64, number: u64) -> Call {
@@ -67,7 +67,11 @@ impl Tally {
 
 impl fmt::Display for Tally {
     fn fmt(&self, f: &mut fmt::Formatter<'_>) -> fmt::Result {
-        writeln!(f, "{} cases, {} compared with the original, {} of them accepted", self.cases, self.compared, self.accepted)?;
+        writeln!(
+            f,
+            "{} cases, {} compared with the original, {} of them accepted",
+            self.cases, self.compared, self.accepted
+        )?;
         write!(f, "refused:")?;
         for (number, count) in self.refused.iter().enumerate().filter(|(_, c)| **c > 0) {
             write!(f, " {number}: {count}")?;
@@ -108,6 +112,10 @@ pub fn check(call: &Call, tally: &mut Tally) -> Result<(), String> {
     if let Ok(expanded) = &answer {
         let seen = closure::check(call, expanded).map_err(|e| format!("demand 3: {e}"))?;
         tally.loops += seen.loops as u64;
+        let total = charges::by_parts(call, expanded);
+        if total != Ok(expanded.charges as usize) {
+            return Err(format!("{} charges step by step, {total:?} by parts", expanded.charges));
+        }
     }
     Ok(())
 }
@@ -160,7 +168,11 @@ pub fn against_original(call: &Call, answer: &Answer) -> Option<Result<(), Strin
         }
         (a, b) => {
             let show = |r: Result<usize, u32>| r.map_or_else(|n| format!("refusal {n}"), |n| format!("{n} rows"));
-            Err(format!("original {}, here {}", show(a.as_ref().map(|v| v.len()).map_err(|n| *n)), show(b.map(|v| v.len()))))
+            Err(format!(
+                "original {}, here {}",
+                show(a.as_ref().map(|v| v.len()).map_err(|n| *n)),
+                show(b.map(|v| v.len()))
+            ))
         }
     })
 }
@@ -201,6 +213,23 @@ pub fn run(count: u64, seed: u64, from: u64) -> u64 {
     differences
 }
 
+/// The large scenes against the original. The number of differences.
+pub fn large() -> u64 {
+    let mut differences = 0;
+    for (name, scene) in large::all() {
+        let mut tally = Tally::default();
+        let result = check(&scene.call(MOST_CHARGES), &mut tally);
+        match tally.refused.iter().position(|n| *n > 0) {
+            Some(refusal) => print!("{name}: refusal {refusal}"),
+            None => print!("{name}: {} nodes, {} scopes", tally.most_nodes, tally.most_scopes),
+        }
+        println!("; {}", result.as_ref().map_or_else(String::as_str, |()| "as the original"));
+        differences += result.is_err() as u64;
+    }
+    println!("{differences} differences");
+    differences
+}
+
 /// For `count` random scenes every K, every N and every D up to beyond what they need. The number of differences.
 pub fn sweeps(count: u64, seed: u64) -> u64 {
     let mut tally = Tally::default();
@@ -225,7 +254,8 @@ pub fn sweeps(count: u64, seed: u64) -> u64 {
             }
         };
         // Every K: 10 up to one less than what the answer takes, then the answer.
-        let with = |max_rows| Call::new(call.root.clone(), call.library.clone(), call.max_nodes, call.max_depth, max_rows);
+        let with =
+            |max_rows| Call::new(call.root.clone(), call.library.clone(), call.max_nodes, call.max_depth, max_rows);
         let mut least = None;
         for max_rows in 0..charges.unwrap_or(3000) + 3 {
             rows_tried += 1;

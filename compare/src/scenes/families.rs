@@ -47,11 +47,12 @@ impl Digits {
 type Family = fn(&mut Digits) -> Scene;
 
 /// The families, each with its name.
-const FAMILIES: [(&str, Family); 7] = [
+const FAMILIES: [(&str, Family); 8] = [
     ("loops", loops),
     ("values", values),
     ("marks", marks),
     ("picks", picks),
+    ("bases", bases),
     ("refusals", refusals),
     ("nested", nested),
     ("routes", routes),
@@ -168,8 +169,10 @@ fn values(d: &mut Digits) -> Scene {
     let fields = d.list(&may, 2);
     // 0 the instance, 1 the body's node, 2 and 3 children, 4 an outer instance.
     let mut body = plain(51, vec![is(1, 1), is(3, 2)]);
-    body.interfaces =
-        vec![Interface { is: Some(1), ..declared(4, Some(payload(80))) }, Interface { is: Some(2), ..declared(5, None) }];
+    body.interfaces = vec![
+        Interface { is: Some(1), ..declared(4, Some(payload(80))) },
+        Interface { is: Some(2), ..declared(5, None) },
+    ];
     body.order = vec![MARK_FIELD, MARK_INTERFACE, MARK_FIELD, MARK_INTERFACE];
     let mut outer = node(54, Origin::Proto(1), vec![given(2, payload(90))]);
     outer.def = Some(3);
@@ -177,7 +180,10 @@ fn values(d: &mut Digits) -> Scene {
     let inner = Proto { name: 8, interfaces, body: mention(&[1]) };
     let (top, outer) = d.of(&[
         (0, Proto { name: 9, interfaces: vec![], body: vec![] }),
-        (4, Proto { name: 9, interfaces: vec![declared(1, Some(nodes(&[3]))), declared(2, None)], body: mention(&[0]) }),
+        (
+            4,
+            Proto { name: 9, interfaces: vec![declared(1, Some(nodes(&[3]))), declared(2, None)], body: mention(&[0]) },
+        ),
         (4, Proto { name: 9, interfaces: vec![declared(1, None), declared(2, None)], body: mention(&[3, 0]) }),
         (4, Proto { name: 9, interfaces: vec![declared(7, Some(nodes(&[0])))], body: vec![Statement::Node(2)] }),
     ]);
@@ -221,6 +227,30 @@ fn picks(d: &mut Digits) -> Scene {
     let externs = vec![Extern { name: 3, interfaces: vec![declared(1, None)], urls }];
     let root = Doc { header: 5, nodes: list, protos, externs, top };
     Scene { root, files, max_nodes: 40, max_depth: 7 }
+}
+
+/// About 64 distinct bases without a file, and two with one before, among and after them.
+fn bases(d: &mut Digits) -> Scene {
+    let mut urls = d.of(&[vec![], vec![(1, Some(99))]]);
+    let count = 62 + d.choose(4) as u32;
+    urls.extend((0..count).map(|i| (100 + i, None)));
+    urls.extend(d.of(&[vec![], vec![(1, None)], vec![(2, None)], vec![(1, Some(5))]]));
+    let second = d.of(&[vec![(1, None)], vec![(2, None)], vec![(3, None), (1, None)]]);
+    let file = |base| {
+        let protos = vec![Proto { name: 5, interfaces: vec![], body: mention(&[0]) }];
+        let doc = Doc {
+            header: 1,
+            nodes: vec![plain(60 + base, vec![])],
+            protos,
+            externs: vec![],
+            top: vec![Statement::Proto(0)],
+        };
+        File { base, doc }
+    };
+    let list = vec![node(50, Origin::Extern(0), vec![]), node(51, Origin::Extern(1), vec![])];
+    let externs = [urls, second].map(|urls| Extern { name: 3, interfaces: vec![], urls }).to_vec();
+    let root = Doc { header: 5, nodes: list, protos: vec![], externs, top: mention(&[0, 1]) };
+    Scene { root, files: vec![file(1), file(2)], max_nodes: 40, max_depth: 7 }
 }
 
 /// Ids that lead nowhere, bodies without a root, and small limits: which refusal comes first.

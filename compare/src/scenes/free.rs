@@ -12,6 +12,7 @@ struct Style {
     protos: usize,
     externs: usize,
     names: usize,
+    first_name: u32,
     instance: usize,
     fetched: usize,
     backward: usize,
@@ -29,6 +30,7 @@ impl Style {
             protos: r.of(&[0, 1, 1, 2, 2, 3, 3, 4, 6]),
             externs: r.of(&[0, 0, 1, 2, 3]),
             names: r.range(1, 6),
+            first_name: r.of(&[0, 1, 1, NONE - 6]),
             instance: r.of(&[10, 40, 60, 60, 90]),
             fetched: r.of(&[0, 10, 30, 60]),
             backward: r.of(&[0, 0, 0, 10, 40, 100]),
@@ -49,6 +51,8 @@ pub fn scene(r: &mut Random, most_nodes: usize) -> Scene {
     let mut files = Vec::new();
     for _ in 0..count {
         let mut inner = Style::random(r, most_nodes);
+        // One naming for all documents, so that fragments find names.
+        inner.first_name = style.first_name;
         inner.protos = inner.protos.max(r.below(2));
         files.push(File { base: base(r), doc: document(r, inner) });
     }
@@ -92,7 +96,7 @@ fn document(r: &mut Random, style: Style) -> Doc {
     for _ in 1..style.nodes {
         owner.push(if r.percent(30) { 0 } else { r.below(style.protos + 1) });
     }
-    let header = r.below(4) as u32;
+    let header = r.of(&[0, 1, 2, NONE]);
     let mut m = Maker { r, style, owner, protos: Vec::new() };
     for p in 0..style.protos {
         let proto = m.proto(p);
@@ -114,7 +118,7 @@ fn document(r: &mut Random, style: Style) -> Doc {
 
 impl Maker<'_> {
     fn name(&mut self) -> u32 {
-        self.r.range(1, self.style.names) as u32
+        self.style.first_name + self.r.below(self.style.names) as u32
     }
 
     fn tag(&mut self) -> u32 {
@@ -294,8 +298,7 @@ impl Maker<'_> {
         // Only over a plain node does the loop close; over instances alone it runs into the depth limit.
         let any = self.r.percent(5);
         let plain = |j: &usize| any || !matches!(nodes[*j].origin, Origin::Proto(_));
-        let beside: Vec<usize> =
-            (0..nodes.len()).filter(|j| self.owner[*j] == self.owner[i]).filter(plain).collect();
+        let beside: Vec<usize> = (0..nodes.len()).filter(|j| self.owner[*j] == self.owner[i]).filter(plain).collect();
         if beside.is_empty() {
             return;
         }

@@ -3,6 +3,7 @@
 pub mod damage;
 pub mod families;
 pub mod free;
+pub mod large;
 pub mod lent;
 
 use crate::reckon::Call;
