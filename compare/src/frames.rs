@@ -9,7 +9,7 @@
 use std::fs::File;
 use std::io::{self, BufReader, BufWriter, Read, Write};
 
-use crate::mutants::Mutant;
+use crate::mutants::{self, Mutant};
 use crate::reckon::{self, Call};
 use crate::scenes::lent;
 use crate::versus;
@@ -110,6 +110,25 @@ fn case_frame(call: &Call) -> Vec<u32> {
     frame.extend(&call.root);
     frame.extend(&call.library);
     frame
+}
+
+/// How many of a batch's calls notice each mutant. The number of mutants that none does.
+pub fn mutants(count: u64, seed: u64) -> u64 {
+    let all = || mutants::ALL.iter().chain(mutants::FRAMES_ONLY);
+    let mut noticed = vec![0u64; all().count()];
+    for number in 0..count {
+        let call = lent::call(seed, number, if number % 2 == 0 { lent::SMALL } else { lent::USUAL });
+        let truth = reckon::expand(&call, None);
+        for ((mutant, _), noticed) in all().zip(&mut noticed) {
+            *noticed += (reckon::expand(&call, Some(*mutant)) != truth) as u64;
+        }
+    }
+    for ((mutant, wrong), noticed) in all().zip(&noticed) {
+        println!("{mutant:?}: {wrong}: noticed by {noticed} of {count} frames");
+    }
+    let missed = noticed.iter().filter(|n| **n == 0).count() as u64;
+    println!("{} mutants, {missed} not noticed", noticed.len());
+    missed
 }
 
 /// Answers every case by `reckon`, as a program under test would.

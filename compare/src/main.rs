@@ -31,6 +31,7 @@ compare mutants COUNT SEED                 every mutant over the families and CO
 compare case NUMBER SEED                   one case and both answers
 compare frames write FILE COUNT SEED [--small] [--caps]
 compare frames check CASES ANSWERS
+compare frames mutants COUNT SEED          every mutant over COUNT frames, every other one small
 compare frames answer CASES ANSWERS [MUTANT]
 compare library COUNT SEED                 the linked static library (feature `library`)";
 
@@ -79,6 +80,7 @@ fn command() -> Result<u64, String> {
             frames::write(path, &batch).map_err(|e| e.to_string())?;
             Ok(0)
         }
+        ["frames", "mutants", count, seed] => Ok(frames::mutants(number(count)?, number(seed)?)),
         ["frames", "check", cases, answers] => frames::check(cases, answers).map_err(|e| e.to_string()),
         ["frames", "answer", cases, answers, ref mutant @ ..] if mutant.len() < 2 => {
             let mutant = mutant.first().map(|name| mutants::named(name)).transpose()?;

@@ -29,9 +29,22 @@ pub enum Mutant {
     UnresolvedBasesDoNotCount,
     LastFileOfBase,
     DanglingPickPassedOver,
+    IdChargedBeforeCopy,
+    FieldChargedBeforeValue,
+    RowChargedBeforeNodesLimit,
+    ExternChargedBeforeLookup,
+    RoutesChargedAfterBody,
+    RecordChargedBeforeRootless,
+    BodyScopeBeforeValues,
+    ClonedIdsNotCharged,
+    UnwrittenAssociationsNotCharged,
+    OverwritingStoreNotCharged,
+    PayloadDefaultOpensNoScope,
+    IndexAmongDefaults,
+    SixInTheInstancesDocument,
 }
 
-/// Every mutant, with what it does wrong.
+/// Mutants that the comparison with the original must notice, with what each does wrong.
 pub const ALL: &[(Mutant, &str)] = &[
     (Mutant::InstanceMappedBeforeValues, "an instance is mapped before its values, to the next output id"),
     (Mutant::OneMapForAllScopes, "one map for all scopes of a document"),
@@ -56,9 +69,26 @@ pub const ALL: &[(Mutant, &str)] = &[
     (Mutant::DanglingPickPassedOver, "without a fragment a dangling Proto statement is passed over"),
 ];
 
+/// Mutants of what the original doesn't show (charges, scopes, places): frames must notice them.
+pub const FRAMES_ONLY: &[(Mutant, &str)] = &[
+    (Mutant::IdChargedBeforeCopy, "an id is charged before its node is copied"),
+    (Mutant::FieldChargedBeforeValue, "a field is charged before its value is copied"),
+    (Mutant::RowChargedBeforeNodesLimit, "a plain copy is charged before 8 is tested"),
+    (Mutant::ExternChargedBeforeLookup, "an extern is charged before 4 is tested"),
+    (Mutant::RoutesChargedAfterBody, "body routes are charged when they are remapped"),
+    (Mutant::RecordChargedBeforeRootless, "the record is charged before 7"),
+    (Mutant::BodyScopeBeforeValues, "the body scope is opened before the values"),
+    (Mutant::ClonedIdsNotCharged, "the ids of a value that an IS takes are not charged"),
+    (Mutant::UnwrittenAssociationsNotCharged, "associations outside bodies are not charged"),
+    (Mutant::OverwritingStoreNotCharged, "a store that overwrites is not charged"),
+    (Mutant::PayloadDefaultOpensNoScope, "a default without nodes opens no scope"),
+    (Mutant::IndexAmongDefaults, "a default scope's index counts only interfaces with a default"),
+    (Mutant::SixInTheInstancesDocument, "6 gives the instance's document, not the PROTO's"),
+];
+
 /// The mutant of a name, as `compare mutants` prints it.
 pub fn named(name: &str) -> Result<Mutant, String> {
-    let found = ALL.iter().find(|(mutant, _)| format!("{mutant:?}") == name);
+    let found = ALL.iter().chain(FRAMES_ONLY).find(|(mutant, _)| format!("{mutant:?}") == name);
     found.map(|(mutant, _)| *mutant).ok_or(format!("no such mutant: {name}"))
 }
 

@@ -157,7 +157,7 @@ impl<'a> Steps<'a> {
     /// Scope 0 and the top statements.
     fn run(&mut self) -> Step<Vec<Statement>> {
         self.charge(2)?;
-        let scope = self.open([0, 0, 0, 0, 0], 0, None)?;
+        let scope = self.open([0, 0, 0, 0, 0], 0)?;
         let root = self.docs[0];
         let mut top = Vec::new();
         for statement in &root.top {
@@ -184,14 +184,21 @@ impl<'a> Steps<'a> {
     }
 
     /// A new scope, charged and listed.
-    fn open(&mut self, entry: [u32; 5], instance: u32, values: Option<HashMap<u32, Value>>) -> Step<usize> {
+    fn open(&mut self, entry: [u32; 5], instance: u32) -> Step<usize> {
         self.charge(1)?;
         let number = self.scopes.len();
         if number as u64 >= self.scopes_lent {
             return refuse(11, 0, 0);
         }
         let document = entry[1] as usize;
-        self.scopes.push(Scope { entry, document, instance, values, associations: Vec::new(), mapped_as: number });
+        self.scopes.push(Scope {
+            entry,
+            document,
+            instance,
+            values: None,
+            associations: Vec::new(),
+            mapped_as: number,
+        });
         Ok(number)
     }
 
@@ -258,8 +265,10 @@ impl<'a> Steps<'a> {
         let Value::Nodes { tag, ids } = value else { return Ok(value.clone()) };
         let mut copies = Vec::new();
         for id in ids {
+            let early = self.is(Mutant::IdChargedBeforeCopy);
+            self.charge(early as usize)?;
             copies.push(self.copy(scope, *id, depth)?);
-            self.charge(1)?;
+            self.charge(!early as usize)?;
         }
         Ok(Value::Nodes { tag: *tag, ids: copies })
     }
@@ -267,7 +276,7 @@ impl<'a> Steps<'a> {
     /// The value that an IS target has in a scope, cloned: each id is charged.
     fn take_value(&mut self, scope: usize, target: u32) -> Step<Option<Value>> {
         let value = self.scopes[scope].values.as_ref().and_then(|v| v.get(&target)).cloned();
-        if let Some(v) = &value {
+        if let Some(v) = value.as_ref().filter(|_| !self.is(Mutant::ClonedIdsNotCharged)) {
             self.charge(v.ids().len())?;
         }
         Ok(value)
@@ -283,10 +292,12 @@ impl<'a> Steps<'a> {
         if let Some(out) = self.declared.get(&key) {
             return Ok(*out);
         }
+        let early = self.is(Mutant::ExternChargedBeforeLookup);
+        self.charge(early as usize)?;
         let Some(declaration) = self.docs[document].externs.get(id as usize) else {
             return refuse(4, document as u32, id);
         };
-        self.charge(1 + declaration.interfaces.len() + declaration.urls.len())?;
+        self.charge(!early as usize + declaration.interfaces.len() + declaration.urls.len())?;
         let out = self.externs.len() as u32;
         self.externs.push(declaration.clone());
         self.declared.insert(key, out);
@@ -301,10 +312,12 @@ impl<'a> Steps<'a> {
                 self.declare(document, e)?;
             }
         }
+        let early = self.is(Mutant::RowChargedBeforeNodesLimit);
+        self.charge(early as usize)?;
         if self.nodes.len() >= self.limits[0] {
             return refuse(8, 0, 0);
         }
-        self.charge(2)?;
+        self.charge(2 - early as usize)?;
         let new = self.nodes.len();
         let out = new as u32;
         let mut copy = Node::new(node.type_name, node.origin);
@@ -324,7 +337,8 @@ impl<'a> Steps<'a> {
 
     /// An IS: charged and noted in the scope.
     fn associate(&mut self, scope: usize, target: u32, new: usize, name: u32) -> Step<()> {
-        self.charge(1)?;
+        let free = self.is(Mutant::UnwrittenAssociationsNotCharged) && !self.in_body(scope);
+        self.charge(!free as usize)?;
         self.scopes[scope].associations.push([target, new as u32, name]);
         Ok(())
     }
@@ -333,6 +347,8 @@ impl<'a> Steps<'a> {
     fn fields(&mut self, scope: usize, node: &'a Node, new: usize, depth: usize) -> Step<Vec<bool>> {
         let mut kept = Vec::new();
         for field in &node.fields {
+            let early = self.is(Mutant::FieldChargedBeforeValue) && matches!(field.binding, Binding::Value(_));
+            self.charge(early as usize)?;
             let binding = match &field.binding {
                 Binding::Value(value) => Some(Binding::Value(self.value(scope, value, depth)?)),
                 Binding::Is(target) => {
@@ -348,7 +364,7 @@ impl<'a> Steps<'a> {
             };
             kept.push(binding.is_some());
             if let Some(binding) = binding {
-                self.charge(1)?;
+                self.charge(!early as usize)?;
                 self.nodes[new].fields.push(Field { name: field.name, binding, inferred: field.inferred });
             }
         }
@@ -431,7 +447,12 @@ impl<'a> Steps<'a> {
             None => {}
         }
         let Some(default) = &interface.value else { return Ok(None) };
-        let opened = self.open([2, document as u32, proto_id, index as u32, scope as u32], id, None)?;
+        if self.is(Mutant::PayloadDefaultOpensNoScope) && matches!(default, Value::Payload { .. }) {
+            return Ok(Some(default.clone()));
+        }
+        let defaults = |list: &[Interface]| list.iter().filter(|i| i.value.is_some()).count();
+        let index = if self.is(Mutant::IndexAmongDefaults) { defaults(&proto.interfaces[..index]) } else { index };
+        let opened = self.open([2, document as u32, proto_id, index as u32, scope as u32], id)?;
         if self.is(Mutant::DefaultSharesInstanceMap) {
             self.scopes[opened].mapped_as = self.scopes[scope].mapped_as;
         }
@@ -442,15 +463,21 @@ impl<'a> Steps<'a> {
     fn instance(&mut self, instance: &Instance<'a>, depth: usize) -> Step<u32> {
         let Instance { scope, id, node, document, proto: proto_id } = *instance;
         let Some(proto) = self.docs[document].protos.get(proto_id as usize) else {
+            let here = self.is(Mutant::SixInTheInstancesDocument);
+            let document = if here { self.scopes[scope].document } else { document };
             return refuse(6, document as u32, proto_id);
         };
         if self.is(Mutant::InstanceMappedBeforeValues) {
             self.enter(scope, id, self.nodes.len() as u32);
         }
+        let early = self.is(Mutant::BodyScopeBeforeValues);
+        let entry = [1, document as u32, proto_id, 0, scope as u32];
+        let opened = if early { Some(self.open(entry, id)?) } else { None };
         let mut values = HashMap::new();
         for (index, interface) in proto.interfaces.iter().enumerate() {
             if let Some(value) = self.given(instance, proto, index, depth)? {
-                self.charge(1)?;
+                let free = self.is(Mutant::OverwritingStoreNotCharged) && values.contains_key(&interface.name);
+                self.charge(!free as usize)?;
                 values.insert(interface.name, value);
             } else if self.is(Mutant::RepeatedNameOverwritesWithNothing) {
                 values.remove(&interface.name);
@@ -459,10 +486,15 @@ impl<'a> Steps<'a> {
         if self.is(Mutant::RootlessBeforeBody) && !proto.body.iter().any(|s| matches!(s, Statement::Node(_))) {
             return refuse(7, document as u32, proto_id);
         }
-        let body = self.open([1, document as u32, proto_id, 0, scope as u32], id, Some(values))?;
+        let body = match opened {
+            Some(body) => body,
+            None => self.open(entry, id)?,
+        };
+        self.scopes[body].values = Some(values);
         let mut root = None;
         let mut roots = Vec::new();
         let mut routes = Vec::new();
+        let late = self.is(Mutant::RoutesChargedAfterBody);
         for statement in &proto.body {
             match statement {
                 Statement::Node(inner) => {
@@ -476,7 +508,7 @@ impl<'a> Steps<'a> {
                     }
                 }
                 Statement::Route(route) => {
-                    self.charge(1)?;
+                    self.charge(!late as usize)?;
                     let now = self.remap(body, route);
                     routes.push((route, now));
                 }
@@ -486,10 +518,13 @@ impl<'a> Steps<'a> {
                 Statement::Proto(_) | Statement::Other(_) => {}
             }
         }
+        self.charge(if late { routes.len() } else { 0 })?;
         let early = self.is(Mutant::RoutesRemappedWhereTheyStand);
         let routes = routes.into_iter().map(|(r, now)| if early { now } else { self.remap(body, r) }).collect();
+        let early = self.is(Mutant::RecordChargedBeforeRootless);
+        self.charge(early as usize)?;
         let Some(root) = root else { return refuse(7, document as u32, proto_id) };
-        self.charge(1)?;
+        self.charge(!early as usize)?;
         let associations = std::mem::take(&mut self.scopes[body].associations);
         let record = Record { name: proto.name, roots, routes, associations };
         self.attach(root, node.def, record);

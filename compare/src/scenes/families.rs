@@ -3,6 +3,7 @@
 use std::sync::OnceLock;
 
 use super::Scene;
+use crate::random::Random;
 use crate::rows::{MARK_FIELD, MARK_INTERFACE, MARK_STATEMENT};
 use crate::tree::*;
 
@@ -85,6 +86,12 @@ pub fn scene(mut number: u64) -> Scene {
         number -= size;
     }
     panic!("no such scene");
+}
+
+/// Some scene; every family is as likely as any other.
+pub fn any(r: &mut Random) -> Scene {
+    let at = r.below(FAMILIES.len());
+    FAMILIES[at].1(&mut Digits { rest: r.next() % sizes()[at].1, size: 1 })
 }
 
 const CHILDREN: u32 = 14;

@@ -59,8 +59,7 @@ pub fn call(seed: u64, number: u64, bounds: Bounds) -> Call {
 
 fn sheets(r: &mut Random, bounds: Bounds) -> Call {
     if r.percent(20) {
-        let number = r.next() % families::total();
-        return families::scene(number).call(bounds.max_rows);
+        return families::any(r).call(bounds.max_rows);
     }
     let most_nodes = if bounds.sheet_rows < 100 { r.of(&[3, 4, 5, 6]) } else { r.of(&[3, 5, 8, 12, 20]) };
     free::scene(r, most_nodes).call(bounds.max_rows)
@@ -68,32 +67,49 @@ fn sheets(r: &mut Random, bounds: Bounds) -> Call {
 
 /// Limits around what the call takes, or of the bounds.
 fn limits(r: &mut Random, call: &mut Call, bounds: Bounds) {
-    let generous = Call { max_nodes: bounds.max_nodes, max_rows: bounds.max_rows, lent: [u64::MAX; 4], ..call.clone() };
-    let (nodes, charges) = match reckon::expand(&generous, None) {
-        Ok(e) => (e.nodes, e.charges),
-        Err(_) => (r.below(12) as u32, r.below(60) as u32),
-    };
+    call.lent = [u64::MAX; 4];
+    let generous = Call { max_nodes: bounds.max_nodes, max_rows: bounds.max_rows, ..call.clone() };
+    let nodes = reckon::expand(&generous, None).map_or_else(|_| r.below(12) as u32, |e| e.nodes);
     let around = |r: &mut Random, n: u32| (n + r.below(3) as u32).saturating_sub(1);
-    call.max_nodes = match r.below(10) {
+    let max_nodes = match r.below(10) {
         0..=5 => call.max_nodes,
         6 | 7 => around(r, nodes),
         8 => r.below(10) as u32,
         _ => bounds.max_nodes,
     };
-    call.max_depth = match r.below(10) {
+    let max_depth = match r.below(10) {
         0..=6 => call.max_depth,
         7 | 8 => r.below(10) as u32,
         _ => bounds.max_depth,
     };
-    call.max_rows = match r.below(10) {
+    call.max_nodes = max_nodes.min(bounds.max_nodes);
+    call.max_depth = max_depth.min(bounds.max_depth);
+    let charges = least_rows(call, bounds.max_rows);
+    let max_rows = match r.below(10) {
         0..=4 => bounds.max_rows,
-        5 => around(r, charges),
-        6 => charges,
+        5 | 6 => around(r, charges),
+        7 => charges,
         _ => r.below(charges as usize + 3) as u32,
     };
-    call.max_nodes = call.max_nodes.min(bounds.max_nodes);
-    call.max_depth = call.max_depth.min(bounds.max_depth);
-    call.max_rows = call.max_rows.min(bounds.max_rows);
+    call.max_rows = max_rows.min(bounds.max_rows);
+}
+
+/// The least K up to `most` with which the call is not refused by 10: its charges, or those before another refusal.
+fn least_rows(call: &Call, most: u32) -> u32 {
+    let enough = |max_rows| {
+        let answer = reckon::expand(&Call { max_rows, ..call.clone() }, None);
+        !matches!(answer, Err(refusal) if refusal.number == 10)
+    };
+    let (mut low, mut high) = (0, most);
+    while low < high {
+        let middle = (low + high) / 2;
+        if enough(middle) {
+            high = middle;
+        } else {
+            low = middle + 1;
+        }
+    }
+    low
 }
 
 /// One limit over its cap, or one slice a word short.
