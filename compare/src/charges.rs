@@ -3,8 +3,8 @@
 
 use std::collections::HashMap;
 
+use crate::call::{Call, Expanded};
 use crate::grammar;
-use crate::reckon::{Call, Expanded};
 use crate::rows::*;
 use crate::tree::*;
 

@@ -3,9 +3,9 @@
 
 use std::collections::{HashMap, HashSet};
 
+use crate::call::{Call, Expanded};
 use crate::grammar;
 use crate::picks::picks;
-use crate::reckon::{Call, Expanded};
 use crate::rows::*;
 use crate::tree::*;
 

@@ -2,7 +2,8 @@
 
 use original::ast::FieldType;
 
-use crate::reckon::{self, Answer, Call};
+use crate::call::{Answer, Call};
+use crate::reckon;
 use crate::rows::{words_of, Row, NONE, TAGS};
 use crate::scenes::MOST_CHARGES;
 use crate::versus;

@@ -9,8 +9,9 @@
 use std::fs::File;
 use std::io::{self, BufReader, BufWriter, Read, Write};
 
+use crate::call::Call;
 use crate::mutants::{self, Mutant};
-use crate::reckon::{self, Call};
+use crate::reckon;
 use crate::scenes::lent;
 use crate::versus;
 

@@ -1,7 +1,7 @@
 //! The static library under test, by its C interface. Built with the feature `library`; `build.rs` links `libluhetami.a`.
 
+use crate::call::Call;
 use crate::frames::{self, HEAD, MAGIC};
-use crate::reckon::Call;
 use crate::scenes::lent;
 
 extern "C" {

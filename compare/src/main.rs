@@ -1,6 +1,7 @@
 //! Comparison of the expansion of document 01 with the original Rust, and frames for a program under test.
 
 mod automaton;
+mod call;
 mod charges;
 mod closure;
 mod flights;
@@ -16,6 +17,9 @@ mod rows;
 mod rust;
 mod scenes;
 mod shrink;
+mod steps;
+mod sweeps;
+mod tally;
 mod translate;
 mod tree;
 mod versus;
@@ -58,7 +62,7 @@ fn command() -> Result<u64, String> {
     match args[..] {
         ["original", count, seed] => Ok(versus::run(number(count)?, number(seed)?, 0)),
         ["original", count, seed, from] => Ok(versus::run(number(count)?, number(seed)?, number(from)?)),
-        ["sweeps", count, seed] => Ok(versus::sweeps(number(count)?, number(seed)?)),
+        ["sweeps", count, seed] => Ok(sweeps::run(number(count)?, number(seed)?)),
         ["case", at, seed] => {
             let call = versus::case(number(seed)?, number(at)?);
             let original = versus::against_original(&call, &reckon::expand(&call, None));

@@ -1,7 +1,8 @@
 //! The deliberately broken readings of document 01 that `reckon` can be switched to.
 
+use crate::call::{Answer, Call};
 use crate::closure;
-use crate::reckon::{self, Answer, Call};
+use crate::reckon;
 use crate::scenes::families;
 use crate::shrink::shrink;
 use crate::versus;

@@ -1,6 +1,6 @@
 //! Makes an input smaller as long as it shows the same thing.
 
-use crate::reckon::Call;
+use crate::call::Call;
 use crate::rows::{ASSOCIATION, FIELD, ID, INSTANCE, INTERFACE, STATEMENT};
 
 /// A smaller call for which `shows` still holds: rows are taken out while that goes.

@@ -1,15 +1,14 @@
 //! The comparison of `reckon` with the original, case by case, and the checks that need no original.
 
-use std::fmt;
-
+use crate::call::{Answer, Call};
 use crate::random::Random;
-use crate::reckon::{self, Answer, Call};
+use crate::reckon;
 use crate::rows::{self, rows_of};
 use crate::rust;
 use crate::scenes::{damage, families, free, large, MOST_CHARGES};
 use crate::shrink::shrink;
-use crate::{automaton, grammar, translate};
-use crate::{charges, closure};
+use crate::tally::Tally;
+use crate::{automaton, charges, closure, grammar, translate};
 
 /// The case of a number: first every scene of the families, then random ones, one in eight of them damaged.
 pub fn case(seed: u64, number: u64) -> Call {
@@ -24,74 +23,6 @@ pub fn case(seed: u64, number: u64) -> Call {
         damage::damage(&mut r, if in_library { &mut call.library } else { &mut call.root });
     }
     call
-}
-
-/// What was seen over many cases.
-#[derive(Default)]
-pub struct Tally {
-    pub cases: u64,
-    pub compared: u64,
-    pub accepted: u64,
-    pub refused: [u64; 12],
-    pub loops: u64,
-    pub bodies: u64,
-    pub defaults: u64,
-    pub fetched: u64,
-    pub externs: u64,
-    pub roots: u64,
-    pub associations: u64,
-    pub most_nodes: u32,
-    pub most_scopes: usize,
-}
-
-impl Tally {
-    fn note(&mut self, answer: &Answer) {
-        self.cases += 1;
-        match answer {
-            Err(refusal) => self.refused[refusal.number as usize] += 1,
-            Ok(e) => {
-                let has = |kind: u32| e.out.iter().any(|r| r[0] == kind) as u64;
-                self.accepted += 1;
-                self.bodies += e.scopes.iter().any(|s| s[0] == 1) as u64;
-                self.defaults += e.scopes.iter().any(|s| s[0] == 2) as u64;
-                self.fetched += e.scopes.iter().any(|s| s[1] > 0) as u64;
-                self.externs += has(rows::EXTERN);
-                self.roots += e.out.iter().any(|r| r[0] == rows::INSTANCE && r[2] > 0) as u64;
-                self.associations += has(rows::ASSOCIATION);
-                self.most_nodes = self.most_nodes.max(e.nodes);
-                self.most_scopes = self.most_scopes.max(e.scopes.len());
-            }
-        }
-    }
-}
-
-impl fmt::Display for Tally {
-    fn fmt(&self, f: &mut fmt::Formatter<'_>) -> fmt::Result {
-        writeln!(
-            f,
-            "{} cases, {} compared with the original, {} of them accepted",
-            self.cases, self.compared, self.accepted
-        )?;
-        write!(f, "refused:")?;
-        for (number, count) in self.refused.iter().enumerate().filter(|(_, c)| **c > 0) {
-            write!(f, " {number}: {count}")?;
-        }
-        writeln!(f)?;
-        writeln!(
-            f,
-            "accepted with a loop through an instance {}, body scopes {}, default scopes {}, a fetched file {}, \
-             externs {}, extra roots {}, associations {}; at most {} nodes, {} scopes",
-            self.loops,
-            self.bodies,
-            self.defaults,
-            self.fetched,
-            self.externs,
-            self.roots,
-            self.associations,
-            self.most_nodes,
-            self.most_scopes
-        )
-    }
 }
 
 /// One case with every check; the difference found, if any.
@@ -191,6 +122,10 @@ pub fn show(call: &Call) -> String {
 
 /// Cases `from` to `from + count` of a seed. The number of differences; the smallest is printed.
 pub fn run(count: u64, seed: u64, from: u64) -> u64 {
+    if from == 0 {
+        let sizes: Vec<String> = families::sizes().iter().map(|(name, size)| format!("{name} {size}")).collect();
+        println!("families: {}; {} scenes", sizes.join(", "), families::total());
+    }
     let mut tally = Tally::default();
     let mut differences = 0;
     let mut smallest: Option<(u64, Call, String)> = None;
@@ -226,68 +161,6 @@ pub fn large() -> u64 {
         println!("; {}", result.as_ref().map_or_else(String::as_str, |()| "as the original"));
         differences += result.is_err() as u64;
     }
-    println!("{differences} differences");
-    differences
-}
-
-/// For `count` random scenes every K, every N and every D up to beyond what they need. The number of differences.
-pub fn sweeps(count: u64, seed: u64) -> u64 {
-    let mut tally = Tally::default();
-    let mut differences = 0;
-    let mut rows_tried = 0u64;
-    let mut number = 1 << 40;
-    let mut swept = 0;
-    while swept < count {
-        number += 1;
-        let call = case(seed, number);
-        let full = reckon::expand(&call, None);
-        let charges = match &full {
-            Ok(e) if e.charges > 30 && e.charges < 600 => Some(e.charges),
-            Err(r) if (4..=9).contains(&r.number) && number % 16 == 0 => None,
-            _ => continue,
-        };
-        swept += 1;
-        let mut report = |what: Result<(), String>, call: &Call| {
-            if let Err(what) = what {
-                differences += 1;
-                println!("case {number} of seed {seed}: {what}\n{}", show(call));
-            }
-        };
-        // Every K: 10 up to one less than what the answer takes, then the answer.
-        let with =
-            |max_rows| Call::new(call.root.clone(), call.library.clone(), call.max_nodes, call.max_depth, max_rows);
-        let mut least = None;
-        for max_rows in 0..charges.unwrap_or(3000) + 3 {
-            rows_tried += 1;
-            let answer = reckon::expand(&with(max_rows), None);
-            let same = answer == full;
-            if same && least.is_none() {
-                least = Some(max_rows);
-            }
-            let ten = matches!(&answer, Err(r) if r.number == 10 && r.places == [0, 0]);
-            if same == ten || (ten && least.is_some()) {
-                report(Err(format!("K = {max_rows}")), &call);
-            }
-            if charges.is_none() && least.is_some_and(|l| max_rows > l + 2) {
-                break;
-            }
-        }
-        if least.is_none() || (charges.is_some() && least != charges) {
-            report(Err(format!("{charges:?} charges, least K {least:?}")), &call);
-        }
-        // Every N and every D, against the original.
-        let nodes = full.as_ref().map_or(call.max_nodes, |e| e.nodes);
-        for max_nodes in 0..nodes + 2 {
-            let limited = Call { max_nodes, lent: [u64::MAX; 4], ..call.clone() };
-            report(check(&limited, &mut tally), &limited);
-        }
-        for max_depth in 0..call.max_depth + 2 {
-            let limited = Call { max_depth, lent: [u64::MAX; 4], ..call.clone() };
-            report(check(&limited, &mut tally), &limited);
-        }
-    }
-    print!("{swept} scenes with every N and every D: {tally}");
-    println!("the same scenes with every K: {rows_tried} calls");
     println!("{differences} differences");
     differences
 }

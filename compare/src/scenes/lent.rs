@@ -2,8 +2,9 @@
 //! limits over their caps, damaged sheets.
 
 use super::{damage, families, free};
+use crate::call::Call;
 use crate::random::Random;
-use crate::reckon::{self, Call};
+use crate::reckon;
 use crate::rows::MOST_ROWS;
 
 /// The bounds of the calls.

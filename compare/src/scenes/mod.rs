@@ -6,7 +6,7 @@ pub mod free;
 pub mod large;
 pub mod lent;
 
-use crate::reckon::Call;
+use crate::call::Call;
 use crate::rows::words_of;
 use crate::tree::{print, print_library, Doc, File};
 
