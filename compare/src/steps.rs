@@ -415,11 +415,13 @@ impl<'a> Steps<'a> {
         let mut roots = Vec::new();
         let mut routes = Vec::new();
         let late = self.is(Mutant::RoutesChargedAfterBody);
+        let late_entry = self.is(Mutant::InstanceEntryChargedAfterBody);
         for statement in &proto.body {
             match statement {
                 Statement::Node(inner) => {
                     let out = self.copy(body, *inner, depth)?;
-                    self.charge(1)?;
+                    let free = late_entry && root.is_none();
+                    self.charge(!free as usize)?;
                     if root.is_none() {
                         root = Some(out);
                         self.enter(scope, id, out);
@@ -439,6 +441,7 @@ impl<'a> Steps<'a> {
             }
         }
         self.charge(if late { routes.len() } else { 0 })?;
+        self.charge((late_entry && root.is_some()) as usize)?;
         let early = self.is(Mutant::RoutesRemappedWhereTheyStand);
         let routes = routes.into_iter().map(|(r, now)| if early { now } else { self.remap(body, r) }).collect();
         let early = self.is(Mutant::RecordChargedBeforeRootless);
