@@ -5,8 +5,8 @@ use std::collections::{HashMap, HashSet};
 
 use crate::call::{Call, Expanded};
 use crate::grammar;
+use crate::output;
 use crate::picks::picks;
-use crate::rows::*;
 use crate::tree::*;
 
 /// What the check saw on the way, for the summary.
@@ -112,85 +112,16 @@ pub fn check(call: &Call, answer: &Expanded) -> Result<Seen, String> {
         docs: std::iter::once(&root).chain(files.iter().map(|f| &f.doc)).collect(),
         picks: picks(&root, &files, None),
     };
-    output(call, answer, &sheets)?;
-    let (seen, plain) = scopes(&answer.scopes, &sheets)?;
-    ledger(answer, plain)?;
-    Ok(seen)
-}
-
-/// The output: an expanded document with ids below the node count, and within the limits.
-fn output(call: &Call, answer: &Expanded, sheets: &Sheets) -> Result<(), String> {
-    let words = words_of(&answer.out);
-    let doc = grammar::root(&words).map_err(|row| format!("output row {row} doesn't fit"))?;
-    if answer.nodes > call.max_nodes || doc.nodes.len() != answer.nodes as usize {
-        return Err("the node count".into());
-    }
-    if answer.out.len() > answer.charges as usize || answer.charges > call.max_rows {
-        return Err("rows, charges and their limit".into());
-    }
-    if !doc.protos.is_empty() || doc.top.iter().any(|s| matches!(s, Statement::Proto(_))) {
-        return Err("a PROTO is left".into());
-    }
-    let mut externs = Vec::new();
-    let mut ids = Vec::new();
-    let mut ends = |r: &Route| ids.extend(r.from.into_iter().chain(r.to));
-    for s in &doc.top {
-        if let Statement::Route(r) = s {
-            ends(r);
-        }
-    }
-    for node in &doc.nodes {
-        for s in &node.statements {
-            match s {
-                Statement::Route(r) => ends(r),
-                Statement::Extern(id) => externs.push(*id),
-                _ => return Err("a statement that a node may not hold".into()),
-            }
-        }
-        node.instance.iter().flat_map(|r| &r.routes).for_each(&mut ends);
-    }
-    for s in &doc.top {
-        match s {
-            Statement::Node(id) => ids.push(*id),
-            Statement::Extern(id) => externs.push(*id),
-            _ => {}
-        }
-    }
-    for node in &doc.nodes {
-        match node.origin {
-            Origin::Proto(_) => return Err("an instance is left".into()),
-            Origin::Extern(id) => externs.push(id),
-            _ => {}
-        }
-        for field in &node.fields {
-            if let Binding::Value(v) = &field.binding {
-                ids.extend_from_slice(v.ids());
-            }
-        }
-        for interface in &node.interfaces {
-            if interface.is.is_some() && interface.value.is_some() {
-                return Err("an interface with an IS and a value".into());
-            }
-            ids.extend_from_slice(interface.value.as_ref().map_or(&[][..], Value::ids));
-        }
-        if let Some(record) = &node.instance {
-            ids.extend_from_slice(&record.roots);
-            ids.extend(record.associations.iter().map(|a| a[1]));
-        }
-    }
-    if ids.iter().any(|id| *id >= answer.nodes) {
-        return Err("a node id at or over the node count".into());
-    }
-    if externs.iter().any(|id| *id as usize >= doc.externs.len()) {
-        return Err("an extern id that leads nowhere".into());
-    }
+    output::check(call, answer)?;
     for [_, document, id] in &answer.ledger {
         let document = *document as usize;
         if document >= sheets.docs.len() || sheets.prototype(document, sheets.node(document, *id)?).is_some() {
             return Err("an instance is left, by its ledger source".into());
         }
     }
-    Ok(())
+    let (seen, plain) = scopes(&answer.scopes, &sheets)?;
+    ledger(answer, plain)?;
+    Ok(seen)
 }
 
 /// A plain node reached: scope, document, source id.

@@ -10,6 +10,7 @@ mod grammar;
 #[cfg(feature = "library")]
 mod library;
 mod mutants;
+mod output;
 mod picks;
 mod random;
 mod reckon;
@@ -17,6 +18,7 @@ mod rows;
 mod rust;
 mod scenes;
 mod shrink;
+mod spoil;
 mod steps;
 mod sweeps;
 mod tally;
