@@ -1,0 +1,129 @@
+//! The ten flights of document 01, its example and the examples of its readings, by their words.
+
+use original::ast::FieldType;
+
+use crate::call::{Answer, Call};
+use crate::reckon;
+use crate::rows::{words_of, Row, NONE, TAGS};
+use crate::scenes::MOST_CHARGES;
+use crate::{spoil, versus};
+
+/// Rows given by their leading columns; the rest is 0.
+fn sheet(rows: &[&[u32]]) -> Vec<u32> {
+    let row = |columns: &&[u32]| {
+        let mut row: Row = [0; 8];
+        row[..columns.len()].copy_from_slice(columns);
+        row
+    };
+    words_of(&rows.iter().map(row).collect::<Vec<_>>())
+}
+
+const PLAIN: &[u32] = &[2, 7, NONE];
+/// An instance of PROTO 0.
+const INSTANCE: &[u32] = &[2, 8, NONE, 1, 0];
+/// Field 1 with one id.
+const CHILD: &[u32] = &[3, 1, 0, 0, 0, 14, 2, 1];
+const DECLARED: &[u32] = &[4, 2, 14, 1, NONE];
+
+/// A scene with its limits, what to look at, and what it must be.
+struct Flight {
+    what: &'static str,
+    rows: Vec<u32>,
+    limits: [u32; 3],
+    look: fn(&Answer) -> Vec<u32>,
+    expected: Vec<u32>,
+}
+
+fn refusal(answer: &Answer) -> Vec<u32> {
+    answer.as_ref().map_or_else(|r| vec![r.number, r.places[0], r.places[1]], |_| vec![0, 0, 0])
+}
+
+/// Nodes, scopes, body scopes.
+fn counts(answer: &Answer) -> Vec<u32> {
+    answer
+        .as_ref()
+        .map_or(vec![], |e| vec![e.nodes, e.scopes.len() as u32, e.scopes.iter().filter(|s| s[0] == 1).count() as u32])
+}
+
+/// Nodes, scopes, charges and the words of out.
+fn whole(answer: &Answer) -> Vec<u32> {
+    answer.as_ref().map_or(vec![], |e| {
+        let mut words = vec![e.nodes, e.scopes.len() as u32, e.charges];
+        words.extend(words_of(&e.out));
+        words
+    })
+}
+
+fn charges(answer: &Answer) -> Vec<u32> {
+    answer.as_ref().map_or(vec![], |e| vec![e.charges])
+}
+
+/// A pod I given plain P, whose child is I: from I or from P.
+fn pod(start: u32) -> Vec<u32> {
+    let rows: [&[u32]; 11] =
+        [&[1, 5], INSTANCE, CHILD, &[9, 1], PLAIN, CHILD, &[9, 0], PLAIN, &[7, 8], DECLARED, &[5, 0, 2]];
+    let mut words = sheet(&rows);
+    words.extend(sheet(&[&[11], &[5, 0, start]]));
+    words
+}
+
+fn flights() -> Vec<Flight> {
+    let free = [400, 64, MOST_CHARGES];
+    let flight = |what, rows, limits, look, expected| Flight { what, rows, limits, look, expected };
+    let one = sheet(&[&[1, 5], PLAIN, &[11], &[5, 0, 0]]);
+    let child = |id| [CHILD.to_vec(), vec![9, id]];
+    let [field, first] = child(1);
+    let [_, second] = child(2);
+    let three = sheet(&[&[1, 5], PLAIN, &field, &first, PLAIN, &field, &second, PLAIN, &[11], &[5, 0, 0]]);
+    let two_instances = |top: &[&[u32]]| {
+        let mut rows: Vec<&[u32]> = vec![&[1, 5], INSTANCE, INSTANCE, PLAIN, &[7, 8], &[5, 0, 2], &[11]];
+        rows.extend(top);
+        sheet(&rows)
+    };
+    let rootless = sheet(&[&[1, 5], INSTANCE, &[7, 8], &[11], &[5, 0, 0]]);
+    let mut example = vec![1, 1, 6];
+    example.extend(&one);
+    vec![
+        flight("no statements", sheet(&[&[1, 5], &[11]]), free, counts, vec![0, 1, 0]),
+        flight("one plain node, N = 0", one.clone(), [0, 64, MOST_CHARGES], refusal, vec![8, 0, 0]),
+        flight("D = 0, N = 0", one.clone(), [0, 0, MOST_CHARGES], refusal, vec![9, 0, 0]),
+        flight("three nested, D = 2", three.clone(), [400, 2, MOST_CHARGES], refusal, vec![9, 0, 0]),
+        flight("three nested, D = 3", three, [400, 3, MOST_CHARGES], counts, vec![3, 1, 0]),
+        flight(
+            "one node mentioned twice",
+            sheet(&[&[1, 5], PLAIN, &[11], &[5, 0, 0], &[5, 0, 0]]),
+            free,
+            counts,
+            vec![1, 1, 0],
+        ),
+        flight("one instance mentioned twice", two_instances(&[&[5, 0, 0], &[5, 0, 0]]), free, counts, vec![1, 2, 1]),
+        flight("two instances of it", two_instances(&[&[5, 0, 0], &[5, 0, 1]]), free, counts, vec![2, 3, 2]),
+        flight("the pod from I", pod(0), free, counts, vec![3, 3, 2]),
+        flight("the pod from P", pod(1), free, counts, vec![2, 2, 1]),
+        flight("the pod from I, charges", pod(0), free, charges, vec![22]),
+        flight("a body without Node", rootless.clone(), free, refusal, vec![7, 0, 0]),
+        flight("the example", one, [400, 64, 400], whole, example),
+        flight("7 after the body scope's charge, K = 3", rootless.clone(), [0, 1, 3], refusal, vec![10, 0, 0]),
+        flight("7 after the body scope's charge, K = 4", rootless, [0, 1, 4], refusal, vec![7, 0, 0]),
+        flight("an empty root", vec![], free, refusal, vec![3, 0, 0]),
+    ]
+}
+
+/// Every flight, against its words and against the original. The number that fail.
+pub fn run() -> u64 {
+    let flights = flights();
+    let mut wrong = (FieldType::ALL.len() != TAGS as usize) as u64;
+    for f in &flights {
+        let [nodes, depth, rows] = f.limits;
+        let call = Call::new(f.rows.clone(), Vec::new(), nodes, depth, rows);
+        let answer = reckon::expand(&call, None);
+        let got = (f.look)(&answer);
+        let original = versus::against_original(&call, &answer).unwrap_or(Ok(()));
+        if got != f.expected || original.is_err() {
+            wrong += 1;
+            println!("{}: expected {:?}, got {got:?}; {original:?}", f.what, f.expected);
+        }
+    }
+    println!("{} flights, {wrong} wrong", flights.len());
+    wrong + spoil::run(&Call::new(pod(1), Vec::new(), 400, 64, MOST_CHARGES))
+}

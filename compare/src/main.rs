@@ -1,0 +1,100 @@
+//! Comparison of the expansion of document 01 with the original Rust, and frames for a program under test.
+
+mod automaton;
+mod call;
+mod charges;
+mod closure;
+mod flights;
+mod frames;
+mod grammar;
+#[cfg(feature = "library")]
+mod library;
+mod mutants;
+mod output;
+mod picks;
+mod random;
+mod reckon;
+mod rows;
+mod rust;
+mod scenes;
+mod shrink;
+mod spoil;
+mod steps;
+mod sweeps;
+mod tally;
+mod translate;
+mod tree;
+mod versus;
+
+use std::process::ExitCode;
+
+const USAGE: &str = "\
+compare flights                            the flights and examples of document 01 and its readings
+compare original COUNT SEED [FROM]         cases FROM and on, against the original
+compare sweeps COUNT SEED                  COUNT scenes with every K, every N and every D
+compare large                              large scenes, against the original
+compare mutants COUNT SEED                 every mutant over the families and COUNT random cases
+compare case NUMBER SEED                   one case and both answers
+compare frames write FILE COUNT SEED [--small] [--caps]
+compare frames check CASES ANSWERS
+compare frames mutants COUNT SEED          every mutant over COUNT frames, every other one small
+compare frames answer CASES ANSWERS [MUTANT]
+compare library COUNT SEED                 the linked static library (feature `library`)";
+
+const FLAGS: [&str; 2] = ["--small", "--caps"];
+
+fn main() -> ExitCode {
+    // Copies nest up to 512 deep on both sides.
+    let worker = std::thread::Builder::new().stack_size(512 << 20).spawn(command).unwrap();
+    match worker.join().unwrap() {
+        Ok(0) => ExitCode::SUCCESS,
+        Ok(_) => ExitCode::FAILURE,
+        Err(message) => {
+            eprintln!("{message}");
+            ExitCode::from(2)
+        }
+    }
+}
+
+/// Runs the command; the number of differences.
+fn command() -> Result<u64, String> {
+    let args: Vec<String> = std::env::args().skip(1).collect();
+    let args: Vec<&str> = args.iter().map(String::as_str).collect();
+    let number = |text: &str| text.parse::<u64>().map_err(|_| format!("not a number: {text}"));
+    match args[..] {
+        ["original", count, seed] => Ok(versus::run(number(count)?, number(seed)?, 0)),
+        ["original", count, seed, from] => Ok(versus::run(number(count)?, number(seed)?, number(from)?)),
+        ["sweeps", count, seed] => Ok(sweeps::run(number(count)?, number(seed)?)),
+        ["case", at, seed] => {
+            let call = versus::case(number(seed)?, number(at)?);
+            let original = versus::against_original(&call, &reckon::expand(&call, None));
+            println!("{}", versus::show(&call));
+            println!("{:?}\nagainst the original: {original:?}", reckon::expand(&call, None));
+            Ok(0)
+        }
+        ["flights"] => Ok(flights::run()),
+        ["large"] => Ok(versus::large()),
+        ["mutants", count, seed] => Ok(mutants::run(number(count)?, number(seed)?)),
+        ["frames", "write", path, count, seed, ref flags @ ..] if flags.iter().all(|f| FLAGS.contains(f)) => {
+            let has = |flag| flags.contains(&flag);
+            let batch = frames::Batch {
+                count: number(count)?,
+                seed: number(seed)?,
+                small: has("--small"),
+                caps: has("--caps"),
+            };
+            frames::write(path, &batch).map_err(|e| e.to_string())?;
+            Ok(0)
+        }
+        ["frames", "mutants", count, seed] => Ok(frames::mutants(number(count)?, number(seed)?)),
+        ["frames", "check", cases, answers] => frames::check(cases, answers).map_err(|e| e.to_string()),
+        ["frames", "answer", cases, answers, ref mutant @ ..] if mutant.len() < 2 => {
+            let mutant = mutant.first().map(|name| mutants::named(name)).transpose()?;
+            frames::answer(cases, answers, mutant).map_err(|e| e.to_string())?;
+            Ok(0)
+        }
+        #[cfg(feature = "library")]
+        ["library", count, seed] => Ok(library::run(number(count)?, number(seed)?)),
+        _ => Err(USAGE.into()),
+    }
+}

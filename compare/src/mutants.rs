@@ -1,0 +1,158 @@
+//! The deliberately broken readings of document 01 that `reckon` can be switched to.
+
+use crate::call::{Answer, Call};
+use crate::closure;
+use crate::reckon;
+use crate::scenes::families;
+use crate::shrink::shrink;
+use crate::versus;
+
+#[derive(Clone, Copy, Debug, PartialEq, Eq)]
+pub enum Mutant {
+    InstanceMappedBeforeValues,
+    OneMapForAllScopes,
+    IsToNothingTakesDefault,
+    FirstOfEqualFields,
+    DefaultSharesInstanceMap,
+    ExternDeclaredPerId,
+    MarksPastTheEndKept,
+    DefNotReplaced,
+    NestedRootsFirst,
+    RoutesRemappedWhereTheyStand,
+    RootlessBeforeBody,
+    DepthBeforeMap,
+    RepeatedNameOverwritesWithNothing,
+    NestedAssociationsKept,
+    FetchedExternsFollowed,
+    IsOutsideBodyDropped,
+    NodesLimitAfterExtern,
+    BasesWithoutEnd,
+    UnresolvedBasesDoNotCount,
+    LastFileOfBase,
+    DanglingPickPassedOver,
+    IdChargedBeforeCopy,
+    FieldChargedBeforeValue,
+    RowChargedBeforeNodesLimit,
+    ExternChargedBeforeLookup,
+    RoutesChargedAfterBody,
+    RecordChargedBeforeRootless,
+    InstanceEntryChargedAfterBody,
+    BodyScopeBeforeValues,
+    ClonedIdsNotCharged,
+    UnwrittenAssociationsNotCharged,
+    OverwritingStoreNotCharged,
+    PayloadDefaultOpensNoScope,
+    IndexAmongDefaults,
+    SixInTheInstancesDocument,
+}
+
+/// Mutants that the comparison with the original must notice, with what each does wrong.
+pub const ALL: &[(Mutant, &str)] = &[
+    (Mutant::InstanceMappedBeforeValues, "an instance is mapped before its values, to the next output id"),
+    (Mutant::OneMapForAllScopes, "one map for all scopes of a document"),
+    (Mutant::IsToNothingTakesDefault, "an IS to nothing takes the default"),
+    (Mutant::FirstOfEqualFields, "the first of two equal fields is given"),
+    (Mutant::DefaultSharesInstanceMap, "a default scope uses the map of the instance's scope"),
+    (Mutant::ExternDeclaredPerId, "an extern is declared once per id, whatever the document"),
+    (Mutant::MarksPastTheEndKept, "marks past the last entry are kept"),
+    (Mutant::DefNotReplaced, "the instance's DEF name is not taken over"),
+    (Mutant::NestedRootsFirst, "a nested instance's roots and routes come before the outer's"),
+    (Mutant::RoutesRemappedWhereTheyStand, "body routes are remapped where they stand, not after the body"),
+    (Mutant::RootlessBeforeBody, "7 is given before the body is copied"),
+    (Mutant::DepthBeforeMap, "depth is tested before the map"),
+    (Mutant::RepeatedNameOverwritesWithNothing, "a repeated interface name without a value clears the earlier one"),
+    (Mutant::NestedAssociationsKept, "a nested instance's associations are kept behind the outer's"),
+    (Mutant::FetchedExternsFollowed, "picks apply to externs of fetched files too"),
+    (Mutant::IsOutsideBodyDropped, "an IS outside a body is dropped"),
+    (Mutant::NodesLimitAfterExtern, "4 comes before 8"),
+    (Mutant::BasesWithoutEnd, "bases past the 64th are looked for too"),
+    (Mutant::UnresolvedBasesDoNotCount, "bases without a file do not count toward the 64"),
+    (Mutant::LastFileOfBase, "the library's last file of a base is taken"),
+    (Mutant::DanglingPickPassedOver, "without a fragment a dangling Proto statement is passed over"),
+];
+
+/// Mutants of what the original doesn't show (charges, scopes, places): frames must notice them.
+pub const FRAMES_ONLY: &[(Mutant, &str)] = &[
+    (Mutant::IdChargedBeforeCopy, "an id is charged before its node is copied"),
+    (Mutant::FieldChargedBeforeValue, "a field is charged before its value is copied"),
+    (Mutant::RowChargedBeforeNodesLimit, "a plain copy is charged before 8 is tested"),
+    (Mutant::ExternChargedBeforeLookup, "an extern is charged before 4 is tested"),
+    (Mutant::RoutesChargedAfterBody, "body routes are charged when they are remapped"),
+    (Mutant::RecordChargedBeforeRootless, "the record is charged before 7"),
+    (Mutant::InstanceEntryChargedAfterBody, "an instance's map entry is charged after the body, not at its root"),
+    (Mutant::BodyScopeBeforeValues, "the body scope is opened before the values"),
+    (Mutant::ClonedIdsNotCharged, "the ids of a value that an IS takes are not charged"),
+    (Mutant::UnwrittenAssociationsNotCharged, "associations outside bodies are not charged"),
+    (Mutant::OverwritingStoreNotCharged, "a store that overwrites is not charged"),
+    (Mutant::PayloadDefaultOpensNoScope, "a default without nodes opens no scope"),
+    (Mutant::IndexAmongDefaults, "a default scope's index counts only interfaces with a default"),
+    (Mutant::SixInTheInstancesDocument, "6 gives the instance's document, not the PROTO's"),
+];
+
+/// The mutant of a name, as `compare mutants` prints it.
+pub fn named(name: &str) -> Result<Mutant, String> {
+    let found = ALL.iter().chain(FRAMES_ONLY).find(|(mutant, _)| format!("{mutant:?}") == name);
+    found.map(|(mutant, _)| *mutant).ok_or(format!("no such mutant: {name}"))
+}
+
+/// What the comparison with the original saw of a mutant.
+#[derive(Default)]
+struct Notice {
+    cases: u64,
+    /// Accepted answers that break demand 3.
+    broken: u64,
+    smallest: Option<Call>,
+}
+
+/// How a mutant's answer parts from the original's on an input that the true reading lets by.
+fn parts(mutant: Mutant, call: &Call, truth: &Answer) -> Option<String> {
+    let answer = reckon::expand(call, Some(mutant));
+    // Where nothing changes there is nothing to notice.
+    if versus::stands_before(truth) || answer == *truth {
+        return None;
+    }
+    versus::against_original(call, &answer)?.err()
+}
+
+/// Every mutant over all families and `count` random cases. The number of mutants that nothing noticed.
+pub fn run(count: u64, seed: u64) -> u64 {
+    let mut notices: Vec<Notice> = ALL.iter().map(|_| Notice::default()).collect();
+    let mut compared = 0;
+    for number in 0..families::total() + count {
+        let call = versus::case(seed, number);
+        let truth = reckon::expand(&call, None);
+        if versus::stands_before(&truth) {
+            continue;
+        }
+        compared += 1;
+        for ((mutant, _), notice) in ALL.iter().zip(&mut notices) {
+            if parts(*mutant, &call, &truth).is_some() {
+                notice.cases += 1;
+                let answer = reckon::expand(&call, Some(*mutant));
+                notice.broken += answer.is_ok_and(|e| closure::check(&call, &e).is_err()) as u64;
+                if notice.smallest.as_ref().is_none_or(|c| call.size() < c.size()) {
+                    notice.smallest = Some(call.clone());
+                }
+            }
+        }
+    }
+    let mut missed = 0;
+    for ((mutant, wrong), notice) in ALL.iter().zip(&notices) {
+        match &notice.smallest {
+            Some(call) => {
+                let what = |c: &Call| parts(*mutant, c, &reckon::expand(c, None));
+                let call = shrink(call, |c| what(c).is_some());
+                println!("{mutant:?}: {wrong}");
+                println!("  noticed in {} of {compared} cases, demand 3 broken in {}", notice.cases, notice.broken);
+                println!("  smallest, {} rows: {}", call.size(), what(&call).unwrap());
+                print!("{}", versus::show(&call));
+            }
+            None => {
+                missed += 1;
+                println!("{mutant:?}: {wrong}: NOT NOTICED in {compared} cases");
+            }
+        }
+    }
+    println!("{} mutants, {missed} not noticed", ALL.len());
+    missed
+}

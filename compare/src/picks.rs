@@ -1,0 +1,52 @@
+//! Picks: which PROTO of which file stands for each extern of the root.
+
+use crate::mutants::Mutant;
+use crate::tree::{Doc, File, Statement};
+
+/// Most distinct bases that are looked at.
+pub const MOST_BASES: usize = 64;
+
+/// Document number and PROTO id for each extern of the root, where there is a pick. Document n is the n-th file.
+pub fn picks(root: &Doc, files: &[File], mutant: Option<Mutant>) -> Vec<Option<(usize, u32)>> {
+    let is = |m| mutant == Some(m);
+    let mut bases: Vec<u32> = Vec::new();
+    let mut picks = Vec::new();
+    for declared in &root.externs {
+        let mut pick = None;
+        for (base, fragment) in &declared.urls {
+            let named = |f: &File| f.base == *base;
+            let resolved = files.iter().any(named);
+            if !bases.contains(base) && (resolved || !is(Mutant::UnresolvedBasesDoNotCount)) {
+                if bases.len() == MOST_BASES && !is(Mutant::BasesWithoutEnd) {
+                    continue;
+                }
+                bases.push(*base);
+            }
+            let last = is(Mutant::LastFileOfBase);
+            let file = if last { files.iter().rposition(named) } else { files.iter().position(named) };
+            let Some(at) = file else { continue };
+            if let Some(proto) = choose(&files[at].doc, *fragment, is(Mutant::DanglingPickPassedOver)) {
+                pick = Some((at + 1, proto));
+                break;
+            }
+        }
+        picks.push(pick);
+    }
+    picks
+}
+
+/// The first top-level Proto statement; with a fragment, the first whose PROTO is there and has that name.
+fn choose(file: &Doc, fragment: Option<u32>, pass_over: bool) -> Option<u32> {
+    for statement in &file.top {
+        let Statement::Proto(id) = statement else { continue };
+        let proto = file.protos.get(*id as usize);
+        let chosen = match fragment {
+            None => proto.is_some() || !pass_over,
+            Some(name) => proto.is_some_and(|p| p.name == name),
+        };
+        if chosen {
+            return Some(*id);
+        }
+    }
+    None
+}

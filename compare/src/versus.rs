@@ -1,0 +1,166 @@
+//! The comparison of `reckon` with the original, case by case, and the checks that need no original.
+
+use crate::call::{Answer, Call};
+use crate::random::Random;
+use crate::reckon;
+use crate::rows::{self, rows_of};
+use crate::rust;
+use crate::scenes::{damage, families, free, large, MOST_CHARGES};
+use crate::shrink::shrink;
+use crate::tally::Tally;
+use crate::{automaton, charges, closure, grammar, translate};
+
+/// The case of a number: first every scene of the families, then random ones, one in eight of them damaged.
+pub fn case(seed: u64, number: u64) -> Call {
+    if number < families::total() {
+        return families::scene(number).call(MOST_CHARGES);
+    }
+    let mut r = Random::new(seed, number);
+    let most_nodes = r.of(&[3, 5, 8, 8, 12, 20]);
+    let mut call = free::scene(&mut r, most_nodes).call(MOST_CHARGES);
+    if r.below(8) == 0 {
+        let in_library = !call.library.is_empty() && r.percent(40);
+        damage::damage(&mut r, if in_library { &mut call.library } else { &mut call.root });
+    }
+    call
+}
+
+/// One case with every check; the difference found, if any.
+pub fn check(call: &Call, tally: &mut Tally) -> Result<(), String> {
+    let answer = reckon::expand(call, None);
+    tally.note(&answer);
+    places(call)?;
+    if let Err(refusal) = &answer {
+        if refusal.number == 11 {
+            return Err("refusal 11".into());
+        }
+    }
+    if let Some(difference) = against_original(call, &answer) {
+        tally.compared += 1;
+        difference?;
+        round_trip(call)?;
+    }
+    if let Ok(expanded) = &answer {
+        let seen = closure::check(call, expanded).map_err(|e| format!("demand 3: {e}"))?;
+        tally.loops += seen.loops as u64;
+        let total = charges::by_parts(call, expanded);
+        if total != Ok(expanded.charges as usize) {
+            return Err(format!("{} charges step by step, {total:?} by parts", expanded.charges));
+        }
+    }
+    Ok(())
+}
+
+/// The two checks of a sheet give the same place.
+fn places(call: &Call) -> Result<(), String> {
+    for (sheet, words) in [&call.root, &call.library].into_iter().enumerate() {
+        let one = if sheet == 0 { grammar::root(words).err() } else { grammar::library(words).err() };
+        let other = automaton::misfit(words, sheet == 1);
+        if one != other {
+            return Err(format!("sheet {sheet}: misfit at {one:?} by descent, at {other:?} by the automaton"));
+        }
+    }
+    Ok(())
+}
+
+/// Rows to the original's document and back.
+fn round_trip(call: &Call) -> Result<(), String> {
+    let root = rows_of(&call.root);
+    let library = rows_of(&call.library);
+    let mut back = Vec::new();
+    for (base, document) in translate::files(&library) {
+        back.push([12, base[1..].parse().unwrap(), 0, 0, 0, 0, 0, 0]);
+        back.extend(translate::rows(&document));
+    }
+    if translate::rows(&translate::document(&root)) != root || back != library {
+        return Err("the rows do not come back from the original's document".into());
+    }
+    Ok(())
+}
+
+/// Refusals 1, 2, 3 and 10 stand before any comparison with the original.
+pub fn stands_before(answer: &Answer) -> bool {
+    matches!(answer, Err(r) if matches!(r.number, 1 | 2 | 3 | 10))
+}
+
+/// The answer held against the original's; nothing where refusals 1, 2, 3 and 10 stand before it.
+pub fn against_original(call: &Call, answer: &Answer) -> Option<Result<(), String>> {
+    if stands_before(answer) {
+        return None;
+    }
+    let original = rust::expand(&call.root, &call.library, call.max_nodes, call.max_depth);
+    let ours = answer.as_ref().map(|e| &e.out).map_err(|r| r.number);
+    Some(match (&original, ours) {
+        (Ok(a), Ok(b)) if a == b => Ok(()),
+        (Err(a), Err(b)) if *a == b => Ok(()),
+        (Ok(a), Ok(b)) => {
+            let at = (0..).find(|i| a.get(*i) != b.get(*i)).unwrap();
+            Err(format!("output row {at}: original {:?}, here {:?}", a.get(at), b.get(at)))
+        }
+        (a, b) => {
+            let show = |r: Result<usize, u32>| r.map_or_else(|n| format!("refusal {n}"), |n| format!("{n} rows"));
+            Err(format!(
+                "original {}, here {}",
+                show(a.as_ref().map(|v| v.len()).map_err(|n| *n)),
+                show(b.map(|v| v.len()))
+            ))
+        }
+    })
+}
+
+/// A call as text: limits and both sheets.
+pub fn show(call: &Call) -> String {
+    format!(
+        "  N = {}, D = {}, K = {}\n  root\n{}  library\n{}",
+        call.max_nodes,
+        call.max_depth,
+        call.max_rows,
+        rows::show(&call.root),
+        rows::show(&call.library)
+    )
+}
+
+/// Cases `from` to `from + count` of a seed. The number of differences; the smallest is printed.
+pub fn run(count: u64, seed: u64, from: u64) -> u64 {
+    if from == 0 {
+        let sizes: Vec<String> = families::sizes().iter().map(|(name, size)| format!("{name} {size}")).collect();
+        println!("families: {}; {} scenes", sizes.join(", "), families::total());
+    }
+    let mut tally = Tally::default();
+    let mut differences = 0;
+    let mut smallest: Option<(u64, Call, String)> = None;
+    for number in from..from + count {
+        let call = case(seed, number);
+        if let Err(what) = check(&call, &mut tally) {
+            differences += 1;
+            if smallest.as_ref().is_none_or(|(_, c, _)| call.size() < c.size()) {
+                smallest = Some((number, call, what));
+            }
+        }
+    }
+    print!("{tally}");
+    if let Some((number, call, _)) = smallest {
+        let call = shrink(&call, |c| check(c, &mut Tally::default()).is_err());
+        let what = check(&call, &mut Tally::default()).unwrap_err();
+        println!("smallest difference, from case {number} of seed {seed}: {what}\n{}", show(&call));
+    }
+    println!("{differences} differences");
+    differences
+}
+
+/// The large scenes against the original. The number of differences.
+pub fn large() -> u64 {
+    let mut differences = 0;
+    for (name, scene) in large::all() {
+        let mut tally = Tally::default();
+        let result = check(&scene.call(MOST_CHARGES), &mut tally);
+        match tally.refused.iter().position(|n| *n > 0) {
+            Some(refusal) => print!("{name}: refusal {refusal}"),
+            None => print!("{name}: {} nodes, {} scopes", tally.most_nodes, tally.most_scopes),
+        }
+        println!("; {}", result.as_ref().map_or_else(String::as_str, |()| "as the original"));
+        differences += result.is_err() as u64;
+    }
+    println!("{differences} differences");
+    differences
+}
