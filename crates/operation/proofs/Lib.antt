@@ -1,0 +1,4 @@
+pub mod Targets
+pub mod Said
+pub mod Tests
+pub mod Promised
