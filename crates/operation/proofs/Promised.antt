@@ -1,12 +1,11 @@
 -- The promises hold of every call.
 use mathlib.Core.Path.{_≡_, refl, ap, sym, _∙_, subst}
 use mathlib.Core.Bool.{Bool, true, false, _||_}
-use mathlib.Core.List.{List, [], _∷_, _++_}
-use Prim.Native.Nat.{ℕ, _+_, _*_, _≤_}
+use mathlib.Core.List.{List}
+use Prim.Native.Nat.{ℕ, _*_, _≤_}
 use native.Mathlib.Omega.{arith}
 use lib.ListN.{length, take, drop, length-append, length-drop}
 use lib.Seq.{take-at, drop-at}
-use Rattle.ast.specs.Ast.{Document}
 use Rattle.sheet.specs.declared.row.Row.{Row}
 use Rattle.sheet.specs.declared.Checked.{Checked}
 use Rattle.sheet.specs.declared.Checked.the-variants.{Fits, Bad}
@@ -16,21 +15,23 @@ use Rattle.sheet.specs.Grammar.{checked}
 use Rattle.sheet.specs.Parse.{documentOf}
 use Rattle.sheet.specs.Print.{documentRows}
 use Rattle.roundtrip.proofs.RoundTrip.{root-in-range, library-in-range}
-use Rattle.expansion.specs.Scopes.{Scope, scopeEntry}
+use Rattle.expansion.specs.Scopes.{scopeEntry}
 use Rattle.expansion.specs.Ids.{flat}
-use Rattle.expansion.specs.Expand.{LedgerEntry, Expansion, Answer, expand}
-use Rattle.expansion.specs.Expanded.{Expanded, Refusal, four, five, six, seven, eight, nine, ten}
+use Rattle.expansion.specs.Expand.{Expansion, Answer, expand}
+use Rattle.expansion.specs.Expanded.{Expanded}
 use Rattle.expansion.specs.Proofs.Demand.{demand-3, refusals}
 use Rattle.output.specs.Input.{InputInRange}
 use Rattle.output.proofs.Output.{row-count, rows-fit, rows-say}
 use Rattle.operation.specs.Operation.{Call, After, overCaps, tooShort, wrongLength, refuseIf, refuseBad, input, outcome, over, ledgerWords, after, expandWords}
-use Rattle.operation.specs.Promises.{Words, Room, Sheet, Sheets, WellFormed, Refused, Answered, one, two, threeRoot, threeLibrary, fourToTen, accepted, outRows, ledgerSaid, scopesSaid, said, Accepted, Promises}
+use Rattle.operation.specs.Promises.{Words, Room, Sheets, WellFormed, Refused, Answered, one, two, threeRoot, threeLibrary, fourToTen, accepted, outRows, ledgerSaid, scopesSaid, said, Accepted, Promises}
 use Rattle.operation.proofs.Targets.{root-targets, library-targets}
 use Rattle.operation.proofs.Said.{words-length, ledger-length, scopes-length, rows-said, ledger-said, scopes-said}
+use Rattle.operation.proofs.Cases.{from-four}
 use Rattle.operation.proofs.Tests.{yes-no, room-if, room-then, sheets-if, sheets-then}
 
 -- ---- words written over a slice
 
+-- The slice stays as long, begins with what is written, and keeps the rest.
 over-length : (new old : List ℕ) → length new ≤ length old → length (over new old) ≡ length old
 over-length new old h = omega (arith, length-append new (drop (length new) old), length-drop (length new) old)
 
@@ -42,16 +43,8 @@ over-kept new old n e = drop-at new (drop (length new) old) n e ∙ ap (λ (k : 
 
 -- ---- a refusal
 
-not-zero : (n d i : ℕ) → Refusal n d i → n ≡ 0 → ⊥
-not-zero n d i (four d′ i′) e = omega arith
-not-zero n d i (five d′ i′) e = omega arith
-not-zero n d i (six d′ i′) e = omega arith
-not-zero n d i (seven d′ i′) e = omega arith
-not-zero n d i eight e = omega arith
-not-zero n d i nine e = omega arith
-not-zero n d i ten e = omega arith
-
 module _ (c : Call) where
+  -- A refusal answers its number and places, and keeps the words.
   refused-as : (n d i : ℕ) → Refused c (after c (Answer.Refused n d i)) n d i
   refused-as n d i = record { answer = refl; out = refl; ledger = refl; scopes = refl }
 
@@ -61,6 +54,7 @@ module _ (c : Call) where
 -- ---- an accepted call
 
 module _ (c : Call) (hr : Words (c .root)) (hl : Words (c .library)) (room : Room c) (sheets : Sheets c) (fit : WellFormed c) where
+  -- Sheets that fit say documents in range.
   input-in-range : InputInRange (input c)
   input-in-range = record { root = root-in-range (rows (c .root)) (fit .0); rootTargets = root-targets (c .root) hr; library = library-in-range (rows (c .library)) (fit .1); libraryTargets = library-targets (c .library) hl; maxNodes = room .maxNodes; maxRows = room .maxRows }
 
@@ -74,6 +68,7 @@ module _ (c : Call) (hr : Words (c .root)) (hl : Words (c .library)) (room : Roo
     abbrev r : After
     r = after c (Answer.Expanded e)
 
+    -- How many words are written: they fit in the slices.
     ledgerCount : length (flat ledgerWords (e .ledger)) ≡ 3 * e .nodeCount
     ledgerCount = omega (arith, ledger-length (e .ledger), x .ledgerSize)
 
@@ -83,6 +78,7 @@ module _ (c : Call) (hr : Words (c .root)) (hl : Words (c .library)) (room : Roo
     rowsPaid : length R ≤ e .charges
     rowsPaid = omega (arith, row-count (input c) e q, x .rowsPaid)
 
+    -- What they say: the document, the ledger, the scopes.
     document-said : documentOf (outRows r) ≡ e .document
     document-said = ap documentOf (rows-said R (drop (length (words R)) (c .out))) ∙ rows-say (input c) input-in-range e q
 
@@ -92,7 +88,7 @@ module _ (c : Call) (hr : Words (c .root)) (hl : Words (c .library)) (room : Roo
     scopes-is : scopesSaid (e .scopeCount) (r .scopes) ≡ e .scopes
     scopes-is = ap (λ (n : ℕ). scopesSaid n (r .scopes)) (x .scopeCount) ∙ scopes-said (e .scopes) (drop (length (flat scopeEntry (e .scopes))) (c .scopes))
 
-    -- the words say the expansion
+    -- So the words say the expansion.
     said-is : said r ≡ e
     said-is = λ i. record { document = document-said i; ledger = ledger-is i; scopes = scopes-is i; nodeCount = e .nodeCount; scopeCount = e .scopeCount; charges = e .charges }
 
@@ -123,10 +119,10 @@ module _ (c : Call) (hr : Words (c .root)) (hl : Words (c .library)) (room : Roo
 
 module _ (c : Call) (hr : Words (c .root)) (hl : Words (c .library)) where
   by-steps : Room c → Sheets c → WellFormed c → (o : Answer) → expand (input c) ≡ o → Promises c (after c o)
-  by-steps room sheets fit (Answer.Refused n d i) q = let h = refusals (input c) n d i q in when-refused c n d i (not-zero n d i h) (fourToTen room sheets fit n d i q h)
+  by-steps room sheets fit (Answer.Refused n d i) q = let h = refusals (input c) n d i q in when-refused c n d i (λ e. omega (arith, from-four n d i h .0)) (fourToTen room sheets fit n d i q h)
   by-steps room sheets fit (Answer.Expanded e) q = when-accepted c hr hl room sheets fit e q
 
-  -- one refusal after another
+  -- One refusal after another.
   if-not : (n : ℕ) (b : Bool) (next : Answer) → (b ≡ true → Promises c (after c (Answer.Refused n 0 0))) → (b ≡ false → Promises c (after c next)) → Promises c (after c (refuseIf b n next))
   if-not n true next f g = f refl
   if-not n false next f g = g refl

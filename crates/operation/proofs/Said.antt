@@ -1,9 +1,9 @@
 -- What is written is what the words say.
-use mathlib.Core.Path.{_≡_, refl, ap, sym, _∙_}
+use mathlib.Core.Path.{_≡_, refl, ap, _∙_}
 use mathlib.Core.List.{List, [], _∷_, _++_}
-use Prim.Native.Nat.{ℕ, suc, _+_, _*_}
+use Prim.Native.Nat.{ℕ, _+_, _*_}
 use native.Mathlib.Omega.{arith}
-use lib.ListN.{length, take, drop, length-append}
+use lib.ListN.{length, take, length-append}
 use lib.Seq.{take-at}
 use Rattle.sheet.specs.declared.row.Row.{Row}
 use Rattle.sheet.specs.Rows.{rows, words}
@@ -12,7 +12,7 @@ use Rattle.expansion.specs.Scopes.{Scope, scopeEntry}
 use Rattle.expansion.specs.Ids.{flat}
 use Rattle.expansion.specs.Expand.{LedgerEntry}
 use Rattle.operation.specs.Operation.{ledgerWords}
-use Rattle.operation.specs.Promises.{ledgerSaid, scopeSaid, scopesSaid}
+use Rattle.operation.specs.Promises.{ledgerSaid, scopesSaid}
 
 -- ---- how many words
 

@@ -1,6 +1,6 @@
 -- Of words, every IS target that is present is a name.
-use mathlib.Core.Path.{_≡_, refl}
-use mathlib.Core.List.{List, [], _∷_, map}
+use mathlib.Core.Path.{_≡_}
+use mathlib.Core.List.{List, [], _∷_}
 use Prim.Native.Nat.{ℕ, suc, _≤_}
 use native.Mathlib.Decide.{ℕ-discrete}
 use native.Mathlib.Omega.{arith}
@@ -8,7 +8,6 @@ use mathlib.Core.Bool.{Bool, true, false}
 use lib.Dec.{eqb}
 use borrow.Author.Tests.{eq-eqb, ne-eqb}
 use Rattle.ast.specs.Choice.{choose}
-use Rattle.ast.specs.Ast.{InterfaceDecl}
 use Rattle.sheet.specs.declared.row.Row.{Row}
 use Rattle.sheet.specs.declared.part.Part.{Part}
 use Rattle.sheet.specs.declared.part.Part.the-variants.{Files, Nodes, Interfaces}
@@ -27,6 +26,7 @@ WordRow r = r .d ≤ none#
 abbrev WordRows : List Row → Type 0
 WordRows l = Each WordRow l
 
+-- The rows of words are rows of words.
 rows-words : (l : List ℕ) → Words l → WordRows (rows l)
 unfolding rows
 rows-words [] h = tt
@@ -39,6 +39,7 @@ rows-words (k ∷ a ∷ b ∷ c ∷ d ∷ e ∷ []) h = tt
 rows-words (k ∷ a ∷ b ∷ c ∷ d ∷ e ∷ f ∷ []) h = tt
 rows-words (k ∷ a ∷ b ∷ c ∷ d ∷ e ∷ f ∷ g ∷ l) h = (omega (arith, h 4), rows-words l (λ i. h (suc (suc (suc (suc (suc (suc (suc (suc i))))))))))
 
+-- And so are the first of them, and the rest.
 front-word : (l : List Row) → WordRows l → front l .d ≤ none#
 front-word [] h = omega arith
 front-word (r ∷ l) h = h .0
@@ -58,6 +59,7 @@ elements-words t (r ∷ l) h = go (eqb (r .kind) (kindOf t)) (passes t (r .kind)
     go false true q = q
     go false false q = tt
 
+-- A word that is not none's number is a name.
 target : (n : ℕ) → n ≤ none# → IsTarget (optional n)
 target n h = go (ℕ-discrete n none#)
   where
@@ -65,6 +67,7 @@ target n h = go (ℕ-discrete n none#)
     go (yes e) = rw (eq-eqb n none# e) tt
     go (no e) = rw (ne-eqb n none# e) (omega arith)
 
+-- So the targets of interfaces, of a node's, of a document's.
 interfaces-targets : (l : List Row) → WordRows l → Each (λ d. IsTarget (d .is)) (interfacesOf l)
 unfolding interfacesOf interfaceOf
 interfaces-targets l h = each-map WordRows (λ d. IsTarget (d .is)) interfaceOf (λ x w. target (front x .d) (front-word x w)) (elements Interfaces l) (elements-words Interfaces l h)

@@ -51,7 +51,7 @@ pub record Refused (c : Call) (r : After) (n d i : ℕ) : Type 0 where
   pub ledger : r .ledger ≡ c .ledger
   pub scopes : r .scopes ≡ c .scopes
 
--- Which calls are refused, with what, and that everything else is accepted: each call is in one of these cases, and no two of them agree.
+-- Which calls are refused, with what, and that everything else is accepted: each call is in one of these cases, and they exclude one another.
 pub data Answered (c : Call) (r : After) : Type 0 where
   -- "short buffers, limits over their caps"
   one : (Room c → ⊥) → Refused c r 1 0 0 → Answered c r

@@ -1,10 +1,10 @@
 -- The output of every accepted expansion: in range, expanded, and so a sheet that says it.
-use mathlib.Core.Path.{_≡_, refl, sym, subst}
-use mathlib.Core.List.{List, [], _∷_, List·Memᴰ}
+use mathlib.Core.Path.{_≡_, refl, subst}
+use mathlib.Core.List.{List}
 use Prim.Native.Nat.{ℕ}
 use native.Mathlib.Omega.{arith}
 use lib.ListN.{length}
-use Rattle.ast.specs.Ast.{InterfaceDecl, Statement, NodeOrigin, Node, ExternProtoDecl, Document}
+use Rattle.ast.specs.Ast.{Statement, NodeOrigin, Node}
 use Rattle.sheet.specs.declared.grammar.Form.the-variants.{Expanded as Form·Expanded}
 use Rattle.sheet.specs.declared.Checked.the-variants.{Fits}
 use Rattle.sheet.specs.Grammar.{checked}
@@ -15,8 +15,8 @@ use Rattle.roundtrip.specs.Ranges.{InRange}
 use Rattle.roundtrip.specs.Expanded.{TopKept, InnerKept, OriginKept, InterfaceKept, NodeKept, IsExpanded}
 use Rattle.roundtrip.proofs.RoundTrip.{expanded-fits, root-parsed-back}
 use Rattle.expansion.specs.Input.{Input}
-use Rattle.expansion.specs.State.{State, Result, refusal, ok, start}
-use Rattle.expansion.specs.Expand.{statements, output, Expansion, Answer, expansion, answer, expand}
+use Rattle.expansion.specs.State.{Result, refusal, ok, start}
+use Rattle.expansion.specs.Expand.{statements, Expansion, Answer, expansion, answer, expand}
 use Rattle.expansion.specs.Expanded.{TopStatement, NodeStatement, NotProto, OutputNode, rows, Expanded}
 use Rattle.expansion.specs.Proofs.Demand.{demand-3}
 use Rattle.output.specs.Input.{InputInRange}
@@ -26,6 +26,7 @@ use Rattle.output.proofs.RowCount.{rows-count}
 
 -- ---- in range
 
+-- The output of every accepted expansion is in range, if the input is.
 pub in-range : (I : Input) → InputInRange I → (e : Expansion) → expand I ≡ Answer.Expanded e → InRange (e .document)
 unfolding expand answer
 in-range I given e = go (statements I start) refl
@@ -36,6 +37,7 @@ in-range I given e = go (statements I start) refl
 
 -- ---- expanded
 
+-- Statements, origins and nodes of an output are those of an expanded document.
 top-kept : (n : ℕ) (s : Statement) → TopStatement n s → TopKept s
 top-kept n (Statement.Node i) h = tt
 top-kept n (Statement.Proto p) h = h
@@ -68,19 +70,20 @@ kept I e h =
       statements = each-mem TopKept (e .document .statements) (λ s q. top-kept (e .nodeCount) s (h .statements s q));
     }
 
+-- The output of every accepted expansion is an expanded document.
 pub is-expanded : (I : Input) (e : Expansion) → expand I ≡ Answer.Expanded e → IsExpanded (e .document)
 is-expanded I e q = kept I e (demand-3 I e q)
 
 -- ---- the rows
 
--- as many as the row count says
+-- The rows are as many as the row count says, so at most the charges.
 pub row-count : (I : Input) (e : Expansion) → expand I ≡ Answer.Expanded e → length (documentRows (e .document)) ≡ rows (e .document)
 row-count I e q = rows-count (e .document) (demand-3 I e q .protos)
 
--- they are accepted as an expanded document
+-- They are accepted as an expanded document.
 pub rows-fit : (I : Input) → InputInRange I → (e : Expansion) → expand I ≡ Answer.Expanded e → checked Form·Expanded (documentRows (e .document)) ≡ Fits
 rows-fit I given e q = expanded-fits (e .document) (in-range I given e q) (is-expanded I e q)
 
--- and say the output
+-- And they say the output.
 pub rows-say : (I : Input) → InputInRange I → (e : Expansion) → expand I ≡ Answer.Expanded e → documentOf (documentRows (e .document)) ≡ e .document
 rows-say I given e q = root-parsed-back (e .document) (in-range I given e q)

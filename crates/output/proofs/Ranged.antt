@@ -11,17 +11,16 @@ use Rattle.ast.specs.Ast.{NodeOrigin, FieldData, FieldValue, FieldBinding, Fiel
 use Rattle.ast.specs.Choice.{choose, andThen, orElse, mapO}
 use Rattle.ast.specs.Lookups.{nodeAt, protoAt, externProtoAt}
 use Rattle.picks.specs.Picks.{Pick}
-use Rattle.sheet.specs.Grammar.{none#}
 use Rattle.roundtrip.specs.Each.{Each}
 use Rattle.roundtrip.specs.Ranges.{IsName, IsPresent, DataInRange, ValueInRange, BindingInRange, FieldInRange, DefaultInRange, InterfaceInRange, RouteInRange, StatementInRange, AssociationInRange, InstanceInRange, AnyInstanceInRange, OriginInRange, NodeInRange, ProtoInRange, ExternInterfaceInRange, ExternProtoInRange, InRange, FileInRange}
-use Rattle.expansion.specs.Input.{Input, docs, protoOf, lastField}
+use Rattle.expansion.specs.Input.{Input, docs, lastField}
 use Rattle.expansion.specs.Scopes.{Scope}
 use Rattle.expansion.specs.Ids.{dataIds}
-use Rattle.expansion.specs.State.{Entry, ExternEntry, World, State, Result, refusal, ok, Comp, bindR, _>>=_, _>>_, ret, fail, mapM, foldM, withWorld, withNodes, lookup, start}
+use Rattle.expansion.specs.State.{Entry, ExternEntry, World, State, Result, ok, Comp, _>>=_, _>>_, ret, mapM, foldM, withNodes, lookup, start}
 use Rattle.expansion.specs.Charges.{oneMore, chargeIf, charge, chargeEach, paid}
 use Rattle.expansion.specs.Values.{Values, valueOf, Env, src, Copier, copyData, value, clone}
 use Rattle.expansion.specs.Externs.{lookupExtern, noValue, pushExtern, declare, externProto}
-use Rattle.expansion.specs.PlainCopy.{blank, addNode, reserveIf, reserve, copyOrigin, associate, isValue, isField, copyBinding, copyField, isInterface, copyTarget, copyInterface, remapRoute, copyRoute, copyExtern, copyStatement, somes, keptOrder, contents, copyPlain}
+use Rattle.expansion.specs.PlainCopy.{blank, reserveIf, reserve, copyOrigin, associate, isValue, isField, copyBinding, copyField, isInterface, copyTarget, copyInterface, remapRoute, copyRoute, copyExtern, copyStatement, somes, keptOrder, contents, copyPlain}
 use Rattle.expansion.specs.Instances.{pushScope, openScope, takeDefault, cloneOption, interfaceValue, store, values, Body, place, bodyStatement, rootOf, associationsOf, nestedRoots, nestedRoutes, withInstance, update, recordInstance, instantiate}
 use Rattle.expansion.specs.Copy.{copyNode, mappedOr, copy}
 use Rattle.expansion.specs.Expand.{statement, rootEnv, statements, output}
@@ -72,6 +71,7 @@ SourceInterface d = InterfaceInRange d × IsTarget (d .is)
 abbrev Source : Document → Type 0
 Source x = InRange x × Targets x
 
+-- What a map answers is a name.
 lookup-ok : (m : List Entry) (s i : ℕ) → Each (λ e. IsName (e .out)) m → Opt IsName (lookup m s i)
 unfolding lookup
 lookup-ok [] s i h = tt
@@ -90,6 +90,7 @@ lookupExtern-ok (e ∷ m) d x h = go (eqb (e .document) d && eqb (e .id) x) (loo
     go true q = h .0
     go false q = q
 
+-- What a name has among values in range is in range.
 found-ok : (t : ℕ) (vs : Values) → ValuesInRange vs → DefaultInRange (valueOf t vs)
 unfolding valueOf
 found-ok t [] h = tt
@@ -99,6 +100,7 @@ found-ok t (x ∷ l) h = go (eqb (x .0) t) (found-ok t l (h .1))
     go true q = h .0
     go false q = q
 
+-- So is the last field of a name.
 lastField-ok : (name : ℕ) (l : List Field) → Each FieldInRange l → Opt BindingInRange (lastField name l)
 unfolding lastField
 lastField-ok name [] h = tt
@@ -109,6 +111,7 @@ lastField-ok name (f ∷ l) h = go (lastField name l) (lastField-ok name l (h .1
     go none q true = h .0 .binding
     go none q false = tt
 
+-- The associations of one scope are in range, if all are.
 associations-ok : (s : ℕ) (l : List (ℕ × Association)) → Each (λ x. AssociationInRange (x .1)) l → Each AssociationInRange (associationsOf s l)
 unfolding associationsOf
 associations-ok s [] h = tt
@@ -118,7 +121,7 @@ associations-ok s (x ∷ l) h = go (eqb (x .0) s) (associations-ok s l (h .1))
     go true q = (h .0, q)
     go false q = q
 
--- a node id that the map has, or none
+-- A route's end is one that the map has, or none.
 end-ok : (m : List Entry) (s : ℕ) → Each (λ e. IsName (e .out)) m → (end : Option ℕ) → IsPresent (andThen end (lookup m s))
 end-ok m s h none = tt
 end-ok m s h (some i) = go (lookup m s i) (lookup-ok m s i h)
@@ -127,12 +130,15 @@ end-ok m s h (some i) = go (lookup m s i) (lookup-ok m s i h)
     go none q = tt
     go (some n) q = present n q
 
+-- A route in range stays in range.
 remap-ok : (w : World) (s : ℕ) → Each (λ e. IsName (e .out)) (w .map) → (r : Route) → RouteInRange r → RouteInRange (remapRoute w s r)
 remap-ok w s h r x = record { fromNode = x .fromNode; fromField = x .fromField; toNode = x .toNode; toField = x .toField; fromId = end-ok (w .map) s h (r .fromId); toId = end-ok (w .map) s h (r .toId) }
 
+-- The node that is reserved is in range.
 blank-ok : NodeInRange blank
 blank-ok = record { typeName = omega arith; defName = tt; origin = tt; fields = tt; interface = tt; statements = tt; instance = tt }
 
+-- So is a node with an instance's record, with what was nested in it.
 instance-ok : (defName : Option ℕ) (x : ProtoInstance) (node : Node) → IsPresent defName → InstanceInRange x → NodeInRange node → NodeInRange (withInstance defName x node)
 instance-ok defName x node hd hx h = record { typeName = h .typeName; defName = name defName hd; origin = h .origin; fields = h .fields; interface = h .interface; statements = h .statements; instance = nested (node .instance) (h .instance) }
   where
@@ -145,7 +151,7 @@ instance-ok defName x node hd hx h = record { typeName = h .typeName; defName = 
     nested (some y) q = record { protoName = hx .protoName; extraRoots = each-append IsName (x .extraRoots) (y .extraRoots) (hx .extraRoots) (q .extraRoots); routes = each-append RouteInRange (x .routes) (y .routes) (hx .routes) (q .routes); isMap = hx .isMap }
 
 module _ (I : Input) (given : InputInRange I) where
-  -- ---- the documents
+  -- ---- the documents: what is looked up in them is in range
 
   docs-ok : Each Source (docs I)
   docs-ok = ((given .root, given .rootTargets), each-map (λ f. FileInRange f × Targets (f .document)) Source (λ (f : File). f .document) (λ f h. (h .0 .document, h .1)) (I .library) (each-both FileInRange (λ f. Targets (f .document)) (I .library) (given .library) (given .libraryTargets)))
@@ -162,7 +168,7 @@ module _ (I : Input) (given : InputInRange I) where
   unfolding externProtoAt
   extern-at d i = opt-then Source ExternProtoInRange (getElem? (docs I) d) (λ x. getElem? (x .externProtos) i) (each-get Source (docs I) d docs-ok) (λ x h. each-get ExternProtoInRange (x .externProtos) i (h .0 .externProtos))
 
-  -- ---- steps
+  -- ---- steps: each leads from a state in range to one, and `f-good` says what f answers
 
   good-ret : {A : Type 0} {P : A → Type 0} {a : A} → P a → Good I P (ret a)
   good-ret p st b = accepted (record { ranged = b; res = p })
@@ -172,6 +178,7 @@ module _ (I : Input) (given : InputInRange I) where
 
   -- ---- charges
 
+  -- After a charge holds what holds with one charge more.
   charge-out : (Q : State → Type 0) (st : State) → (st .charges < I .limits .maxRows → Q (oneMore st)) → Out (λ u s. Q s) (charge I st)
   unfolding charge chargeIf
   charge-out Q st f = go (ltb (st .charges) (I .limits .maxRows)) (ltb→lt (st .charges) (I .limits .maxRows))
@@ -503,7 +510,7 @@ module _ (I : Input) (given : InputInRange I) where
   start-ranged : Ranged I start
   start-ranged = record { mapped = tt; nodes = tt; externProtos = tt; externMap = tt; isMap = tt; externsPaid = omega arith; capped = omega arith }
 
-  -- the output of a run that is not refused
+  -- The output of a run that is not refused is in range.
   pub output-in-range : (l : List Statement) (st : State) → statements I start ≡ ok l st → InRange (output I l st)
   output-in-range l st e =
       let p : Post I (Each StatementInRange) l st = atOk (statements-good start start-ranged) e in

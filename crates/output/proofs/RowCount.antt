@@ -7,7 +7,7 @@ use native.Mathlib.Omega.{arith}
 use lib.ListN.{length, length-append, length-map}
 use Rattle.ast.specs.Ast.{FieldData, FieldBinding, FieldValue, Field, InterfaceDecl, ProtoInstance, Node, ProtoDecl, ExternProtoDecl, Document}
 use Rattle.sheet.specs.declared.row.Row.{Row}
-use Rattle.sheet.specs.Print.{rowsOfEach, idRow, dataRows, bindingRows, defaultRows, routeRow, associationRow, statementRow, bodyElementRow, urlRow, topRow, anyInstanceRows, protoRows, documentRows}
+use Rattle.sheet.specs.Print.{rowsOfEach, idRow, dataRows, bindingRows, defaultRows, routeRow, associationRow, anyInstanceRows, protoRows, documentRows}
 use Rattle.sheet.specs.Print
 use Rattle.expansion.specs.Ids.{dataIds, optionIds, bindingIds}
 use Rattle.expansion.specs.Expanded.{sumOf, fieldRows, interfaceRows, instanceRows, contentRows, nodeRows, externRows, rows}
@@ -17,6 +17,7 @@ each-count : {A : Type 0} (f : A → List Row) (g : A → ℕ) → ((x : A) → 
 each-count f g h [] = refl
 each-count f g h (x ∷ l) = omega (arith, length-append (f x) (rowsOfEach f l), h x, each-count f g h l)
 
+-- The rows below a field's or an interface's own, of its ids; a field, an interface, a record, a node, an extern.
 data-count : (d : FieldData) → length (dataRows d) ≡ length (dataIds d)
 data-count (FieldData.Payload p) = refl
 data-count (FieldData.Nodes l) = length-map l idRow
@@ -48,7 +49,7 @@ node-count x =
 extern-count : (x : ExternProtoDecl) → length (Print.externProtoRows x) ≡ externRows x
 extern-count x = simp (length-append, length-map) (omega (arith, each-count Print.interfaceRows interfaceRows interface-count (x .interface)))
 
--- of a document without PROTO
+-- The rows of a document without PROTO.
 pub rows-count : (D : Document) → D .protos ≡ [] → length (documentRows D) ≡ rows D
 unfolding documentRows
 rows-count D e =
