@@ -1,0 +1,5 @@
+pub mod Targets
+pub mod Said
+pub mod Tests
+pub mod Cases
+pub mod Promised

@@ -1,0 +1,4 @@
+pub mod Eachs
+pub mod Ranged
+pub mod RowCount
+pub mod Output
