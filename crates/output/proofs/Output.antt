@@ -1,6 +1,6 @@
 -- The output of every accepted expansion: in range, expanded, and so a sheet that says it.
 use mathlib.Core.Path.{_≡_, refl, subst}
-use mathlib.Core.List.{List}
+use mathlib.Core.List.{List, List·Memᴰ}
 use Prim.Native.Nat.{ℕ}
 use native.Mathlib.Omega.{arith}
 use lib.ListN.{length}
@@ -17,7 +17,8 @@ use Rattle.roundtrip.proofs.RoundTrip.{expanded-fits, root-parsed-back}
 use Rattle.expansion.specs.Input.{Input}
 use Rattle.expansion.specs.State.{Result, refusal, ok, start}
 use Rattle.expansion.specs.Expand.{statements, Expansion, Answer, expansion, answer, expand}
-use Rattle.expansion.specs.Expanded.{TopStatement, NodeStatement, NotProto, OutputNode, rows, Expanded}
+use Rattle.expansion.specs.Outputs.{rows}
+use Rattle.expansion.specs.Expanded.{RouteOrExtern, Expanded}
 use Rattle.expansion.specs.Proofs.Demand.{demand-3}
 use Rattle.output.specs.Input.{InputInRange}
 use Rattle.output.proofs.Eachs.{each-mem}
@@ -38,36 +39,41 @@ in-range I given e = go (statements I start) refl
 -- ---- expanded
 
 -- Statements, origins and nodes of an output are those of an expanded document.
-top-kept : (n : ℕ) (s : Statement) → TopStatement n s → TopKept s
-top-kept n (Statement.Node i) h = tt
-top-kept n (Statement.Proto p) h = h
-top-kept n (Statement.ExternProto x) h = tt
-top-kept n (Statement.Route r) h = tt
-top-kept n (Statement.Other p) h = tt
+top-kept : (l : List Statement) → ((p : ℕ) → List·Memᴰ (Statement.Proto p) l → ⊥) → (s : Statement) → List·Memᴰ s l → TopKept s
+top-kept l h (Statement.Node i) q = tt
+top-kept l h (Statement.Proto p) q = h p q
+top-kept l h (Statement.ExternProto x) q = tt
+top-kept l h (Statement.Route r) q = tt
+top-kept l h (Statement.Other p) q = tt
 
-inner-kept : (n : ℕ) (s : Statement) → NodeStatement n s → InnerKept s
-inner-kept n (Statement.Node i) h = h
-inner-kept n (Statement.Proto p) h = h
-inner-kept n (Statement.ExternProto x) h = tt
-inner-kept n (Statement.Route r) h = tt
-inner-kept n (Statement.Other p) h = h
+inner-kept : (s : Statement) → RouteOrExtern s → InnerKept s
+inner-kept (Statement.Node i) h = h
+inner-kept (Statement.Proto p) h = h
+inner-kept (Statement.ExternProto x) h = tt
+inner-kept (Statement.Route r) h = tt
+inner-kept (Statement.Other p) h = h
 
-origin-kept : (o : NodeOrigin) → NotProto o → OriginKept o
+origin-kept : (o : NodeOrigin) → ((p : ℕ) → o ≡ NodeOrigin.Proto p → ⊥) → OriginKept o
 origin-kept NodeOrigin.Builtin h = tt
-origin-kept (NodeOrigin.Proto p) h = h
+origin-kept (NodeOrigin.Proto p) h = h p refl
 origin-kept (NodeOrigin.ExternProto x) h = tt
 origin-kept NodeOrigin.Unknown h = tt
 
-node-kept : (n : ℕ) (x : Node) → OutputNode n x → NodeKept x
-node-kept n x h = record { origin = origin-kept (x .origin) (h .origin); interface = each-mem InterfaceKept (x .interface) (λ d q. h .interface d q .1); statements = each-mem InnerKept (x .statements) (λ s q. inner-kept n s (h .statements s q)) }
+node-kept : (I : Input) (e : Expansion) → Expanded I e → (x : Node) → List·Memᴰ x (e .document .nodes) → NodeKept x
+node-kept I e h x q =
+    record {
+      origin = origin-kept (x .origin) (h .noProto .origins x q);
+      interface = each-mem InterfaceKept (x .interface) (λ d r. h .form .interface x q d r);
+      statements = each-mem InnerKept (x .statements) (λ s r. inner-kept s (h .form .statements x q s r));
+    }
 
 kept : (I : Input) (e : Expansion) → Expanded I e → IsExpanded (e .document)
 kept I e h =
     record {
-      nodes = each-mem NodeKept (e .document .nodes) (λ x q. node-kept (e .nodeCount) x (h .nodes x q));
-      protos = h .protos;
-      externProtos = each-mem (λ x. Each InterfaceKept (x .interface)) (e .document .externProtos) (λ x q. each-mem InterfaceKept (x .interface) (λ d r t s. h .externs x q d r));
-      statements = each-mem TopKept (e .document .statements) (λ s q. top-kept (e .nodeCount) s (h .statements s q));
+      nodes = each-mem NodeKept (e .document .nodes) (node-kept I e h);
+      protos = h .noProto .protos;
+      externProtos = each-mem (λ x. Each InterfaceKept (x .interface)) (e .document .externProtos) (λ x q. each-mem InterfaceKept (x .interface) (λ d r t s. h .form .externs x q d r));
+      statements = each-mem TopKept (e .document .statements) (top-kept (e .document .statements) (h .noProto .statements));
     }
 
 -- The output of every accepted expansion is an expanded document.
@@ -78,7 +84,7 @@ is-expanded I e q = kept I e (demand-3 I e q)
 
 -- The rows are as many as the row count says, so at most the charges.
 pub row-count : (I : Input) (e : Expansion) → expand I ≡ Answer.Expanded e → length (documentRows (e .document)) ≡ rows (e .document)
-row-count I e q = rows-count (e .document) (demand-3 I e q .protos)
+row-count I e q = rows-count (e .document) (demand-3 I e q .noProto .protos)
 
 -- They are accepted as an expanded document.
 pub rows-fit : (I : Input) → InputInRange I → (e : Expansion) → expand I ≡ Answer.Expanded e → checked Form·Expanded (documentRows (e .document)) ≡ Fits

@@ -10,7 +10,7 @@ use Rattle.sheet.specs.declared.row.Row.{Row}
 use Rattle.sheet.specs.Print.{rowsOfEach, idRow, dataRows, bindingRows, defaultRows, routeRow, associationRow, anyInstanceRows, protoRows, documentRows}
 use Rattle.sheet.specs.Print
 use Rattle.expansion.specs.Ids.{dataIds, optionIds, bindingIds}
-use Rattle.expansion.specs.Expanded.{sumOf, fieldRows, interfaceRows, instanceRows, contentRows, nodeRows, externRows, rows}
+use Rattle.expansion.specs.Outputs.{sumOf, fieldRows, interfaceRows, instanceRows, contentRows, nodeRows, externRows, rows}
 
 -- the rows of each of a list
 each-count : {A : Type 0} (f : A → List Row) (g : A → ℕ) → ((x : A) → length (f x) ≡ g x) → (l : List A) → length (rowsOfEach f l) ≡ sumOf g l
