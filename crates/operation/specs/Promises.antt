@@ -101,8 +101,8 @@ said r =
 
 pub record Accepted (c : Call) (r : After) : Type 0 where
   -- Demand 3, sentence by sentence, with the lines of `Expanded` that say it of these words:
-  -- "No PROTO and no instance, as document 01 defines them, is left in its output.": protos, statements, nodes, sources.
-  -- "Every node id of the output is below the node count, and that count is at most the node limit.": statements, nodes, nodeCount, nodeLimit.
+  -- "No PROTO and no instance, as document 01 defines them, is left in its output.": noProto, noInstance.
+  -- "Every node id of the output is below the node count, and that count is at most the node limit.": ids, nodeCount, nodeLimit.
   -- "the scope list has one entry for each scope that these steps open, and no other": steps, scopes, scopeCount.
   -- "The node count = the sum, over all these scopes, of the plain nodes reached in each, by document 01's closure.": nodesReached.
   -- "The ledger has, for each of these scopes and each plain node reached in it, exactly one entry with that scope, document and source id, and no other entry.": ledgerOnce, ledger, ledgerSize.
