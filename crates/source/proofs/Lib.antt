@@ -1,0 +1,6 @@
+pub mod WordLaws
+pub mod DirectoryLaws
+pub mod GroupLaws
+pub mod PickedLaws
+pub mod SourcedLaws
+pub mod InstanceLaws
