@@ -4,3 +4,4 @@ pub mod GroupLaws
 pub mod PickedLaws
 pub mod SourcedLaws
 pub mod InstanceLaws
+pub mod PrepareLaws
