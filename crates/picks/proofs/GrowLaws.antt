@@ -76,7 +76,7 @@ grows-next : (next : Bases → Picked) (T : Bases) (p : Option Pick) → ((U : B
 grows-next next T none f = f T
 grows-next next T (some p) f = grows-same T
 
-grows-urls : (library : List File) (urls : List Url) (T : Bases) → Grows T (pickUrls library urls T .1)
+pub grows-urls : (library : List File) (urls : List Url) (T : Bases) → Grows T (pickUrls library urls T .1)
 unfolding pickUrls
 grows-urls library [] T = grows-same T
 grows-urls library (u ∷ l) T =
@@ -111,7 +111,7 @@ same-urls library (u ∷ l) T F g =
 -- ---- the externs of the root
 
 -- the externs make the table grow
-grows-all : (library : List File) (l : List ExternProtoDecl) (T : Bases) → Grows T (basesFrom library l T)
+pub grows-all : (library : List File) (l : List ExternProtoDecl) (T : Bases) → Grows T (basesFrom library l T)
 unfolding basesFrom
 grows-all library [] T = grows-same T
 grows-all library (x ∷ l) T = grows-on (grows-urls library (x .urls) T) (grows-all library l (pickUrls library (x .urls) T .1))

@@ -1,0 +1,7 @@
+pub mod WordLaws
+pub mod DirectoryLaws
+pub mod GroupLaws
+pub mod PickedLaws
+pub mod SourcedLaws
+pub mod InstanceLaws
+pub mod PrepareLaws

@@ -1,0 +1,162 @@
+-- What the lookups rest on: that it stays where the words of the region do, and how the cache of picks grows.
+use mathlib.Core.Path.{_≡_, refl, sym, ap, subst, _∙_}
+use mathlib.Core.List.{List, _++_}
+use mathlib.Core.Option.{Option}
+use Prim.Native.Nat.{ℕ, _+_, _-_, _*_, _≤_, _<_}
+use native.Mathlib.Omega.{arith}
+use native.Mathlib.Decide.{ℕ-discrete}
+use lib.ListN.{length, getD, take, drop, set, length-set}
+use lib.Dec.{eqb}
+use lib.Seq.{getD-set-same, getD-set-other}
+use borrow.Author.Tests.{ne-eqb, eq-eqb}
+use Rattle.sheet.specs.Rows.{rows}
+use Rattle.sheet.specs.Parse.{documentOf, filesOf}
+use Rattle.lookup.specs.Index.{Filled}
+use Rattle.lookup.specs.Lookup.{sheetOf}
+use Rattle.picks.specs.declared.table.Table.{Table}
+use Rattle.picks.specs.Picks.{Pick, pickAt}
+use Rattle.source.specs.declared.instance.Target.{Target}
+use Rattle.source.specs.declared.instance.Target.the-variants.{Plain, Of}
+use Rattle.source.specs.Words.{Outside}
+use Rattle.source.specs.Directory.{size, numberOf, rowOf, countOf, strideOf, cacheOf, cachedOf, fromOf, endOf, groupPart, groupOf, placeOf, filledOf, Slot, Copy, Directory, HeldAt}
+use Rattle.source.specs.Instance.{targetOf, SlotOf, Targeted, targetAt, Small}
+use Rattle.source.specs.Sourced.{Cached, Sourced, Region, Remembered}
+use Rattle.source.proofs.WordLaws.{stays, stays-front, stays-set, stays-on, stays-wide}
+use Rattle.source.proofs.DirectoryLaws.{slot-on, copy-on, slot-back, directory-kept}
+use Rattle.source.proofs.GroupLaws.{held-filled, held-on, held-dir}
+
+module _ {root library dir w : List ℕ} (s : Sourced root library dir w) where
+  -- slot 0 is the root's, document 0
+  pub slot-root : Slot dir 0
+  slot-root = record { upto = omega arith; real = λ h. absurd (omega arith) }
+
+  pub number-root : numberOf dir 0 ≡ 0
+  number-root = s .directory .number
+
+  -- THE LAW OF THE REGION: it rests on no word of w but those of the region
+  pub sourced-kept : (at len : ℕ) (w′ : List ℕ) → Region dir at len → at + len ≤ length w′ → ((k : ℕ) → at ≤ k → k < at + len → getD w′ k 0 ≡ getD w k 0) → Sourced root library dir w′
+  sourced-kept at len w′ r long same = record {
+    directory = s .directory;
+    within = omega (arith, r .end);
+    held = λ u g h x. held-on (s .held u g h x) (omega arith) (omega arith) (λ k a b. same k (omega (arith, r .from)) (omega (arith, r .end, s .cache .upto)));
+    cache = record {
+      from = s .cache .from;
+      upto = s .cache .upto;
+      is = λ i h. rw (same (cacheOf dir + 2 * i) (omega (arith, r .from, s .cache .from)) (omega (arith, r .end, s .cache .upto)), same (cacheOf dir + 2 * i + 1) (omega (arith, r .from, s .cache .from)) (omega (arith, r .end, s .cache .upto))) (s .cache .is i h);
+    };
+  }
+
+  -- ---- a lookup by an index of the region
+
+  module _ (u g : ℕ) (h : g < 3) (x : Slot dir u) where
+    pub place-within : placeOf dir u g ≤ length w
+    place-within = omega (arith, s .held u g h x .upto, s .cache .upto, s .within)
+
+    pub filled-at : Filled (groupPart g) (rows (sheetOf root library (numberOf dir u))) (rowOf dir u + 1) (strideOf dir) (take (length w - placeOf dir u g) (drop (placeOf dir u g) w)) (filledOf dir u g)
+    filled-at = held-filled (s .held u g h x) (omega (arith, s .cache .upto, s .within))
+
+-- ---- a target in two words
+
+module _ (w : List ℕ) (at : ℕ) where
+  pub kept-of : (s p : ℕ) → at + 1 < length w → (targetAt (set (set w at (s + 1)) (at + 1) p) at ≡ Of s p) × Outside at (at + 2) w (set (set w at (s + 1)) (at + 1) p)
+  kept-of s p h =
+      let w₁ = set w at (s + 1) in
+      let a : getD (set w₁ (at + 1) p) at 0 ≡ s + 1 = getD-set-other w₁ (at + 1) at p 0 (λ z. omega arith) ∙ getD-set-same w at (s + 1) 0 (omega arith) in
+      let b : getD (set w₁ (at + 1) p) (at + 1) 0 ≡ p = getD-set-same w₁ (at + 1) p 0 (omega (arith, length-set w at (s + 1))) in
+      let c : s + 1 - 1 ≡ s = omega arith in
+      (rw (a, b, ne-eqb (s + 1) 0 (λ z. omega arith), c), stays-on at (at + 2) (stays-set {a = at} {b = at + 1} w at (s + 1) (omega arith) (omega arith)) (stays-set {a = at + 1} {b = at + 2} w₁ (at + 1) p (omega arith) (omega arith)) (omega arith) (omega arith) (omega arith) (omega arith))
+
+  pub kept-plain : at + 1 < length w → (targetAt (set w at 0) at ≡ Plain) × Outside at (at + 2) w (set w at 0)
+  kept-plain h = (rw (getD-set-same w at 0 0 (omega arith)), stays-set w at 0 (omega arith) (omega arith))
+
+-- ---- the cache has one pick more
+
+-- a target rests on the directory's first words alone
+targeted-on : {dir dir′ : List ℕ} {p : Option Pick} (x : Target) → ((k : ℕ) → k < 195 → getD dir′ k 0 ≡ getD dir k 0) → countOf dir ≤ 64 → Targeted dir p x → Targeted dir′ p x
+targeted-on Plain same few t = record { is = t .is; valid = tt }
+targeted-on (Of u p) same few t = record { is = rw (same u (omega (arith, t .valid .upto))) (t .is); valid = slot-on same few (t .valid) }
+
+pub small-of : {root library dir : List ℕ} {p : Option Pick} (x : Target) → Directory root library dir → Targeted dir p x → Small x
+small-of Plain d t = tt
+small-of (Of u p) d t = omega (arith, t .valid .upto, d .few)
+
+module _ {root library dir w : List ℕ} (s : Sourced root library dir w) {w₁ w₂ : List ℕ} (i : ℕ) (here : i ≡ cachedOf dir) (fits : cacheOf dir + 2 * i + 2 ≤ endOf dir) (p : Outside 0 (fromOf dir) w w₁) (q : Outside (cacheOf dir + 2 * i) (cacheOf dir + 2 * i + 2) w₁ w₂) where
+  abbrev dir′ : List ℕ
+  dir′ = set dir 197 (i + 1)
+
+  one : Outside 197 198 dir dir′
+  one = stays-set dir 197 (i + 1) (omega arith) (omega arith)
+
+  outside : Outside 195 (length dir) dir dir′
+  outside = stays-wide 195 (length dir) one (omega arith) (omega (arith, s .directory .long))
+
+  cached : cachedOf dir′ ≡ i + 1
+  cached = getD-set-same dir 197 (i + 1) 0 (omega (arith, s .directory .long))
+
+  -- the words of the region before the new pick
+  before : (k : ℕ) → fromOf dir ≤ k → k < cacheOf dir + 2 * i → getD w₂ k 0 ≡ getD w k 0
+  before k a b = q .below k b ∙ p .above k a
+
+  held′ : (u g : ℕ) → g < 3 → Slot dir′ u → HeldAt root library dir′ w₂ (fromOf dir′) (cacheOf dir′) u g
+  held′ u g h x =
+      let y = slot-back (s .directory) outside x in
+      let few : u < 65 = omega (arith, s .directory .few, y .upto) in
+      held-dir root library dir dir′ u g
+      (one .below u (omega arith)) (one .below (65 + u) (omega arith)) (one .below 195 (omega arith))
+      (one .above (groupOf u g) (omega arith)) (one .above (groupOf u g + 1) (omega arith))
+      (held-on (s .held u g h y) (omega (arith, one .above 198 (omega arith))) (omega (arith, one .below 196 (omega arith))) (λ k a b. before k a (omega arith)))
+
+  is′ : Targeted dir (pickAt (documentOf (rows root)) (filesOf (rows library)) i) (targetAt w₂ (cacheOf dir + 2 * i)) → (j : ℕ) → j < i + 1 → Dec (j ≡ i) → Targeted dir (pickAt (documentOf (rows root)) (filesOf (rows library)) j) (targetAt w₂ (cacheOf dir + 2 * j))
+  is′ t j h (yes z) = rw z t
+  is′ t j h (no z) =
+      rw (before (cacheOf dir + 2 * j) (omega (arith, s .cache .from)) (omega arith), before (cacheOf dir + 2 * j + 1) (omega (arith, s .cache .from)) (omega arith))
+      (s .cache .is j (omega arith))
+
+  pub sourced-more : Targeted dir (pickAt (documentOf (rows root)) (filesOf (rows library)) i) (targetAt w₂ (cacheOf dir + 2 * i)) → Sourced root library dir′ w₂
+  sourced-more t = record {
+    directory = directory-kept (s .directory) outside;
+    within = omega (arith, one .above 199 (omega arith), s .within, p .long, q .long);
+    held = held′;
+    cache = record {
+      from = omega (arith, one .above 198 (omega arith), one .below 196 (omega arith), s .cache .from);
+      upto = omega (arith, one .above 199 (omega arith), one .below 196 (omega arith), cached);
+      is = λ j h. rw (one .below 196 (omega arith)) (targeted-on (targetAt w₂ (cacheOf dir + 2 * j)) (outside .below) (s .directory .few) (is′ t j (rw cached at h) (ℕ-discrete j i)));
+    };
+  }
+
+-- picks have been added to the cache, up to the i-th, whose words begin at a place; the region is [lo, hi)
+pub record Adding (root library dir₀ dir w₀ w : List ℕ) (lo hi i at : ℕ) : Type 0 where
+  pub sourced : Sourced root library dir w
+  pub dirStays : Outside 197 198 dir₀ dir
+  pub workStays : Outside 0 hi w₀ w
+  pub isFrom : lo ≡ fromOf dir
+  pub isEnd : hi ≡ endOf dir
+  pub isCached : i ≡ cachedOf dir
+  pub isAt : at ≡ cacheOf dir + 2 * i
+
+module _ {root library dir₀ dir w₀ w : List ℕ} {lo hi i at : ℕ} (a : Adding root library dir₀ dir w₀ w lo hi i at) where
+  pub add-within : (lo ≤ length w) × (at ≤ hi) × (hi ≤ length w) × (size ≤ length dir)
+  add-within =
+      let s = a .sourced in
+      (omega (arith, a .isFrom, s .cache .from, s .cache .upto, s .within), omega (arith, a .isAt, a .isEnd, a .isCached, s .cache .upto), omega (arith, a .isEnd, s .within), s .directory .long)
+
+  pub add-copy : {t : Table} → Copy dir₀ t → Copy dir t
+  add-copy c = copy-on (λ k h. a .dirStays .below k (omega arith)) (omega (arith, a .dirStays .below 194 (omega arith), a .sourced .directory .few)) c
+
+  pub add-more : {x : Target} (ys w₂ : List ℕ) → at + 2 ≤ hi → length ys ≡ lo → Targeted dir (pickAt (documentOf (rows root)) (filesOf (rows library)) i) x → (targetAt w₂ at ≡ x) × Outside at (at + 2) (ys ++ drop lo w) w₂ → Adding root library dir₀ (set dir 197 (i + 1)) w₀ w₂ lo hi (i + 1) (at + 2)
+  add-more ys w₂ h e t k =
+      let p = stays-front w ys lo (add-within .0) e in
+      let dir′ = set dir 197 (i + 1) in
+      let o : Outside 197 198 dir dir′ = stays-set dir 197 (i + 1) (omega arith) (omega arith) in
+      record {
+        sourced = sourced-more (a .sourced) i (a .isCached) (omega (arith, a .isAt, a .isEnd)) (stays-wide 0 (fromOf dir) p (omega arith) (omega (arith, a .isFrom))) (rw (a .isAt) at (k .1)) (rw (sym (rw (a .isAt) at (k .0))) at t);
+        dirStays = stays-on 197 198 (a .dirStays) o (omega arith) (omega arith) (omega arith) (omega arith);
+        workStays = stays-on 0 hi (a .workStays) (stays-on 0 hi p (k .1) (omega arith) (omega arith) (omega (arith, a .isFrom, a .isEnd, a .sourced .cache .from, a .sourced .cache .upto)) h) (omega arith) (omega arith) (omega arith) (omega arith);
+        isFrom = a .isFrom ∙ sym (o .above 198 (omega arith));
+        isEnd = a .isEnd ∙ sym (o .above 199 (omega arith));
+        isCached = sym (getD-set-same dir 197 (i + 1) 0 (omega (arith, a .sourced .directory .long)));
+        isAt = omega (arith, a .isAt, o .below 196 (omega arith));
+      }
+
+  pub added : hi ≡ endOf dir₀ → Remembered root library dir₀ dir w₀ w
+  added e = record { sourced = a .sourced; dirStays = a .dirStays; workStays = rw e at (a .workStays) }

@@ -1,0 +1,88 @@
+-- Written by `needs write`, from answers.txt: edit that. The proof.
+use borrow.Author.Needs.{needs}
+use Rattle.source.proofs.instance.picked.Statement.{statement}
+use Rattle.source.proofs.instance.picked.Tie as tie
+use Rattle.source.proofs.instance.picked.Reads as reads
+use Rattle.source.proofs.instance.picked.Lts as lts
+use Rattle.source.proofs.directory.table_of.Reads as table-of-reads
+use Rattle.source.proofs.directory.wide.Reads as wide-reads
+use Rattle.source.proofs.instance.kept.Reads as kept-reads
+use Rattle.source.proofs.instance.pick_row.Reads as pick-row-reads
+use Rattle.source.proofs.instance.root_extern.Reads as root-extern-reads
+use mathlib.Core.Path.{_≡_, subst, sym}
+use denote.Ref.{now}
+use Rattle.sheet.specs.Rows.{rows}
+use Rattle.sheet.specs.Parse.{externProtoOf}
+use Rattle.lookup.specs.Lookup.{documentAt, Looked}
+use Rattle.lookup.specs.Walk.{Below}
+use Rattle.source.proofs.InstanceLaws.{target-missing}
+use native.Mathlib.Omega.{arith}
+
+shared-slice-read-if1 : tie.Need-shared-slice-read-if1
+shared-slice-read-if1 c = omega (arith, c .before .before .before .before .before .pre .directory .long)
+
+shared-slice-read-wide : tie.Need-shared-slice-read-wide
+shared-slice-read-wide c = omega (arith, c .before .before .before .before .before .before .before .pre .directory .long)
+
+wide-requires : tie.Need-wide-requires
+wide-requires c κs = search needs
+
+wide-requires-2 : tie.Need-wide-requires-2
+wide-requires-2 c κs = search needs
+
+mul-kept : tie.Need-mul-kept
+mul-kept c = omega (arith, c .wide2 .ensures .small)
+
+add-kept : tie.Need-add-kept
+add-kept c = omega (arith, c .before .wide .ensures .small, c .wide2 .ensures .small)
+
+kept-requires : tie.Need-kept-requires
+kept-requires c κs = omega (arith, c .before .wide .ensures .is, c .wide2 .ensures .is, c .before .before .before .before .before .before .before .before .before .pre .cache .upto, c .before .before .before .before .before .before .before .before .before .pre .within)
+
+returns : tie.Need-returns
+returns c = rw (c .kept .ensures, c .before .before .wide .ensures .is, c .before .wide2 .ensures .is) ((c .before .before .before .before .before .before .before .before .before .before .pre .cache .is) (c .before .before .before .before .before .before .before .before .before .before .args .id) (c .before .before .before .before .if1 .taken))
+
+root-extern-requires : tie.Need-root-extern-requires
+root-extern-requires c κs = search needs
+
+enum-known-row : tie.Need-enum-known-row
+enum-known-row c = search needs
+
+enum-told : tie.Need-enum-told
+enum-told c = search needs
+
+returns-2 : tie.Need-returns-2
+returns-2 c = target-missing (now (c .before .before .before .before .before .before .before .before .before .args .root)) (now (c .before .before .before .before .before .before .before .before .before .args .library)) (now (c .before .before .before .before .before .before .before .before .before .args .dir)) (c .before .before .before .before .before .before .before .before .before .args .id) (c .before .before .root-extern .ensures) (c .enum-told .given .1)
+
+table-of-requires : tie.Need-table-of-requires
+table-of-requires c κs = (c .before .before .before .before .before .before .before .before .before .before .pre .directory .long, c .before .before .before .before .before .before .before .before .before .before .pre .directory .few)
+
+slice-aggregate-pick-row : tie.Need-slice-aggregate-pick-row
+slice-aggregate-pick-row c = search needs
+
+pick-row-requires : tie.Need-pick-row-requires
+pick-row-requires c κs = (subst (Below (rows (now (c .before .before .before .before .before .before .before .before .before .before .before .before .args .root)))) (c .before .before .before .row .given .1) (c .before .before .before .before .before .root-extern .ensures .below), c .before .before .before .before .before .before .before .before .before .before .before .before .pre .directory, c .before .table-of .ensures)
+
+returns-3 : tie.Need-returns-3
+returns-3 c = (c .before .pick-row .ensures) (c .before .before .before .before .before .before .before .before .before .before .before .before .before .before .args .id) (subst (Looked externProtoOf (documentAt (rows (now (c .before .before .before .before .before .before .before .before .before .before .before .before .before .before .args .root))) 0 .externProtos) (rows (now (c .before .before .before .before .before .before .before .before .before .before .before .before .before .before .args .root))) (c .before .before .before .before .before .before .before .before .before .before .before .before .before .before .args .id)) (c .before .before .before .before .before .row .given .1) (c .before .before .before .before .before .before .before .root-extern .ensures))
+
+pub picked-spec : {M : Type 1} → statement M
+picked-spec =
+    tie.close
+    (tie.spec
+    shared-slice-read-if1
+    shared-slice-read-wide
+    wide-requires
+    wide-requires-2
+    mul-kept
+    add-kept
+    kept-requires
+    returns
+    root-extern-requires
+    enum-known-row
+    enum-told
+    returns-2
+    table-of-requires
+    slice-aggregate-pick-row
+    pick-row-requires
+    returns-3)

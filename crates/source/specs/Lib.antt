@@ -1,0 +1,4 @@
+pub mod Words
+pub mod Directory
+pub mod Instance
+pub mod Sourced

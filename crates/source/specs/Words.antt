@@ -1,0 +1,16 @@
+-- Words that stay.
+use mathlib.Core.Path.{_≡_}
+use mathlib.Core.List.{List}
+use Prim.Native.Nat.{ℕ, _≤_, _<_}
+use lib.ListN.{length, getD}
+
+-- after is before but for the words from a up to b
+pub record Outside (a b : ℕ) (before after : List ℕ) : Type 0 where
+  pub long : length after ≡ length before
+  pub below : (k : ℕ) → k < a → getD after k 0 ≡ getD before k 0
+  pub above : (k : ℕ) → b ≤ k → getD after k 0 ≡ getD before k 0
+
+-- a word made wide
+pub record Wide (x r : ℕ) : Type 0 where
+  pub is : r ≡ x
+  pub small : r < 4294967296

@@ -1,0 +1,119 @@
+// The prototype that a node is an instance of, and the cache of the picks of the root's externs.
+use super::directory;
+use super::directory::wide;
+use super::group;
+use lookup::walk::Found;
+use picks::Chosen;
+use picks::table::Table;
+ghost use mathlib.Core.Path.{_≡_};
+ghost use Prim.Native.Nat.{ℕ, _+_, _<_};
+ghost use lib.ListN.{length};
+ghost use Rattle.sheet.specs.Rows.{rows};
+ghost use Rattle.sheet.specs.Parse.{externProtoOf, documentOf, filesOf};
+ghost use Rattle.lookup.specs.declared.walk.Found.the-variants.{At};
+ghost use Rattle.lookup.specs.Lookup.{documentAt, Looked};
+ghost use Rattle.picks.specs.Picks.{pickAt};
+ghost use Rattle.source.specs.Words.{Outside};
+ghost use Rattle.source.specs.Directory.{Directory, Copy};
+ghost use Rattle.source.specs.Instance.{Targeted, targetAt, Small};
+ghost use Rattle.source.specs.Sourced.{Sourced, Remembered};
+
+// A plain node, or an instance of a PROTO of a slot's document.
+pub enum Target {
+    Plain,
+    Of { slot: u32, proto: u32 },
+}
+
+// The pick of the root's extern at a row.
+fn pick_row<'a>(
+    root: &'a [u32],
+    row: usize,
+    library: &'a [u32],
+    dir: &[u32],
+    table: Table,
+    slots: &mut [u32],
+) -> Target
+    requires { ⌜ (row < length (rows (now root))) × Directory (now root) (now library) (now dir) × Copy (now dir) table ⌝ }
+    ensures { λ x. ⌜ ((id : ℕ) → Looked externProtoOf (documentAt (rows (now (root .entry))) 0 .externProtos) (rows (now (root .entry))) id (At row) → Targeted (now (dir .entry)) (pickAt (documentOf (rows (now (root .entry)))) (filesOf (rows (now (library .entry)))) id) x) ⌝ }
+{
+    let choice = picks::pick_urls(root, row, library, table, slots);
+    let chosen = choice.chosen;
+    let Chosen::Proto { document, id } = chosen else {
+        return Target::Plain;
+    };
+    let slot = directory::slot_of(dir, document);
+    Target::Of { slot, proto: id.0 }
+}
+
+// An extern of the root.
+fn root_extern<'a>(root: &'a [u32], library: &'a [u32], dir: &[u32], work: &[u32], id: u32) -> Found
+    requires { ⌜ Sourced (now root) (now library) (now dir) (now work) ⌝ }
+    ensures { λ x. ⌜ Looked externProtoOf (documentAt (rows (now (root .entry))) 0 .externProtos) (rows (now (root .entry))) id x ⌝ }
+{
+    group::locate(root, library, dir, work, 0, 2, id)
+}
+
+// A target is kept in two words: its slot + 1, or 0 for a plain node, and the PROTO's id.
+fn keep(x: Target, work: &mut [u32], at: usize)
+    requires { ⌜ (at + 1 < length (now work)) × Small x ⌝ }
+    ensures { λ _. ⌜ (targetAt (now (work .exit)) at ≡ x) × Outside at (at + 2) (now (work .entry)) (now (work .exit)) ⌝ }
+{
+    match x {
+        Target::Of { slot, proto } => {
+            work[at] = slot + 1;
+            work[at + 1] = proto;
+        }
+        Target::Plain => work[at] = 0,
+    }
+}
+
+fn kept(work: &[u32], at: usize) -> Target
+    requires { ⌜ at + 1 < length (now work) ⌝ }
+    ensures { λ x. ⌜ x ≡ targetAt (now (work .entry)) at ⌝ }
+{
+    let word = work[at];
+    if word == 0 {
+        return Target::Plain;
+    }
+    Target::Of {
+        slot: word - 1,
+        proto: work[at + 1],
+    }
+}
+
+// Adds the picks of the root's externs, in order, to the cache, while the region has room.
+pub fn remember<'a>(root: &'a [u32], library: &'a [u32], dir: &mut [u32], work: &mut [u32])
+    requires { ⌜ Sourced (now root) (now library) (now dir) (now work) ⌝ }
+    ensures { λ _. ⌜ Remembered (now (root .entry)) (now (library .entry)) (now (dir .entry)) (now (dir .exit)) (now (work .entry)) (now (work .exit)) ⌝ }
+{
+    let table = directory::table_of(dir);
+    let from = wide(dir[198]);
+    let end = wide(dir[199]);
+    let mut i = dir[197];
+    let mut at = wide(dir[196]) + 2 * wide(i);
+    while at + 2 <= end {
+        let Found::At(row) = root_extern(root, library, dir, work, i) else {
+            return;
+        };
+        let x = pick_row(root, row, library, dir, table, &mut work[..from]);
+        keep(x, work, at);
+        i += 1;
+        dir[197] = i;
+        at += 2;
+    }
+}
+
+// The pick of an extern of the root.
+pub fn picked<'a>(root: &'a [u32], library: &'a [u32], dir: &[u32], work: &[u32], id: u32) -> Target
+    requires { ⌜ Sourced (now root) (now library) (now dir) (now work) ⌝ }
+    ensures { λ x. ⌜ Targeted (now (dir .entry)) (pickAt (documentOf (rows (now (root .entry)))) (filesOf (rows (now (library .entry)))) id) x ⌝ }
+{
+    if id < dir[197] {
+        return kept(work, wide(dir[196]) + 2 * wide(id));
+    }
+    let Found::At(row) = root_extern(root, library, dir, work, id) else {
+        return Target::Plain;
+    };
+    let mut none = [0u32; 1];
+    pick_row(root, row, library, dir, directory::table_of(dir), &mut none)
+}
