@@ -109,9 +109,9 @@ pub fn locate<'a>(
 {
     let slot = wide(slot);
     let from = wide(dir[65 + slot]) + 1;
-    let at = 200 + (6 * slot + 2 * group);
-    let place = wide(dir[at]);
-    let filled = wide(dir[at + 1]);
+    let entry = 200 + (6 * slot + 2 * group);
+    let place = wide(dir[entry]);
+    let filled = wide(dir[entry + 1]);
     let sheet = rows::select(root, library, dir[slot]);
     let part = part_of(group);
     index::find(sheet, part, from, dir[195], &work[place..], filled, id)

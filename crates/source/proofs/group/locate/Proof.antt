@@ -29,17 +29,17 @@ wide-requires-2 c κs = search needs
 add-from : tie.Need-add-from
 add-from c = omega (arith, c .wide2 .ensures .small)
 
-mul-at : tie.Need-mul-at
-mul-at c = search needs
+mul-entry : tie.Need-mul-entry
+mul-entry c = search needs
 
-mul-at-2 : tie.Need-mul-at-2
-mul-at-2 c = search needs
+mul-entry-2 : tie.Need-mul-entry-2
+mul-entry-2 c = search needs
 
-add-at : tie.Need-add-at
-add-at c = search needs
+add-entry : tie.Need-add-entry
+add-entry c = search needs
 
-add-at-2 : tie.Need-add-at-2
-add-at-2 c = search needs
+add-entry-2 : tie.Need-add-entry-2
+add-entry-2 c = search needs
 
 mul-wide-2 : tie.Need-mul-wide-2
 mul-wide-2 c = search needs
@@ -105,10 +105,10 @@ locate-spec =
     shared-slice-read-wide
     wide-requires-2
     add-from
-    mul-at
-    mul-at-2
-    add-at
-    add-at-2
+    mul-entry
+    mul-entry-2
+    add-entry
+    add-entry-2
     mul-wide-2
     shared-slice-read-wide-2
     wide-requires-3
