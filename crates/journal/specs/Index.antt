@@ -1,0 +1,72 @@
+-- The index of the keyed records: a chain for each slot, newest first, and the heads of the chains in a table after the
+-- records. The table is never cleared: a head counts only where it is a keyed record of its slot.
+use mathlib.Core.Path.{_≡_}
+use mathlib.Core.Bool.{Bool, true, false}
+use mathlib.Core.List.{List}
+use mathlib.Core.Option.{Option, none, some}
+use Prim.Native.Nat.{ℕ, suc, _+_, _*_, _%_, _<_, _≤_, _^_}
+use lib.ListN.{length, getD}
+use lib.Dec.{eqb, ltb}
+use Rattle.ast.specs.Choice.{choose}
+use Rattle.journal.specs.declared.Record.{Record}
+use Rattle.journal.specs.declared.Found.{Found}
+use Rattle.journal.specs.declared.Found.the-variants.{At, Nothing}
+use Rattle.journal.specs.Records.{tagMap, tagExtern, cell, Same, Holds}
+use Rattle.journal.specs.Logs.{lastOf, newestOf}
+
+-- the tags of keyed records; words 1 and 2 are the rest of the key, word 10 the link, word 11 the slot
+abbrev pub keyed : ℕ → Bool
+keyed t = choose (eqb t tagMap) true (eqb t tagExtern)
+
+unfoldable pub slotOf : ℕ → ℕ → ℕ → ℕ
+slotOf slots x y = (x * 61 + y) % slots
+
+-- record r has the key
+unfoldable pub hit : List ℕ → ℕ → ℕ → ℕ → ℕ → Bool
+hit w t x y r = choose (eqb (cell w r 0) t) (choose (eqb (cell w r 1) x) (eqb (cell w r 2) y) false) false
+
+-- the newest record below c of a key
+abbrev pub newest : List ℕ → ℕ → ℕ → ℕ → ℕ → Option ℕ
+newest w t x y c = newestOf (hit w t x y) c
+
+abbrev pub foundOf : Found → Option ℕ
+foundOf (At i) = some i
+foundOf Nothing = none
+
+-- record r is keyed, and of slot b
+unfoldable pub inSlot : List ℕ → ℕ → ℕ → Bool
+inSlot w b r = choose (keyed (cell w r 0)) (eqb (cell w r 11) b) false
+
+-- the word x as the head of slot b: a record with one added, or 0 where x is none of that slot below c
+unfoldable pub headed : List ℕ → ℕ → ℕ → ℕ → ℕ
+headed w b c x = choose (ltb x c) (choose (inSlot w b x) (suc x) 0) 0
+
+-- the head and the link are the newest of the slot
+pub record Indexed (w : List ℕ) (at slots c : ℕ) : Type 0 where
+  pub some : 0 < slots
+  pub few : slots ≤ 2 ^ 32
+  pub heads : (b : ℕ) → b < slots → headed w b c (getD w (at + b) 0) ≡ lastOf (inSlot w b) c
+  pub links : (r : ℕ) → r < c → keyed (cell w r 0) ≡ true → cell w r 10 ≡ lastOf (inSlot w (cell w r 11)) r
+  pub slotted : (r : ℕ) → r < c → keyed (cell w r 0) ≡ true → cell w r 11 ≡ slotOf slots (cell w r 1) (cell w r 2)
+
+-- c records, the heads at `at`, and the words behind each other; a place with one added is a word
+pub record Room (w : List ℕ) (at slots c : ℕ) : Type 0 where
+  pub records : c * 12 ≤ at
+  pub heads : at + slots ≤ length w
+  pub narrow : c ≤ 16777216
+
+pub record Slotted (slots x y b : ℕ) : Type 0 where
+  pub same : b ≡ slotOf slots x y
+  pub below : b < slots
+
+-- the record with its link and its slot
+abbrev pub linked : Record → ℕ → ℕ → Record
+linked r q b = record { tag = r .tag; a = r .a; b = r .b; c = r .c; d = r .d; e = r .e; f = r .f; g = r .g; h = r .h; i = r .i; j = q; k = b }
+
+-- record c is written with its link and its slot, and the head of the slot; nothing else
+pub record Entered (w w′ : List ℕ) (at slots c : ℕ) (r : Record) : Type 0 where
+  pub same : Same c w w′
+  pub holds : Holds w′ c (linked r (lastOf (inSlot w (slotOf slots (r .a) (r .b))) c) (slotOf slots (r .a) (r .b)))
+  pub between : (m : ℕ) → c * 12 + 12 ≤ m → m < at → getD w′ m 0 ≡ getD w m 0
+  pub above : (m : ℕ) → at + slots ≤ m → getD w′ m 0 ≡ getD w m 0
+  pub index : Indexed w′ at slots (c + 1)

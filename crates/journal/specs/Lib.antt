@@ -1,0 +1,4 @@
+pub mod Records
+pub mod Logs
+pub mod Index
+pub mod Owned
