@@ -55,6 +55,17 @@ pub record Room (w : List ℕ) (at slots c : ℕ) : Type 0 where
   pub heads : at + slots ≤ length w
   pub narrow : c ≤ 16777216
 
+-- what a search asks, and what a keyed record asks
+pub record Findable (w : List ℕ) (at slots c t : ℕ) : Type 0 where
+  pub room : Room w at slots c
+  pub index : Indexed w at slots c
+  pub key : keyed t ≡ true
+
+pub record Enterable (w : List ℕ) (at slots c : ℕ) (r : Record) : Type 0 where
+  pub room : Room w at slots (c + 1)
+  pub index : Indexed w at slots c
+  pub key : keyed (r .tag) ≡ true
+
 pub record Slotted (slots x y b : ℕ) : Type 0 where
   pub same : b ≡ slotOf slots x y
   pub below : b < slots

@@ -1,0 +1,229 @@
+-- The index is kept by whatever keeps the records and the heads, goes over a record that is not keyed, takes a keyed one at
+-- the head of its slot, and leads a search to the newest record of its key.
+use mathlib.Core.Path.{_≡_, refl, sym, ap, _∙_}
+use mathlib.Core.List.{List}
+use mathlib.Core.Bool.{Bool, true, false}
+use mathlib.Core.Option.{Option, none, some}
+use Prim.Native.Nat.{ℕ, zero, suc, _+_, _*_, _-_, _<_, _≤_, _^_}
+use native.Mathlib.Numerals.{add-one}
+use native.Mathlib.Omega.{arith}
+use lib.ListN.{length, getD, set}
+use lib.Seq.{getD-set-same, getD-set-other}
+use lib.Dec.{eqb}
+use borrow.Author.Tests.{eqb-true, eqb-false}
+use Rattle.journal.specs.declared.Record.{Record}
+use Rattle.journal.specs.Records.{cell, stays, Same, Fixed, Holds, Pushed, SetWord, Paid}
+use Rattle.journal.specs.Logs.{lastOf, newestOf}
+use Rattle.journal.specs.Index.{keyed, slotOf, hit, inSlot, headed, newest, Indexed, Room, Slotted, linked, Entered}
+use Rattle.journal.proofs.Lists.{last-here, last-other, last-low, last-is, last-finer, newest-last, newest-zero}
+use Rattle.journal.proofs.Frame.{steady-tag, steady-first, same-fixed, set-fixed, last-fixed}
+use Rattle.journal.proofs.Keys.{steady-keyed, Hit, hit-is, slot-here, slot-tag, slot-apart, slot-is, slot-stable, head-here, head-far, head-step, head-fixed}
+
+-- ---- no records: the words may be any
+pub index-none : (w : List ℕ) (at slots : ℕ) → 0 < slots → slots ≤ 2 ^ 32 → Indexed w at slots 0
+unfolding lastOf
+index-none w at slots h k = record { some = h; few = k; heads = λ b lb. head-far w b 0 (getD w (at + b) 0) (omega arith); links = λ r lr e. absurd (omega arith); slotted = λ r lr e. absurd (omega arith) }
+
+-- ---- the keyed records and the heads are as they were
+module _ {w w′ : List ℕ} {at slots c : ℕ} (f : Fixed c w w′) (ix : Indexed w at slots c) where
+  was : (r : ℕ) → r < c → keyed (cell w′ r 0) ≡ true → keyed (cell w r 0) ≡ true
+  was r lr e = rw (steady-tag (f .steady r lr)) at e
+
+  fewer : (r : ℕ) → r < c → Fixed r w w′
+  fewer r lr = record { steady = λ k lk. f .steady k (omega arith) }
+
+  pub links-kept : (r : ℕ) → r < c → keyed (cell w′ r 0) ≡ true → cell w′ r 10 ≡ lastOf (inSlot w′ (cell w′ r 11)) r
+  links-kept r lr e =
+      let e′ : keyed (cell w r 0) ≡ true = was r lr e in
+      rw (steady-keyed (f .steady r lr) e′ 10 (omega arith), steady-keyed (f .steady r lr) e′ 11 (omega arith))
+      (ix .links r lr e′ ∙ sym (last-fixed (fewer r lr) (λ u. inSlot u (cell w r 11)) (slot-stable (cell w r 11))))
+
+  pub slots-kept : (r : ℕ) → r < c → keyed (cell w′ r 0) ≡ true → cell w′ r 11 ≡ slotOf slots (cell w′ r 1) (cell w′ r 2)
+  slots-kept r lr e =
+      let e′ : keyed (cell w r 0) ≡ true = was r lr e in
+      rw (steady-keyed (f .steady r lr) e′ 11 (omega arith), steady-first (f .steady r lr) 1 (omega arith), steady-first (f .steady r lr) 2 (omega arith)) (ix .slotted r lr e′)
+
+  pub heads-kept : (b : ℕ) → b < slots → getD w′ (at + b) 0 ≡ getD w (at + b) 0 → headed w′ b c (getD w′ (at + b) 0) ≡ lastOf (inSlot w′ b) c
+  heads-kept b lb h = rw h (head-fixed f b (getD w (at + b) 0) ∙ ix .heads b lb ∙ sym (last-fixed f (λ u. inSlot u b) (slot-stable b)))
+
+  pub index-keep : ((b : ℕ) → b < slots → getD w′ (at + b) 0 ≡ getD w (at + b) 0) → Indexed w′ at slots c
+  index-keep h = record { some = ix .some; few = ix .few; heads = λ b lb. heads-kept b lb (h b lb); links = links-kept; slotted = slots-kept }
+
+-- ---- one record more that is not keyed
+pub index-step : {w : List ℕ} {at slots c : ℕ} → Indexed w at slots c → keyed (cell w c 0) ≡ false → Indexed w at slots (c + 1)
+index-step {w} {at} {slots} {c} ix e = record {
+  some = ix .some;
+  few = ix .few;
+  heads = λ b lb. head-step w b c (getD w (at + b) 0) (slot-tag w b c e) ∙ ix .heads b lb ∙ sym (last-other (inSlot w b) c (slot-tag w b c e));
+  links = λ r lr k. ix .links r (low r lr k) k;
+  slotted = λ r lr k. ix .slotted r (low r lr k) k;
+}
+  where
+    low : (r : ℕ) → r < c + 1 → keyed (cell w r 0) ≡ true → r < c
+    low r lr k = by (eqb r c) refl
+      where
+        by : (t : Bool) → eqb r c ≡ t → r < c
+        by true q =
+            let z : keyed (cell w c 0) ≡ true = rw (eqb-true r c q) at k in
+            let g : false ≡ true = sym e ∙ z in
+            let n : _≡_ {A = ℕ} 0 1 = cc in
+            absurd (omega arith)
+        by false q = let ne : r ≡ c → ⊥ = eqb-false r c q in omega arith
+
+-- ---- what the functions write
+pub index-push : {w w′ : List ℕ} {at slots c : ℕ} {r : Record} → Pushed w w′ c r → c * 12 + 12 ≤ at → keyed (r .tag) ≡ false → Indexed w at slots c → Indexed w′ at slots (c + 1)
+index-push p l e ix = index-step (index-keep (same-fixed (p .same)) ix (λ b lb. p .above _ (omega arith))) (rw (p .holds .at0) e)
+
+-- a word that may change
+pub index-set : {w w′ : List ℕ} {at slots c n j v : ℕ} → SetWord w w′ n j v → j < 12 → stays (cell w n 0) ≤ j → n * 12 + 12 ≤ at → Indexed w at slots c → Indexed w′ at slots c
+index-set s lj st l ix = index-keep (set-fixed _ s lj st) ix (λ b lb. s .other _ (λ e. omega arith))
+
+pub index-paid : {w w′ : List ℕ} {at slots c n : ℕ} → Paid w w′ c n → (c + n) * 12 ≤ at → Indexed w at slots c → Indexed w′ at slots (c + n)
+index-paid {w} {w′} {at} {slots} {c} {n} p l ix = over n (omega arith)
+  where
+    over : (k : ℕ) → k ≤ n → Indexed w′ at slots (c + k)
+    over zero le =
+        let z : c + 0 ≡ c = omega arith in
+        rw z (index-keep (same-fixed (p .same)) ix (λ b lb. p .above (at + b) (omega arith)))
+    over (suc k) le =
+        let z : c + suc k ≡ (c + k) + 1 = omega arith in
+        rw z (index-step (over k (omega arith)) (rw (p .tags (c + k) (omega arith) (omega arith))))
+
+-- a head is a word
+pub head-low : (w : List ℕ) (at slots c : ℕ) → Indexed w at slots c → (b : ℕ) → b < slots → (q : ℕ) → q ≡ headed w b c (getD w (at + b) 0) → q ≤ c
+head-low w at slots c ix b lb q e = omega (arith, e, ix .heads b lb, last-low (inSlot w b) c)
+
+-- ---- a keyed record
+module _ (w : List ℕ) (at slots c : ℕ) (r : Record) (room : Room w at slots (c + 1)) (ix : Indexed w at slots c) (key : keyed (r .tag) ≡ true) (b : ℕ) (sl : Slotted slots (r .a) (r .b) b)
+    (q : ℕ) (hd : q ≡ headed w b c (getD w (at + b) 0)) (w1 : List ℕ) (len : length w1 ≡ length w) (pu : Pushed w w1 c (linked r q b)) where
+  abbrev w2 : List ℕ
+  w2 = set w1 (at + b) c
+
+  keeps : (m : ℕ) → (m ≡ at + b → ⊥) → getD w2 m 0 ≡ getD w1 m 0
+  keeps m ne = getD-set-other w1 (at + b) m c 0 ne
+
+  cells : (n j : ℕ) → n < c + 1 → j < 12 → cell w2 n j ≡ cell w1 n j
+  unfolding cell
+  cells n j ln lj = keeps (n * 12 + j) (λ e. omega (arith, room .records))
+
+  pub enter-link : q ≡ lastOf (inSlot w b) c
+  enter-link = hd ∙ ix .heads b (sl .below)
+
+  enter-same : Same c w w2
+  enter-same = record { keeps = λ n j ln lj. cells n j (omega arith) lj ∙ pu .same .keeps n j ln lj }
+
+  put : (j v : ℕ) → j < 12 → cell w1 c j ≡ v → cell w2 c j ≡ v
+  put j v lj e = cells c j (omega arith) lj ∙ e
+
+  enter-words : Holds w2 c (linked r q b)
+  enter-words = record {
+    at0 = put 0 (r .tag) (omega arith) (pu .holds .at0);
+    at1 = put 1 (r .a) (omega arith) (pu .holds .at1);
+    at2 = put 2 (r .b) (omega arith) (pu .holds .at2);
+    at3 = put 3 (r .c) (omega arith) (pu .holds .at3);
+    at4 = put 4 (r .d) (omega arith) (pu .holds .at4);
+    at5 = put 5 (r .e) (omega arith) (pu .holds .at5);
+    at6 = put 6 (r .f) (omega arith) (pu .holds .at6);
+    at7 = put 7 (r .g) (omega arith) (pu .holds .at7);
+    at8 = put 8 (r .h) (omega arith) (pu .holds .at8);
+    at9 = put 9 (r .i) (omega arith) (pu .holds .at9);
+    at10 = put 10 q (omega arith) (pu .holds .at10);
+    at11 = put 11 b (omega arith) (pu .holds .at11);
+  }
+
+  fx : Fixed c w w2
+  fx = same-fixed enter-same
+
+  keyed2 : keyed (cell w2 c 0) ≡ true
+  keyed2 = rw (enter-words .at0) key
+
+  -- the head of its own slot, and of another
+  enter-heads : (u : ℕ) → u < slots → headed w2 u (c + 1) (getD w2 (at + u) 0) ≡ lastOf (inSlot w2 u) (c + 1)
+  enter-heads u lu = by (eqb u b) refl
+    where
+      by : (t : Bool) → eqb u b ≡ t → headed w2 u (c + 1) (getD w2 (at + u) 0) ≡ lastOf (inSlot w2 u) (c + 1)
+      by true e =
+          let here : inSlot w2 b c ≡ true = slot-here w2 b c keyed2 (enter-words .at11) in
+          rw (eqb-true u b e, getD-set-same w1 (at + b) c 0 (omega (arith, room .heads, sl .below)), last-here (inSlot w2 b) c here) (head-here w2 b (c + 1) c (omega arith) here)
+      by false e =
+          let ne : u ≡ b → ⊥ = eqb-false u b e in
+          let apart : inSlot w2 u c ≡ false = slot-apart w2 u c (λ z. ne (sym z ∙ enter-words .at11)) in
+          let word : getD w2 (at + u) 0 ≡ getD w (at + u) 0 = keeps (at + u) (λ z. ne (omega arith)) ∙ pu .above (at + u) (omega (arith, room .records)) in
+          head-step w2 u c (getD w2 (at + u) 0) apart ∙ heads-kept fx ix u lu word ∙ sym (last-other (inSlot w2 u) c apart)
+
+  enter-index : Indexed w2 at slots (c + 1)
+  enter-index = record { some = ix .some; few = ix .few; heads = enter-heads; links = links; slotted = slotted }
+    where
+      links : (n : ℕ) → n < c + 1 → keyed (cell w2 n 0) ≡ true → cell w2 n 10 ≡ lastOf (inSlot w2 (cell w2 n 11)) n
+      links n ln e = by (eqb n c) refl
+        where
+          by : (t : Bool) → eqb n c ≡ t → cell w2 n 10 ≡ lastOf (inSlot w2 (cell w2 n 11)) n
+          by true z = rw (eqb-true n c z, enter-words .at10, enter-words .at11) (enter-link ∙ sym (last-fixed fx (λ u. inSlot u b) (slot-stable b)))
+          by false z = let ne : n ≡ c → ⊥ = eqb-false n c z in links-kept fx ix n (omega arith) e
+
+      slotted : (n : ℕ) → n < c + 1 → keyed (cell w2 n 0) ≡ true → cell w2 n 11 ≡ slotOf slots (cell w2 n 1) (cell w2 n 2)
+      slotted n ln e = by (eqb n c) refl
+        where
+          by : (t : Bool) → eqb n c ≡ t → cell w2 n 11 ≡ slotOf slots (cell w2 n 1) (cell w2 n 2)
+          by true z = rw (eqb-true n c z, enter-words .at11, enter-words .at1, enter-words .at2) (sl .same)
+          by false z = let ne : n ≡ c → ⊥ = eqb-false n c z in slots-kept fx ix n (omega arith) e
+
+  pub enter-law : Entered w w2 at slots c r
+  enter-law = record {
+    same = enter-same;
+    holds = rw (sym (sl .same), sym enter-link) enter-words;
+    between = λ m l h. keeps m (λ e. omega arith) ∙ pu .above m l;
+    above = λ m l. keeps m (λ e. omega (arith, sl .below)) ∙ pu .above m (omega (arith, room .records));
+    index = enter-index;
+  }
+
+-- ---- the search: where it stands
+pub record Walking (w : List ℕ) (slots c t x y cur : ℕ) : Type 0 where
+  pub low : cur ≤ c
+  pub slot : 0 < cur → inSlot w (slotOf slots x y) (cur - 1) ≡ true
+  pub same : lastOf (hit w t x y) c ≡ lastOf (hit w t x y) cur
+
+module _ (w : List ℕ) (at slots c t x y : ℕ) (ix : Indexed w at slots c) (key : keyed t ≡ true) where
+  abbrev bs : ℕ
+  bs = slotOf slots x y
+
+  hit-slot : (r : ℕ) → r < c → hit w t x y r ≡ true → inSlot w bs r ≡ true
+  hit-slot r lr e =
+      let h : Hit w t x y r = hit-is w t x y r e in
+      let k : keyed (cell w r 0) ≡ true = rw (h .tag) key in
+      slot-here w bs r k (ix .slotted r lr k ∙ rw (h .one, h .two))
+
+  -- down to the newest of the slot
+  down : (n : ℕ) → n ≤ c → lastOf (hit w t x y) n ≡ lastOf (hit w t x y) (lastOf (inSlot w bs) n)
+  down n le = last-finer (inSlot w bs) (hit w t x y) n (λ r lr. hit-slot r (omega arith))
+
+  pub walk-start : (b : ℕ) → Slotted slots x y b → (cur : ℕ) → cur ≡ headed w b c (getD w (at + b) 0) → Walking w slots c t x y cur
+  walk-start b sl cur e =
+      let q : cur ≡ lastOf (inSlot w bs) c = e ∙ ix .heads b (sl .below) ∙ rw (sl .same) in
+      rw q (record { low = last-low (inSlot w bs) c; slot = last-is (inSlot w bs) c; same = down c (omega arith) })
+
+  module _ (cur : ℕ) (u : Walking w slots c t x y cur) where
+    pub walk-none : cur ≤ 0 → newest w t x y c ≡ none
+    unfolding lastOf
+    walk-none le = let e : cur ≡ 0 = omega arith in newest-zero (hit w t x y) c (u .same ∙ rw e)
+
+    module _ (lt : 0 < cur) where
+      up : cur ≡ (cur - 1) + 1
+      up = omega arith
+
+      pub walk-here : hit w t x y (cur - 1) ≡ true → newest w t x y c ≡ some (cur - 1)
+      walk-here e = newest-last (hit w t x y) c (cur - 1) (u .same ∙ ap (lastOf (hit w t x y)) up ∙ last-here (hit w t x y) (cur - 1) e)
+
+      next : (nx : ℕ) → nx ≡ cell w (cur - 1) 10 → nx ≡ lastOf (inSlot w bs) (cur - 1)
+      next nx e = e ∙ ix .links (cur - 1) (omega (arith, u .low)) (slot-is w bs (cur - 1) (u .slot lt) .0) ∙ rw (slot-is w bs (cur - 1) (u .slot lt) .1)
+
+      pub walk-less : (nx : ℕ) → nx ≡ cell w (cur - 1) 10 → nx < cur
+      walk-less nx e = omega (arith, next nx e, last-low (inSlot w bs) (cur - 1))
+
+      pub walk-next : (nx : ℕ) → nx ≡ cell w (cur - 1) 10 → hit w t x y (cur - 1) ≡ false → Walking w slots c t x y nx
+      walk-next nx e f =
+          rw (next nx e) (record {
+            low = omega (arith, last-low (inSlot w bs) (cur - 1), u .low);
+            slot = last-is (inSlot w bs) (cur - 1);
+            same = u .same ∙ ap (lastOf (hit w t x y)) up ∙ last-other (hit w t x y) (cur - 1) f ∙ down (cur - 1) (omega (arith, u .low));
+          })

@@ -1,0 +1,176 @@
+-- What the tests of keyed records say, and that they read only words that never change.
+use mathlib.Core.Path.{_≡_, refl, sym, ap, _∙_}
+use mathlib.Core.List.{List}
+use mathlib.Core.Bool.{Bool, true, false}
+use Prim.Native.Nat.{ℕ, suc, _+_, _*_, _%_, _<_, _≤_}
+use native.Mathlib.Nat.{mod-lt}
+use native.Mathlib.Numerals.{add-one}
+use native.Mathlib.Omega.{arith}
+use lib.ListN.{getD}
+use lib.Dec.{eqb, ltb}
+use borrow.Author.Tests.{eq-eqb, ne-eqb, eqb-true, eqb-false, lt-ltb, le-ltb, ltb-true, ltb-false}
+use Rattle.ast.specs.Choice.{choose}
+use Rattle.journal.specs.Records.{tagMap, tagExtern, cell, stays, Steady, Fixed}
+use Rattle.journal.specs.Index.{keyed, slotOf, hit, inSlot, headed, Slotted}
+use Rattle.journal.proofs.Frame.{stays-all, steady-tag, steady-first, Stable}
+
+pub slot-law : (n x y a b : ℕ) → a ≡ x → b ≡ y → 0 < n → Slotted n x y ((a * 61 + b) % n)
+unfolding slotOf
+slot-law n x y a b ea eb h = record { same = rw (ea, eb); below = mod-lt (a * 61 + b) h }
+
+-- ---- tags
+pub keyed-low : (t : ℕ) → keyed t ≡ true → t ≤ 2
+keyed-low t e = by (eqb t tagMap) refl e
+  where
+    by : (u : Bool) → eqb t tagMap ≡ u → choose u true (eqb t tagExtern) ≡ true → t ≤ 2
+    by true q f = omega (arith, eqb-true t tagMap q)
+    by false q f = omega (arith, eqb-true t tagExtern f)
+
+pub unkeyed : (t : ℕ) → (t ≡ tagMap → ⊥) → (t ≡ tagExtern → ⊥) → keyed t ≡ false
+unkeyed t a b = rw (ne-eqb t tagMap a, ne-eqb t tagExtern b)
+
+pub keyed-map : (t : ℕ) → t ≡ tagMap → true ≡ keyed t
+keyed-map t e = rw (eq-eqb t tagMap e)
+
+pub keyed-else : (t : ℕ) → (t ≡ tagMap → ⊥) → eqb t tagExtern ≡ keyed t
+keyed-else t ne = rw (ne-eqb t tagMap ne)
+
+-- all words of a keyed record stay
+pub steady-keyed : {r : ℕ} {w w′ : List ℕ} → Steady r w w′ → keyed (cell w r 0) ≡ true → (j : ℕ) → j < 12 → cell w′ r j ≡ cell w r j
+steady-keyed {r} {w} s e j lj =
+    let l : cell w r 0 ≤ 2 = keyed-low (cell w r 0) e in
+    s .keeps j (rw (stays-all (cell w r 0) (λ q. omega arith) (λ q. omega arith) (λ q. omega arith)) lj)
+
+-- ---- the key of a record
+pub record Hit (w : List ℕ) (t x y r : ℕ) : Type 0 where
+  pub tag : cell w r 0 ≡ t
+  pub one : cell w r 1 ≡ x
+  pub two : cell w r 2 ≡ y
+
+pub hit-is : (w : List ℕ) (t x y r : ℕ) → hit w t x y r ≡ true → Hit w t x y r
+unfolding hit
+hit-is w t x y r e = by (eqb (cell w r 0) t) refl (eqb (cell w r 1) x) refl e
+  where
+    by : (u : Bool) → eqb (cell w r 0) t ≡ u → (v : Bool) → eqb (cell w r 1) x ≡ v → choose u (choose v (eqb (cell w r 2) y) false) false ≡ true → Hit w t x y r
+    by true p true q f = record { tag = eqb-true (cell w r 0) t p; one = eqb-true (cell w r 1) x q; two = eqb-true (cell w r 2) y f }
+    by true p false q f = let z : _≡_ {A = ℕ} 0 1 = cc in absurd (omega arith)
+    by false p v q f = let z : _≡_ {A = ℕ} 0 1 = cc in absurd (omega arith)
+
+pub hit-here : (w : List ℕ) (t x y r : ℕ) → cell w r 0 ≡ t → cell w r 1 ≡ x → cell w r 2 ≡ y → hit w t x y r ≡ true
+unfolding hit
+hit-here w t x y r a b c = rw (eq-eqb (cell w r 0) t a, eq-eqb (cell w r 1) x b, eq-eqb (cell w r 2) y c)
+
+pub hit-tag : (w : List ℕ) (t x y r : ℕ) → (cell w r 0 ≡ t → ⊥) → hit w t x y r ≡ false
+unfolding hit
+hit-tag w t x y r ne = rw (ne-eqb (cell w r 0) t ne)
+
+pub hit-one : (w : List ℕ) (t x y r : ℕ) → (cell w r 1 ≡ x → ⊥) → hit w t x y r ≡ false
+unfolding hit
+hit-one w t x y r ne = rw (ne-eqb (cell w r 1) x ne) (by (eqb (cell w r 0) t))
+  where
+    by : (u : Bool) → choose u false false ≡ false
+    by true = refl
+    by false = refl
+
+pub hit-two : (w : List ℕ) (t x y r : ℕ) → (cell w r 2 ≡ y → ⊥) → hit w t x y r ≡ false
+unfolding hit
+hit-two w t x y r ne = rw (ne-eqb (cell w r 2) y ne) (by (eqb (cell w r 0) t) (eqb (cell w r 1) x))
+  where
+    by : (u v : Bool) → choose u (choose v false false) false ≡ false
+    by true true = refl
+    by true false = refl
+    by false v = refl
+
+-- the last test decides
+pub hit-law : (w : List ℕ) (t x y r a b c : ℕ) → a ≡ cell w r 0 → a ≡ t → b ≡ cell w r 1 → b ≡ x → c ≡ cell w r 2 → eqb c y ≡ hit w t x y r
+unfolding hit
+hit-law w t x y r a b c ea et eb ex ec = rw (ec, eq-eqb (cell w r 0) t (sym ea ∙ et), eq-eqb (cell w r 1) x (sym eb ∙ ex))
+
+pub hit-stable : (t x y : ℕ) → Stable (λ w. hit w t x y)
+unfolding hit
+hit-stable t x y = record { same = λ r w w′ s. rw (steady-tag s, steady-first s 1 (omega arith), steady-first s 2 (omega arith)) }
+
+-- ---- the slot of a record
+pub slot-here : (w : List ℕ) (b r : ℕ) → keyed (cell w r 0) ≡ true → cell w r 11 ≡ b → inSlot w b r ≡ true
+unfolding inSlot
+slot-here w b r e f = rw (e, eq-eqb (cell w r 11) b f)
+
+pub slot-tag : (w : List ℕ) (b r : ℕ) → keyed (cell w r 0) ≡ false → inSlot w b r ≡ false
+unfolding inSlot
+slot-tag w b r e = rw e
+
+pub slot-apart : (w : List ℕ) (b r : ℕ) → (cell w r 11 ≡ b → ⊥) → inSlot w b r ≡ false
+unfolding inSlot
+slot-apart w b r ne = rw (ne-eqb (cell w r 11) b ne) (by (keyed (cell w r 0)))
+  where
+    by : (u : Bool) → choose u false false ≡ false
+    by true = refl
+    by false = refl
+
+pub slot-is : (w : List ℕ) (b r : ℕ) → inSlot w b r ≡ true → (keyed (cell w r 0) ≡ true) × (cell w r 11 ≡ b)
+unfolding inSlot
+slot-is w b r e = by (keyed (cell w r 0)) refl e
+  where
+    by : (u : Bool) → keyed (cell w r 0) ≡ u → choose u (eqb (cell w r 11) b) false ≡ true → (keyed (cell w r 0) ≡ true) × (cell w r 11 ≡ b)
+    by true q f = (q, eqb-true (cell w r 11) b f)
+    by false q f = let z : _≡_ {A = ℕ} 0 1 = cc in absurd (omega arith)
+
+pub slot-stable : (b : ℕ) → Stable (λ w. inSlot w b)
+unfolding inSlot
+slot-stable b = record { same = λ r w w′ s. rw (steady-tag s) (by (keyed (cell w r 0)) (cell w′ r 11) (cell w r 11) (λ e. steady-keyed s e 11 (omega arith))) }
+  where
+    by : (u : Bool) (x y : ℕ) → (u ≡ true → x ≡ y) → choose u (eqb x b) false ≡ choose u (eqb y b) false
+    by true x y h = rw (h refl)
+    by false x y h = refl
+
+-- ---- a word as a head
+pub head-far : (w : List ℕ) (b c x : ℕ) → c ≤ x → headed w b c x ≡ 0
+unfolding headed
+head-far w b c x le = rw (le-ltb x c le)
+
+pub head-not : (w : List ℕ) (b c x : ℕ) → inSlot w b x ≡ false → headed w b c x ≡ 0
+unfolding headed
+head-not w b c x e = rw e (by (ltb x c))
+  where
+    by : (u : Bool) → _≡_ {A = ℕ} (choose u 0 0) 0
+    by true = refl
+    by false = refl
+
+pub head-here : (w : List ℕ) (b c x : ℕ) → x < c → inSlot w b x ≡ true → headed w b c x ≡ suc x
+unfolding headed
+head-here w b c x lt e = rw (lt-ltb x c lt, e)
+
+-- one record more, that is not of the slot
+pub head-step : (w : List ℕ) (b c x : ℕ) → inSlot w b c ≡ false → headed w b (c + 1) x ≡ headed w b c x
+head-step w b c x e = by (ltb x c) refl (inSlot w b x) refl
+  where
+    by : (u : Bool) → ltb x c ≡ u → (v : Bool) → inSlot w b x ≡ v → headed w b (c + 1) x ≡ headed w b c x
+    by u p false q = head-not w b (c + 1) x q ∙ sym (head-not w b c x q)
+    by true p true q = let l : x < c = ltb-true x c p in head-here w b (c + 1) x (omega arith) q ∙ sym (head-here w b c x l q)
+    by false p true q =
+        let l : c ≤ x = ltb-false x c p in
+        let ne : x ≡ c → ⊥ = λ z. let f : inSlot w b c ≡ true = rw z at q in let g : false ≡ true = sym e ∙ f in let k : _≡_ {A = ℕ} 0 1 = cc in omega arith in
+        head-far w b (c + 1) x (omega arith) ∙ sym (head-far w b c x l)
+
+pub head-fixed : {c : ℕ} {w w′ : List ℕ} → Fixed c w w′ → (b x : ℕ) → headed w′ b c x ≡ headed w b c x
+unfolding headed
+head-fixed {c} {w} {w′} f b x = by (ltb x c) refl
+  where
+    by : (u : Bool) → ltb x c ≡ u → choose u (choose (inSlot w′ b x) (suc x) 0) 0 ≡ choose u (choose (inSlot w b x) (suc x) 0) 0
+    by true p = rw (slot-stable b .same x w w′ (f .steady x (ltb-true x c p)))
+    by false p = refl
+
+-- what the word v at a head gives, test by test
+module _ (w : List ℕ) (b c x v : ℕ) (e : x ≡ v) where
+  pub word-far : c ≤ x → 0 ≡ headed w b c v
+  word-far le = rw (← e) (sym (head-far w b c x le))
+
+  module _ (t s : ℕ) (et : t ≡ cell w x 0) (es : s ≡ cell w x 11) where
+    pub word-apart : (s ≡ b → ⊥) → 0 ≡ headed w b c v
+    word-apart ne = rw (← e) (sym (head-not w b c x (slot-apart w b x (λ q. ne (es ∙ q)))))
+
+    pub word-here : x < c → keyed t ≡ true → s ≡ b → x + 1 ≡ headed w b c v
+    word-here lt k q = rw (← e) (add-one x ∙ sym (head-here w b c x lt (slot-here w b x (rw et at k) (sym es ∙ q))))
+
+  pub word-tag : (t : ℕ) → t ≡ cell w x 0 → keyed t ≡ false → 0 ≡ headed w b c v
+  word-tag t et k = rw (← e) (sym (head-not w b c x (slot-tag w b x (rw et at k))))

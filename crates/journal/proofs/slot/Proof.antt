@@ -1,0 +1,29 @@
+-- Written by `needs write`, from answers.txt: edit that. The proof.
+use borrow.Author.Needs.{needs}
+use Rattle.journal.proofs.slot.Statement.{statement}
+use Rattle.journal.proofs.slot.Tie as tie
+use Rattle.journal.proofs.slot.Reads as reads
+use Rattle.journal.proofs.slot.Lts as lts
+use Rattle.journal.proofs.wide.Reads as wide-reads
+use Rattle.journal.proofs.Keys.{slot-law}
+
+wide-requires : tie.Need-wide-requires
+wide-requires c κs = search needs
+
+mul-result : tie.Need-mul-result
+mul-result c = search needs
+
+wide-requires-2 : tie.Need-wide-requires-2
+wide-requires-2 c κs = search needs
+
+add-result : tie.Need-add-result
+add-result c = search needs
+
+rem-result : tie.Need-rem-result
+rem-result c = search needs
+
+returns : tie.Need-returns
+returns c = slot-law _ _ _ _ _ (c .before .wide .ensures .same) (c .wide2 .ensures .same) (c .before .before .pre)
+
+pub slot-spec : {M : Type 1} → statement M
+slot-spec = tie.close (tie.spec wide-requires mul-result wide-requires-2 add-result rem-result returns)
