@@ -1,15 +1,15 @@
 -- Words that are written: one word, a record, a run of charges.
-use mathlib.Core.Path.{_≡_, refl, sym, _∙_}
+use mathlib.Core.Path.{_≡_, refl, _∙_}
 use mathlib.Core.Bool.{Bool, true, false}
 use mathlib.Core.List.{List}
-use Prim.Native.Nat.{ℕ, _+_, _*_, _-_, _<_, _≤_}
+use Prim.Native.Nat.{ℕ, _+_, _*_, _<_, _≤_}
 use native.Mathlib.Omega.{arith}
 use lib.ListN.{length, getD, set, length-set}
 use lib.Seq.{getD-set-same, getD-set-other}
 use lib.Dec.{eqb}
 use borrow.Author.Tests.{eqb-true, eqb-false}
 use Rattle.journal.specs.declared.Record.{Record}
-use Rattle.journal.specs.Records.{tagPaid, cell, Same, Holds, Pushed, SetWord, Paid}
+use Rattle.journal.specs.Records.{tagPaid, cell, Holds, Pushed, SetWord, Paid}
 
 -- one word
 pub set-law : (w : List ℕ) (n j v : ℕ) → n * 12 + 12 ≤ length w → j < 12 → SetWord w (set w (n * 12 + j) v) n j v
@@ -129,6 +129,23 @@ module _ (w : List ℕ) (n : ℕ) (r : Record) (len : n * 12 + 12 ≤ length w) 
   pub push-law : Pushed w s11 n r
   unfolding cell
   push-law = record { same = record { keeps = λ q j lq lj. over0 (q * 12 + j) (λ a b. omega arith) }; holds = holds; above = λ m le. over0 m (λ a b. omega arith) }
+
+-- a record whose words are kept
+pub holds-kept : {w w′ : List ℕ} {n : ℕ} {r : Record} → ((j : ℕ) → j < 12 → cell w′ n j ≡ cell w n j) → Holds w n r → Holds w′ n r
+holds-kept k h = record {
+  at0 = k 0 (omega arith) ∙ h .at0;
+  at1 = k 1 (omega arith) ∙ h .at1;
+  at2 = k 2 (omega arith) ∙ h .at2;
+  at3 = k 3 (omega arith) ∙ h .at3;
+  at4 = k 4 (omega arith) ∙ h .at4;
+  at5 = k 5 (omega arith) ∙ h .at5;
+  at6 = k 6 (omega arith) ∙ h .at6;
+  at7 = k 7 (omega arith) ∙ h .at7;
+  at8 = k 8 (omega arith) ∙ h .at8;
+  at9 = k 9 (omega arith) ∙ h .at9;
+  at10 = k 10 (omega arith) ∙ h .at10;
+  at11 = k 11 (omega arith) ∙ h .at11;
+}
 
 -- charges that keep nothing: none yet, and one more
 pub paid-start : (w : List ℕ) (n : ℕ) → Paid w w n 0

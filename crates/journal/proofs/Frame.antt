@@ -2,48 +2,46 @@
 use mathlib.Core.Path.{_≡_, refl, sym, ap, _∙_}
 use mathlib.Core.List.{List, [], _∷_, _++_, append-nil}
 use mathlib.Core.Bool.{Bool, true, false}
-use mathlib.Core.Option.{Option}
-use Prim.Native.Nat.{ℕ, zero, suc, _+_, _*_, _<_, _≤_}
+use mathlib.Core.Option.{some}
+use Prim.Native.Nat.{ℕ, _+_, _<_, _≤_}
 use native.Mathlib.Omega.{arith}
-use lib.ListN.{getD}
 use lib.Dec.{eqb}
-use borrow.Author.Tests.{ne-eqb, eqb-true, eqb-false}
+use borrow.Author.Tests.{ne-eqb}
 use Rattle.ast.specs.Choice.{choose}
-use Rattle.journal.specs.declared.Record.{Record}
-use Rattle.journal.specs.Records.{tagPaid, tagNode, tagScope, tagRoute, cell, stays, Same, Steady, Fixed, Pushed, SetWord, Paid}
+use Rattle.journal.specs.Records.{tagPaid, tagNode, tagScope, tagRoute, cell, stays, Same, Steady, Fixed, SetWord, Paid}
 use Rattle.journal.specs.Logs.{lastOf, newestOf, countOf, scan, logUp, logDown, only}
 use Rattle.journal.proofs.Cells.{set-cell}
-use Rattle.journal.proofs.Lists.{last-same, newest-same, count-same, scan-same, up-same, down-same, up-one, down-one, only-here, only-other, up-span, down-span}
+use Rattle.journal.proofs.Lists.{last-same, newest-same, newest-here, newest-other, newest-span, count-same, count-here, count-other, count-span, scan-same, scan-low, scan-push, up-same, down-same, up-one, down-one, only-here, only-other, up-span, down-span}
 
 -- ---- how many words stay, by the tag
 pub stays-all : (t : ℕ) → (t ≡ tagNode → ⊥) → (t ≡ tagScope → ⊥) → (t ≡ tagRoute → ⊥) → stays t ≡ 12
 stays-all t a b c = rw (ne-eqb t tagNode a, ne-eqb t tagScope b, ne-eqb t tagRoute c)
 
 pub stays-least : (t : ℕ) → 3 ≤ stays t
-stays-least t = by (eqb t tagNode) (eqb t tagScope) (eqb t tagRoute)
+stays-least t = by (eqb t tagNode) refl (eqb t tagScope) refl (eqb t tagRoute) refl
   where
-    by : (x y z : Bool) → 3 ≤ choose x 3 (choose y 9 (choose z 10 12))
-    by true y z = omega arith
-    by false true z = omega arith
-    by false false true = omega arith
-    by false false false = omega arith
+    by : (x : Bool) → eqb t tagNode ≡ x → (y : Bool) → eqb t tagScope ≡ y → (z : Bool) → eqb t tagRoute ≡ z → 3 ≤ stays t
+    by true a y b z c = rw a (omega arith)
+    by false a true b z c = rw (a, b) (omega arith)
+    by false a false b true c = rw (a, b, c) (omega arith)
+    by false a false b false c = rw (a, b, c) (omega arith)
 
 pub stays-most : (t : ℕ) → stays t ≤ 12
-stays-most t = by (eqb t tagNode) (eqb t tagScope) (eqb t tagRoute)
+stays-most t = by (eqb t tagNode) refl (eqb t tagScope) refl (eqb t tagRoute) refl
   where
-    by : (x y z : Bool) → choose x 3 (choose y 9 (choose z 10 12)) ≤ 12
-    by true y z = omega arith
-    by false true z = omega arith
-    by false false true = omega arith
-    by false false false = omega arith
+    by : (x : Bool) → eqb t tagNode ≡ x → (y : Bool) → eqb t tagScope ≡ y → (z : Bool) → eqb t tagRoute ≡ z → stays t ≤ 12
+    by true a y b z c = rw a (omega arith)
+    by false a true b z c = rw (a, b) (omega arith)
+    by false a false b true c = rw (a, b, c) (omega arith)
+    by false a false b false c = rw (a, b, c) (omega arith)
 
 -- all but a node's and a scope's keep ten
 pub stays-ten : (t : ℕ) → (t ≡ tagNode → ⊥) → (t ≡ tagScope → ⊥) → 10 ≤ stays t
-stays-ten t a b = rw (ne-eqb t tagNode a, ne-eqb t tagScope b) (by (eqb t tagRoute))
+stays-ten t a b = by (eqb t tagRoute) refl
   where
-    by : (z : Bool) → 10 ≤ choose z 10 12
-    by true = omega arith
-    by false = omega arith
+    by : (z : Bool) → eqb t tagRoute ≡ z → 10 ≤ stays t
+    by true c = rw (ne-eqb t tagNode a, ne-eqb t tagScope b, c) (omega arith)
+    by false c = rw (ne-eqb t tagNode a, ne-eqb t tagScope b, c) (omega arith)
 
 -- ---- a record whose words that never change are the same
 module _ {r : ℕ} {w w′ : List ℕ} (s : Steady r w w′) where
@@ -114,6 +112,14 @@ module _ {A : Type 0} {p : List ℕ → ℕ → Bool} {d : List ℕ → ℕ → 
       by true x y h = rw (h refl)
       by false x y h = refl
 
+-- a word that is read only where a test passes
+pub stable-guard : {A : Type 0} {p : List ℕ → ℕ → Bool} {g : List ℕ → ℕ → A} (z : A) → Stable p → StableOn p g → Stable (λ w r. choose (p w r) (g w r) z)
+stable-guard {A} {p} {g} z sp sg = record { same = λ r w w′ s. rw (sp .same r w w′ s) (by (p w r) (g w′ r) (g w r) (sg .same r w w′ s)) }
+  where
+    by : (t : Bool) (x y : A) → (t ≡ true → x ≡ y) → choose t x z ≡ choose t y z
+    by true x y h = h refl
+    by false x y h = refl
+
 module _ {c : ℕ} {w w′ : List ℕ} (f : Fixed c w w′) where
   pub last-fixed : (p : List ℕ → ℕ → Bool) → Stable p → lastOf (p w′) c ≡ lastOf (p w) c
   last-fixed p s = last-same (p w) (p w′) c (λ r lr. s .same r w w′ (f .steady r lr))
@@ -123,6 +129,20 @@ module _ {c : ℕ} {w w′ : List ℕ} (f : Fixed c w w′) where
 
   pub count-fixed : (p : List ℕ → ℕ → Bool) → Stable p → countOf (p w′) c ≡ countOf (p w) c
   count-fixed p s = count-same (p w) (p w′) c (λ r lr. s .same r w w′ (f .steady r lr))
+
+  -- one record more, that passes or does not
+  module _ (p : List ℕ → ℕ → Bool) (s : Stable p) where
+    pub newest-new : p w′ c ≡ true → newestOf (p w′) (c + 1) ≡ some c
+    newest-new e = newest-here (p w′) c e
+
+    pub newest-kept : p w′ c ≡ false → newestOf (p w′) (c + 1) ≡ newestOf (p w) c
+    newest-kept e = newest-other (p w′) c e ∙ newest-fixed p s
+
+    pub count-new : p w′ c ≡ true → countOf (p w′) (c + 1) ≡ countOf (p w) c + 1
+    count-new e = count-here (p w′) c e ∙ rw (count-fixed p s)
+
+    pub count-kept : p w′ c ≡ false → countOf (p w′) (c + 1) ≡ countOf (p w) c
+    count-kept e = count-other (p w′) c e ∙ count-fixed p s
 
   module _ {A : Type 0} where
     pub up-fixed : (g : List ℕ → ℕ → List A) → Stable g → logUp (g w′) c ≡ logUp (g w) c
@@ -147,7 +167,30 @@ module _ {c : ℕ} {w w′ : List ℕ} (f : Fixed c w w′) where
     pub down-kept : (g : List ℕ → ℕ → List A) → Stable g → g w′ c ≡ [] → logDown (g w′) (c + 1) ≡ logDown (g w) c
     down-kept g s e = down-grown g s ∙ rw e
 
+    -- the records that pass a test
+    module _ (p : List ℕ → ℕ → Bool) (d : List ℕ → ℕ → A) (sp : Stable p) (sd : StableOn p d) where
+      pub only-new : p w′ c ≡ true → logUp (only (p w′) (d w′)) (c + 1) ≡ logUp (only (p w) (d w)) c ++ (d w′ c ∷ [])
+      only-new e = up-grown (λ u. only (p u) (d u)) (stable-only sp sd) ∙ rw (only-here (p w′) (d w′) c e)
+
+      pub only-kept : p w′ c ≡ false → logUp (only (p w′) (d w′)) (c + 1) ≡ logUp (only (p w) (d w)) c
+      only-kept e = up-kept (λ u. only (p u) (d u)) (stable-only sp sd) (only-other (p w′) (d w′) c e)
+
+    -- a chain whose last record is below, and one with a record more
+    module _ (d : List ℕ → ℕ → A) (prev : List ℕ → ℕ → ℕ) (s : Stable d) (t : Stable prev) where
+      pub chain-fixed : (h : ℕ) → h ≤ c → scan (d w′) (prev w′) h h ≡ scan (d w) (prev w) h h
+      chain-fixed h le = scan-same (d w) (d w′) (prev w) (prev w′) h h (λ r lr. s .same r w w′ (f .steady r (omega arith))) (λ r lr. t .same r w w′ (f .steady r (omega arith)))
+
+      pub chain-new : (h : ℕ) → prev w′ c ≡ h → h ≤ c → scan (d w′) (prev w′) (c + 1) (c + 1) ≡ d w′ c ∷ scan (d w) (prev w) h h
+      chain-new h e le = scan-push (d w′) (prev w′) c ∙ rw (e, scan-low (d w′) (prev w′) c h le, chain-fixed h le)
+
 -- charges that keep nothing
+module _ {w w′ : List ℕ} {c n : ℕ} (q : Paid w w′ c n) (p : List ℕ → ℕ → Bool) (s : Stable p) (none : (r : ℕ) → cell w′ r 0 ≡ tagPaid → p w′ r ≡ false) where
+  pub newest-paid : newestOf (p w′) (c + n) ≡ newestOf (p w) c
+  newest-paid = newest-span (p w′) c n (λ r l h. none r (q .tags r l h)) ∙ newest-fixed (same-fixed (q .same)) p s
+
+  pub count-paid : countOf (p w′) (c + n) ≡ countOf (p w) c
+  count-paid = count-span (p w′) c n (λ r l h. none r (q .tags r l h)) ∙ count-fixed (same-fixed (q .same)) p s
+
 module _ {A : Type 0} {w w′ : List ℕ} {c n : ℕ} (p : Paid w w′ c n) (g : List ℕ → ℕ → List A) (s : Stable g) (none : (r : ℕ) → cell w′ r 0 ≡ tagPaid → g w′ r ≡ []) where
   pub up-paid : logUp (g w′) (c + n) ≡ logUp (g w) c
   up-paid = up-span (g w′) c n (λ r l h. none r (p .tags r l h)) ∙ up-fixed (same-fixed (p .same)) g s

@@ -3,9 +3,8 @@
 use mathlib.Core.Path.{_≡_, refl, sym, ap, _∙_}
 use mathlib.Core.List.{List}
 use mathlib.Core.Bool.{Bool, true, false}
-use mathlib.Core.Option.{Option, none, some}
+use mathlib.Core.Option.{none, some}
 use Prim.Native.Nat.{ℕ, zero, suc, _+_, _*_, _-_, _<_, _≤_, _^_}
-use native.Mathlib.Numerals.{add-one}
 use native.Mathlib.Omega.{arith}
 use lib.ListN.{length, getD, set}
 use lib.Seq.{getD-set-same, getD-set-other}
@@ -13,8 +12,9 @@ use lib.Dec.{eqb}
 use borrow.Author.Tests.{eqb-true, eqb-false}
 use Rattle.journal.specs.declared.Record.{Record}
 use Rattle.journal.specs.Records.{cell, stays, Same, Fixed, Holds, Pushed, SetWord, Paid}
-use Rattle.journal.specs.Logs.{lastOf, newestOf}
+use Rattle.journal.specs.Logs.{lastOf}
 use Rattle.journal.specs.Index.{keyed, slotOf, hit, inSlot, headed, newest, Indexed, Room, Slotted, linked, Entered}
+use Rattle.journal.proofs.Cells.{holds-kept}
 use Rattle.journal.proofs.Lists.{last-here, last-other, last-low, last-is, last-finer, newest-last, newest-zero}
 use Rattle.journal.proofs.Frame.{steady-tag, steady-first, same-fixed, set-fixed, last-fixed}
 use Rattle.journal.proofs.Keys.{steady-keyed, Hit, hit-is, slot-here, slot-tag, slot-apart, slot-is, slot-stable, head-here, head-far, head-step, head-fixed}
@@ -89,9 +89,12 @@ index-paid {w} {w′} {at} {slots} {c} {n} p l ix = over n (omega arith)
         let z : c + suc k ≡ (c + k) + 1 = omega arith in
         rw z (index-step (over k (omega arith)) (rw (p .tags (c + k) (omega arith) (omega arith))))
 
--- a head is a word
-pub head-low : (w : List ℕ) (at slots c : ℕ) → Indexed w at slots c → (b : ℕ) → b < slots → (q : ℕ) → q ≡ headed w b c (getD w (at + b) 0) → q ≤ c
-head-low w at slots c ix b lb q e = omega (arith, e, ix .heads b lb, last-low (inSlot w b) c)
+-- ---- room for fewer records, and in a slice as long
+pub room-less : {w : List ℕ} {at slots c k : ℕ} → c ≤ k → Room w at slots k → Room w at slots c
+room-less le r = record { records = omega (arith, r .records); heads = r .heads; narrow = omega (arith, r .narrow) }
+
+pub room-same : {w w′ : List ℕ} {at slots c : ℕ} → length w′ ≡ length w → Room w at slots c → Room w′ at slots c
+room-same e r = record { records = r .records; heads = rw e (r .heads); narrow = r .narrow }
 
 -- ---- a keyed record
 module _ (w : List ℕ) (at slots c : ℕ) (r : Record) (room : Room w at slots (c + 1)) (ix : Indexed w at slots c) (key : keyed (r .tag) ≡ true) (b : ℕ) (sl : Slotted slots (r .a) (r .b) b)
@@ -112,24 +115,8 @@ module _ (w : List ℕ) (at slots c : ℕ) (r : Record) (room : Room w at slots 
   enter-same : Same c w w2
   enter-same = record { keeps = λ n j ln lj. cells n j (omega arith) lj ∙ pu .same .keeps n j ln lj }
 
-  put : (j v : ℕ) → j < 12 → cell w1 c j ≡ v → cell w2 c j ≡ v
-  put j v lj e = cells c j (omega arith) lj ∙ e
-
   enter-words : Holds w2 c (linked r q b)
-  enter-words = record {
-    at0 = put 0 (r .tag) (omega arith) (pu .holds .at0);
-    at1 = put 1 (r .a) (omega arith) (pu .holds .at1);
-    at2 = put 2 (r .b) (omega arith) (pu .holds .at2);
-    at3 = put 3 (r .c) (omega arith) (pu .holds .at3);
-    at4 = put 4 (r .d) (omega arith) (pu .holds .at4);
-    at5 = put 5 (r .e) (omega arith) (pu .holds .at5);
-    at6 = put 6 (r .f) (omega arith) (pu .holds .at6);
-    at7 = put 7 (r .g) (omega arith) (pu .holds .at7);
-    at8 = put 8 (r .h) (omega arith) (pu .holds .at8);
-    at9 = put 9 (r .i) (omega arith) (pu .holds .at9);
-    at10 = put 10 q (omega arith) (pu .holds .at10);
-    at11 = put 11 b (omega arith) (pu .holds .at11);
-  }
+  enter-words = holds-kept (λ j lj. cells c j (omega arith) lj) (pu .holds)
 
   fx : Fixed c w w2
   fx = same-fixed enter-same

@@ -1,5 +1,5 @@
 -- What the tests of keyed records say, and that they read only words that never change.
-use mathlib.Core.Path.{_≡_, refl, sym, ap, _∙_}
+use mathlib.Core.Path.{_≡_, refl, sym, _∙_}
 use mathlib.Core.List.{List}
 use mathlib.Core.Bool.{Bool, true, false}
 use Prim.Native.Nat.{ℕ, suc, _+_, _*_, _%_, _<_, _≤_}
@@ -8,10 +8,10 @@ use native.Mathlib.Numerals.{add-one}
 use native.Mathlib.Omega.{arith}
 use lib.ListN.{getD}
 use lib.Dec.{eqb, ltb}
-use borrow.Author.Tests.{eq-eqb, ne-eqb, eqb-true, eqb-false, lt-ltb, le-ltb, ltb-true, ltb-false}
+use borrow.Author.Tests.{eq-eqb, ne-eqb, eqb-true, lt-ltb, le-ltb, ltb-true, ltb-false}
 use Rattle.ast.specs.Choice.{choose}
-use Rattle.journal.specs.Records.{tagMap, tagExtern, cell, stays, Steady, Fixed}
-use Rattle.journal.specs.Index.{keyed, slotOf, hit, inSlot, headed, Slotted}
+use Rattle.journal.specs.Records.{tagMap, tagExtern, cell, Steady, Fixed}
+use Rattle.journal.specs.Index.{keyed, slotOf, hit, inSlot, headed, Slotted, Headed}
 use Rattle.journal.proofs.Frame.{stays-all, steady-tag, steady-first, Stable}
 
 pub slot-law : (n x y a b : ℕ) → a ≡ x → b ≡ y → 0 < n → Slotted n x y ((a * 61 + b) % n)
@@ -160,17 +160,17 @@ head-fixed {c} {w} {w′} f b x = by (ltb x c) refl
     by true p = rw (slot-stable b .same x w w′ (f .steady x (ltb-true x c p)))
     by false p = refl
 
--- what the word v at a head gives, test by test
-module _ (w : List ℕ) (b c x v : ℕ) (e : x ≡ v) where
-  pub word-far : c ≤ x → 0 ≡ headed w b c v
-  word-far le = rw (← e) (sym (head-far w b c x le))
+-- what the word at a head gives, test by test
+module _ (w : List ℕ) (at b c x : ℕ) (e : x ≡ getD w (at + b) 0) where
+  pub word-far : c ≤ x → Headed w at b c 0
+  word-far le = record { same = rw (← e) (sym (head-far w b c x le)); low = omega arith }
 
-  module _ (t s : ℕ) (et : t ≡ cell w x 0) (es : s ≡ cell w x 11) where
-    pub word-apart : (s ≡ b → ⊥) → 0 ≡ headed w b c v
-    word-apart ne = rw (← e) (sym (head-not w b c x (slot-apart w b x (λ q. ne (es ∙ q)))))
+  pub word-tag : (t : ℕ) → t ≡ cell w x 0 → keyed t ≡ false → Headed w at b c 0
+  word-tag t et k = record { same = rw (← e) (sym (head-not w b c x (slot-tag w b x (rw et at k)))); low = omega arith }
 
-    pub word-here : x < c → keyed t ≡ true → s ≡ b → x + 1 ≡ headed w b c v
-    word-here lt k q = rw (← e) (add-one x ∙ sym (head-here w b c x lt (slot-here w b x (rw et at k) (sym es ∙ q))))
+  module _ (s : ℕ) (es : s ≡ cell w x 11) where
+    pub word-apart : (s ≡ b → ⊥) → Headed w at b c 0
+    word-apart ne = record { same = rw (← e) (sym (head-not w b c x (slot-apart w b x (λ q. ne (es ∙ q))))); low = omega arith }
 
-  pub word-tag : (t : ℕ) → t ≡ cell w x 0 → keyed t ≡ false → 0 ≡ headed w b c v
-  word-tag t et k = rw (← e) (sym (head-not w b c x (slot-tag w b x (rw et at k))))
+    pub word-here : (t : ℕ) → t ≡ cell w x 0 → keyed t ≡ true → s ≡ b → x < c → Headed w at b c (x + 1)
+    word-here t et k q lt = record { same = rw (← e) (add-one x ∙ sym (head-here w b c x lt (slot-here w b x (rw et at k) (sym es ∙ q)))); low = omega arith }

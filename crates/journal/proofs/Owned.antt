@@ -1,21 +1,21 @@
 -- Owned lists are kept by whatever keeps the words that never change and the scopes' heads, go over other records, start empty
 -- with a scope, and take a record at their end.
-use mathlib.Core.Path.{_≡_, refl, sym, ap, _∙_}
-use mathlib.Core.List.{List, [], _∷_}
+use mathlib.Core.Path.{_≡_, refl, sym, _∙_}
+use mathlib.Core.List.{List, []}
 use mathlib.Core.Bool.{Bool, true, false}
 use Prim.Native.Nat.{ℕ, zero, suc, _+_, _*_, _-_, _<_, _≤_}
 use native.Mathlib.Numerals.{add-one}
 use native.Mathlib.Omega.{arith}
-use lib.ListN.{length, getD}
+use lib.ListN.{getD}
 use lib.Dec.{eqb, ltb}
 use borrow.Author.Tests.{eq-eqb, ne-eqb, eqb-true, eqb-false, ltb-true, ltb-false}
 use Rattle.ast.specs.Choice.{choose}
 use Rattle.journal.specs.declared.Record.{Record}
-use Rattle.journal.specs.Records.{tagPaid, tagNode, tagScope, tagRoot, tagRoute, tagAssociation, cell, stays, Same, Steady, Fixed, Holds, Pushed, SetWord, Paid}
-use Rattle.journal.specs.Logs.{lastOf, countOf, scan, revOnto, logUp, logDown, only}
+use Rattle.journal.specs.Records.{tagScope, tagAssociation, cell, stays, Same, Fixed, Holds, Pushed, SetWord, Paid}
+use Rattle.journal.specs.Logs.{scan, revOnto, logDown, only}
 use Rattle.journal.specs.Index.{keyed, Indexed, Entered}
 use Rattle.journal.specs.Owned.{tagged, OwnedTag, headWord, ownedBy, lastOwned, scopesBelow, ownedLog, Owned, Ownable, after, Appended}
-use Rattle.journal.proofs.Cells.{set-cell}
+use Rattle.journal.proofs.Cells.{set-cell, holds-kept}
 use Rattle.journal.proofs.Lists.{last-here, last-other, last-none, count-above, count-more, scan-all, down-rev}
 use Rattle.journal.proofs.Frame.{stays-ten, stays-most, steady-tag, steady-first, steady-is, same-fixed, set-fixed, fixed-less, Stable, last-fixed, count-fixed}
 use Rattle.journal.proofs.Keys.{unkeyed, keyed-low}
@@ -204,11 +204,14 @@ owned-paid {w} {w′} {c} {n} p ow = over n (omega arith)
         rw z (owned-step (over k (omega arith)) (λ a b. omega (arith, p .tags (c + k) (omega arith) (omega arith))))
 
 -- ---- a record at the end of its scope's list
-pub append-fixed : {w w′ : List ℕ} {s c : ℕ} {r : Record} → Appended w w′ s c r → Fixed c w w′
-append-fixed {w} {w′} {s} {c} {r} a = record { steady = λ n ln. record { keeps = λ j lj. a .other n j ln (omega (arith, stays-most (cell w n 0))) (λ e q. low n j e q lj) } }
+head-alone : {w w′ : List ℕ} {s c t : ℕ} → cell w s 0 ≡ tagScope → OwnedTag t → ((n j : ℕ) → n < c → j < 12 → (n ≡ s → j ≡ headWord t → ⊥) → cell w′ n j ≡ cell w n j) → Fixed c w w′
+head-alone {w} {w′} {s} {c} {t} e o h = record { steady = λ n ln. record { keeps = λ j lj. h n j ln (omega (arith, stays-most (cell w n 0))) (λ z q. low n j z q lj) } }
   where
-    low : (n j : ℕ) → n ≡ s → j ≡ headWord (r .tag) → j < stays (cell w n 0) → ⊥
-    low n j e q lj = let l : j < 9 = rw (e, a .scope) at lj in omega (arith, a .tag .low)
+    low : (n j : ℕ) → n ≡ s → j ≡ headWord t → j < stays (cell w n 0) → ⊥
+    low n j z q lj = let l : j < 9 = rw (z, e) at lj in omega (arith, o .low)
+
+pub append-fixed : {w w′ : List ℕ} {s c : ℕ} {r : Record} → Appended w w′ s c r → Fixed c w w′
+append-fixed a = head-alone (a .scope) (a .tag) (a .other)
 
 pub index-append : {w w′ : List ℕ} {at slots s c : ℕ} {r : Record} → Appended w w′ s c r → c * 12 + 12 ≤ at → Indexed w at slots c → Indexed w′ at slots (c + 1)
 index-append {w} {w′} {at} {slots} {s} {c} {r} a l ix =
@@ -225,33 +228,14 @@ module _ (w : List ℕ) (s c : ℕ) (r : Record) (pre : Ownable w s c r) (w1 w2 
   others : (n j : ℕ) → n < c → j < 12 → (n ≡ s → j ≡ headWord (r .tag) → ⊥) → cell w2 n j ≡ cell w n j
   others n j ln lj ne = set-cell w1 w2 s (headWord (r .tag)) (c + 1) lh st n j lj ne ∙ pu .same .keeps n j ln lj
 
-  put : (j v : ℕ) → j < 12 → cell w1 c j ≡ v → cell w2 c j ≡ v
-  put j v lj e = set-cell w1 w2 s (headWord (r .tag)) (c + 1) lh st c j lj (λ z y. omega (arith, pre .below)) ∙ e
-
   words : Holds w2 c (after r (cell w s (headWord (r .tag))))
-  words = record {
-    at0 = put 0 (r .tag) (omega arith) (pu .holds .at0);
-    at1 = put 1 (r .a) (omega arith) (pu .holds .at1);
-    at2 = put 2 (r .b) (omega arith) (pu .holds .at2);
-    at3 = put 3 (r .c) (omega arith) (pu .holds .at3);
-    at4 = put 4 (r .d) (omega arith) (pu .holds .at4);
-    at5 = put 5 (r .e) (omega arith) (pu .holds .at5);
-    at6 = put 6 (r .f) (omega arith) (pu .holds .at6);
-    at7 = put 7 (r .g) (omega arith) (pu .holds .at7);
-    at8 = put 8 (cell w s (headWord (r .tag))) (omega arith) (pu .holds .at8 ∙ eq);
-    at9 = put 9 (r .i) (omega arith) (pu .holds .at9);
-    at10 = put 10 (r .j) (omega arith) (pu .holds .at10);
-    at11 = put 11 (r .k) (omega arith) (pu .holds .at11);
-  }
+  words = rw (← eq) (holds-kept (λ j lj. set-cell w1 w2 s (headWord (r .tag)) (c + 1) lh st c j lj (λ z y. omega (arith, pre .below))) (pu .holds))
 
   past : (m : ℕ) → c * 12 + 12 ≤ m → getD w2 m 0 ≡ getD w m 0
   past m le = st .other m (λ e. omega (arith, pre .below)) ∙ pu .above m le
 
   fx : Fixed c w w2
-  fx = record { steady = λ n ln. record { keeps = λ j lj. others n j ln (omega (arith, stays-most (cell w n 0))) (λ e y. low n j e y lj) } }
-    where
-      low : (n j : ℕ) → n ≡ s → j ≡ headWord (r .tag) → j < stays (cell w n 0) → ⊥
-      low n j e y lj = let l : j < 9 = rw (e, pre .scope) at lj in omega (arith, T .low)
+  fx = head-alone (pre .scope) T others
 
   abbrev ow : Owned w c
   ow = pre .owned

@@ -70,6 +70,10 @@ pub record Slotted (slots x y b : ℕ) : Type 0 where
   pub same : b ≡ slotOf slots x y
   pub below : b < slots
 
+pub record Headed (w : List ℕ) (at b c r : ℕ) : Type 0 where
+  pub same : r ≡ headed w b c (getD w (at + b) 0)
+  pub low : r ≤ c
+
 -- the record with its link and its slot
 abbrev pub linked : Record → ℕ → ℕ → Record
 linked r q b = record { tag = r .tag; a = r .a; b = r .b; c = r .c; d = r .d; e = r .e; f = r .f; g = r .g; h = r .h; i = r .i; j = q; k = b }

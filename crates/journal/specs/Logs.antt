@@ -1,6 +1,6 @@
 -- What a pass over the records yields: logs, chains, and the newest record that passes a test. A place is given with one
 -- added where 0 is to say that there is none.
-use mathlib.Core.Bool.{Bool, true, false}
+use mathlib.Core.Bool.{Bool}
 use mathlib.Core.List.{List, [], _∷_, _++_}
 use mathlib.Core.Option.{Option, none, some}
 use Prim.Native.Nat.{ℕ, zero, suc}

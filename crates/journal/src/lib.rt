@@ -1,9 +1,9 @@
 // The arena: records of twelve words in a lent slice, one to a charge.
 ghost use mathlib.Core.Path.{_≡_};
-ghost use Prim.Native.Nat.{_+_, _*_, _-_, _<_, _≤_};
-ghost use lib.ListN.{length, getD};
+ghost use Prim.Native.Nat.{_+_, _*_, _<_, _≤_};
+ghost use lib.ListN.{length};
 ghost use Rattle.journal.specs.Records.{cell, Pushed, SetWord, Paid, Wide};
-ghost use Rattle.journal.specs.Index.{keyed, hit, headed, newest, foundOf, Findable, Enterable, Slotted, Entered};
+ghost use Rattle.journal.specs.Index.{keyed, hit, newest, foundOf, Findable, Enterable, Slotted, Headed, Entered};
 ghost use Rattle.journal.specs.Owned.{Ownable, Appended};
 
 // Word 0 is the tag.
@@ -112,7 +112,7 @@ fn hits(work: &[u32], n: usize, tag: u32, x: u32, y: u32) -> bool
 // The head of slot `b`, with one added; 0 where the word is no keyed record of that slot.
 fn head(work: &[u32], at: usize, c: usize, b: usize) -> usize
     requires { ⌜ (c * 12 ≤ length (now work)) × (at + b < length (now work)) ⌝ }
-    ensures { λ r. ⌜ r ≡ headed (now (work .entry)) b c (getD (now (work .entry)) (at + b) 0) ⌝ }
+    ensures { λ r. ⌜ Headed (now (work .entry)) at b c r ⌝ }
 {
     let x = wide(work[at + b]);
     if x >= c {

@@ -7,9 +7,8 @@ use Rattle.journal.proofs.enter.Lts as lts
 use Rattle.journal.proofs.head.Reads as head-reads
 use Rattle.journal.proofs.push.Reads as push-reads
 use Rattle.journal.proofs.slot.Reads as slot-reads
-use mathlib.Core.Path.{_≡_, refl, sym, ap, _∙_}
-use lib.ListN.{length, length-set}
-use Rattle.journal.proofs.Index.{enter-law, head-low}
+use lib.ListN.{length}
+use Rattle.journal.proofs.Index.{enter-law}
 use native.Mathlib.Omega.{arith}
 
 slot-requires : tie.Need-slot-requires
@@ -19,16 +18,16 @@ head-requires : tie.Need-head-requires
 head-requires c κs = (omega (arith, c .before .before .before .pre .room .records, c .before .before .before .pre .room .heads), omega (arith, c .before .before .before .pre .room .heads, c .before .slot .ensures .below))
 
 cast-work : tie.Need-cast-work
-cast-work c = omega (arith, c .before .before .before .before .before .pre .room .narrow, head-low _ _ _ _ (c .before .before .before .before .before .pre .index) _ (c .before .before .before .slot .ensures .below) _ (c .before .head .ensures))
+cast-work c = omega (arith, c .before .before .before .before .before .pre .room .narrow, c .before .before .before .before .before .pre .index .few, c .before .before .before .slot .ensures .below, c .before .head .ensures .low)
 
 cast-t14 : tie.Need-cast-t14
-cast-t14 c = omega (arith, c .before .before .before .before .before .pre .index .few, c .before .before .before .slot .ensures .below)
+cast-t14 c = omega (arith, c .before .before .before .before .before .pre .room .narrow, c .before .before .before .before .before .pre .index .few, c .before .before .before .slot .ensures .below, c .before .head .ensures .low)
 
 push-requires : tie.Need-push-requires
 push-requires c κs = omega (arith, c .before .before .before .before .before .pre .room .records, c .before .before .before .before .before .pre .room .heads)
 
 cast-work-2 : tie.Need-cast-work-2
-cast-work-2 c = omega (arith, c .before .before .before .before .before .before .before .before .pre .room .narrow)
+cast-work-2 c = omega (arith, c .before .before .before .before .before .before .before .before .pre .room .narrow, c .before .before .before .before .before .before .before .before .pre .index .few, c .before .before .before .before .before .before .slot .ensures .below, c .before .before .before .before .head .ensures .low)
 
 add-work : tie.Need-add-work
 add-work c = omega (arith, c .before .before .before .before .before .before .before .before .pre .room .heads, c .before .before .before .before .before .before .slot .ensures .below, c .before .before .push .kept .0)
@@ -43,7 +42,7 @@ same-length : tie.Need-same-length
 same-length c = search needs
 
 returns : tie.Need-returns
-returns c = enter-law _ _ _ _ _ (c .before .before .before .before .before .before .before .before .pre .room) (c .before .before .before .before .before .before .before .before .pre .index) (c .before .before .before .before .before .before .before .before .pre .key) _ (c .before .before .before .before .before .before .slot .ensures) _ (c .before .before .before .before .head .ensures) _ (c .before .before .push .kept .0) (c .before .before .push .ensures)
+returns c = enter-law _ _ _ _ _ (c .before .before .before .before .before .before .before .before .pre .room) (c .before .before .before .before .before .before .before .before .pre .index) (c .before .before .before .before .before .before .before .before .pre .key) _ (c .before .before .before .before .before .before .slot .ensures) _ (c .before .before .before .before .head .ensures .same) _ (c .before .before .push .kept .0) (c .before .before .push .ensures)
 
 pub enter-spec : {M : Type 1} → statement M
 enter-spec =

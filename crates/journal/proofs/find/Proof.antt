@@ -27,7 +27,7 @@ head-requires : tie.Need-head-requires Inv-loop μ-loop
 head-requires c κs = (omega (arith, c .before .before .pre .room .records, c .before .before .pre .room .heads), omega (arith, c .before .before .pre .room .heads, c .slot .ensures .below))
 
 loop-holds : tie.Need-loop-holds Inv-loop μ-loop
-loop-holds c = walk-start _ _ _ _ _ _ _ (c .before .before .before .pre .index) (c .before .before .before .pre .key) _ (c .before .slot .ensures) _ (c .head .ensures)
+loop-holds c = walk-start _ _ _ _ _ _ _ (c .before .before .before .pre .index) (c .before .before .before .pre .key) _ (c .before .slot .ensures) _ (c .head .ensures .same)
 
 sub-n : tie.Need-sub-n Inv-loop μ-loop
 sub-n c = omega arith

@@ -7,8 +7,8 @@ use Rattle.journal.proofs.head.Lts as lts
 use Rattle.journal.proofs.is_keyed.Reads as is-keyed-reads
 use Rattle.journal.proofs.wide.Reads as wide-reads
 use Rattle.journal.proofs.word.Reads as word-reads
-use borrow.Author.Tests.{not-true, not-false}
 use mathlib.Core.Path.{_≡_, sym, _∙_}
+use borrow.Author.Tests.{not-true, not-false}
 use Rattle.journal.proofs.Keys.{word-far, word-tag, word-apart, word-here}
 use native.Mathlib.Omega.{arith}
 
@@ -43,13 +43,13 @@ wide-requires-2 : tie.Need-wide-requires-2
 wide-requires-2 c κs = search needs
 
 returns-3 : tie.Need-returns-3
-returns-3 c = word-apart _ _ _ _ _ (c .before .before .before .before .before .before .before .wide .ensures .same) _ _ (c .before .before .before .before .before .word .ensures) ((c .before .wide2 .ensures .same) ∙ (c .before .before .word2 .ensures)) (c .if3 .taken)
+returns-3 c = word-apart _ _ _ _ _ (c .before .before .before .before .before .before .before .wide .ensures .same) _ ((c .before .wide2 .ensures .same) ∙ (c .before .before .word2 .ensures)) (c .if3 .taken)
 
 add-result : tie.Need-add-result
 add-result c = search needs
 
 returns-4 : tie.Need-returns-4
-returns-4 c = word-here _ _ _ _ _ (c .before .before .before .before .before .before .before .wide .ensures .same) _ _ (c .before .before .before .before .before .word .ensures) ((c .before .wide2 .ensures .same) ∙ (c .before .before .word2 .ensures)) (c .before .before .before .before .before .before .if1 .left) (sym (c .before .before .before .before .is-keyed .ensures) ∙ not-false _ (c .before .before .before .if2 .left)) (c .if3 .left)
+returns-4 c = word-here _ _ _ _ _ (c .before .before .before .before .before .before .before .wide .ensures .same) _ ((c .before .wide2 .ensures .same) ∙ (c .before .before .word2 .ensures)) _ (c .before .before .before .before .before .word .ensures) (sym (c .before .before .before .before .is-keyed .ensures) ∙ not-false _ (c .before .before .before .if2 .left)) (c .if3 .left) (c .before .before .before .before .before .before .if1 .left)
 
 pub head-spec : {M : Type 1} → statement M
 head-spec =
