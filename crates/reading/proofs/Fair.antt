@@ -53,7 +53,8 @@ module _ {c : ℕ} {w w′ : List ℕ} (f : Fixed c w w′) where
         isMap = rw (k 1 (omega arith), k 5 (omega arith)) (x .isMap ∙ own tagAssociation);
       }
 
-  closed-fixed : {k : ℕ} (r : ℕ) → c ≤ k → ((j : ℕ) → 3 ≤ j → j < 12 → cell w′ r j ≡ cell w r j) → NodeClosed w c r → NodeClosed w′ k r
+  -- what a node has, where its words are the same
+  pub closed-fixed : {k : ℕ} (r : ℕ) → c ≤ k → ((j : ℕ) → 3 ≤ j → j < 12 → cell w′ r j ≡ cell w r j) → NodeClosed w c r → NodeClosed w′ k r
   closed-fixed r le s x = record {
     fields = rw (s 7 (omega arith) (omega arith)) (handle-fixed (omega arith) le (x .fields));
     interface = rw (s 8 (omega arith) (omega arith)) (handle-fixed (omega arith) le (x .interface));

@@ -1,4 +1,9 @@
 // What an expansion keeps by value, and the steps that write one record of the journal.
+use journal;
+use journal::Record;
+ghost use Prim.Native.Nat.{_+_};
+ghost use Rattle.refine.specs.Sound.{Standing};
+ghost use Rattle.refine.specs.Contract.{charged, Keepable, Kept};
 
 // N, K, the heads of the journal's index; the index starts behind K records.
 pub struct Limits {
@@ -38,4 +43,32 @@ pub enum Answer {
         first: u32,
         second: u32,
     },
+}
+
+// A charge and its record; the value is the record's handle.
+pub fn keep(work: &mut [u32], lim: Limits, st: Counts, r: Record) -> Answer
+    requires { ⌜ Standing lim (now work) st ⌝ }
+    requires { ⌜ Keepable (now work) (st .charges) r ⌝ }
+    ensures { λ a. ⌜ Kept lim (now (work .entry)) st r (now (work .exit)) a ⌝ }
+{
+    let c = st.charges;
+    if lim.rows <= c {
+        return Answer::Refused {
+            number: 10,
+            first: 0,
+            second: 0,
+        };
+    }
+    journal::push(work, c, r);
+    let t = Counts {
+        nodes: st.nodes,
+        scopes: st.scopes,
+        externs: st.externs,
+        charges: c + 1,
+    };
+    Answer::Done {
+        st: t,
+        value: (c + 1) as u32,
+        place: 0,
+    }
 }
