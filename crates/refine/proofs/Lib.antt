@@ -3,3 +3,4 @@ pub mod Calculus
 pub mod Grow
 pub mod Charges
 pub mod Keeping
+pub mod Owning

@@ -1,9 +1,17 @@
 // What an expansion keeps by value, and the steps that write one record of the journal.
 use journal;
+use journal::Found;
 use journal::Record;
-ghost use Prim.Native.Nat.{_+_};
+ghost use mathlib.Core.Path.{_≡_};
+ghost use Prim.Native.Nat.{_+_, _-_, _≤_};
+ghost use lib.ListN.{length};
+ghost use Rattle.journal.specs.Records.{tagId, tagStored, Wide, Pushed};
+ghost use Rattle.reading.specs.Reading.{idsAt};
+ghost use Rattle.reading.specs.Fair.{HandleAt, NodeAt};
 ghost use Rattle.refine.specs.Sound.{Standing};
-ghost use Rattle.refine.specs.Contract.{charged, Keepable, Kept};
+ghost use Rattle.refine.specs.Contract.{charged as counted, Keepable, Kept, Ownership, Owning, Mapped, Reserved, Opened, Looked, contentsOf, Fillable, Walkable, Valued, Cloned};
+
+
 
 // N, K, the heads of the journal's index; the index starts behind K records.
 pub struct Limits {
@@ -45,6 +53,36 @@ pub enum Answer {
     },
 }
 
+fn wide(x: u32) -> usize
+    ensures { λ r. ⌜ Wide x r ⌝ }
+{
+    x as usize
+}
+
+// The charge that would make more than K.
+pub fn too_many() -> Answer
+    ensures { λ a. ⌜ a ≡ Answer.Refused 10 0 0 ⌝ }
+{
+    Answer::Refused {
+        number: 10,
+        first: 0,
+        second: 0,
+    }
+}
+
+// n charges more.
+pub fn charged(st: Counts, n: usize) -> Counts
+    requires { ⌜ st .charges + n ≤ 16777216 ⌝ }
+    ensures { λ t. ⌜ t ≡ counted st n ⌝ }
+{
+    Counts {
+        nodes: st.nodes,
+        scopes: st.scopes,
+        externs: st.externs,
+        charges: st.charges + n,
+    }
+}
+
 // A charge and its record; the value is the record's handle.
 pub fn keep(work: &mut [u32], lim: Limits, st: Counts, r: Record) -> Answer
     requires { ⌜ Standing lim (now work) st ⌝ }
@@ -53,22 +91,68 @@ pub fn keep(work: &mut [u32], lim: Limits, st: Counts, r: Record) -> Answer
 {
     let c = st.charges;
     if lim.rows <= c {
-        return Answer::Refused {
-            number: 10,
-            first: 0,
-            second: 0,
-        };
+        return too_many();
     }
     journal::push(work, c, r);
-    let t = Counts {
-        nodes: st.nodes,
-        scopes: st.scopes,
-        externs: st.externs,
-        charges: c + 1,
-    };
     Answer::Done {
-        st: t,
+        st: charged(st, 1),
         value: (c + 1) as u32,
         place: 0,
+    }
+}
+
+// A charge and a record of a scope's own lists: an extra root, a route, an association.
+pub fn own(work: &mut [u32], lim: Limits, st: Counts, env: Env, r: Record) -> Answer
+    requires { ⌜ Standing lim (now work) st ⌝ }
+    requires { ⌜ Ownership (now work) (st .charges) env r ⌝ }
+    ensures { λ a. ⌜ Owning lim (now (work .entry)) st env r (now (work .exit)) a ⌝ }
+{
+    let c = st.charges;
+    if lim.rows <= c {
+        return too_many();
+    }
+    let s = env.place;
+    journal::append(work, s, c, r);
+    Answer::Done {
+        st: charged(st, 1),
+        value: 0,
+        place: 0,
+    }
+}
+
+// A charge and a map entry: the node whose record is before `place`.
+pub fn map(work: &mut [u32], lim: Limits, st: Counts, scope: u32, id: u32, out: u32, place: u32) -> Answer
+    requires { ⌜ Standing lim (now work) st ⌝ }
+    requires { ⌜ NodeAt (now work) (st .charges) out place ⌝ }
+    ensures { λ a. ⌜ Mapped lim (now (work .entry)) st scope id out place (now (work .exit)) a ⌝ }
+{
+    let c = st.charges;
+    if lim.rows <= c {
+        return too_many();
+    }
+    journal::enter(
+        work,
+        lim.rows * 12,
+        lim.slots,
+        c,
+        Record {
+            tag: 1,
+            a: scope,
+            b: id,
+            c: out,
+            d: place,
+            e: 0,
+            f: 0,
+            g: 0,
+            h: 0,
+            i: 0,
+            j: 0,
+            k: 0,
+        },
+    );
+    Answer::Done {
+        st: charged(st, 1),
+        value: out,
+        place,
     }
 }
