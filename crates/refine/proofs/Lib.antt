@@ -4,3 +4,4 @@ pub mod Grow
 pub mod Charges
 pub mod Keeping
 pub mod Owning
+pub mod Mapping

@@ -66,6 +66,9 @@ pub record Owning (L : Limits) (w : List ℕ) (t : Counts) (e : code.Env) (r : R
   pub done : IfDone (λ t′ v p. OwnedAt w t e r w′ t′) a
 
 -- ---- a map entry: the copy of a source id, a node
+abbrev pub entryOf : ℕ → ℕ → ℕ → ℕ → Record
+entryOf scope id out place = record { tag = tagMap; a = scope; b = id; c = out; d = place; e = 0; f = 0; g = 0; h = 0; i = 0; j = 0; k = 0 }
+
 pub record MappedAt (t : Counts) (out place : ℕ) (t′ : Counts) (v p : ℕ) : Type 0 where
   pub counts : t′ ≡ charged t 1
   pub value : v ≡ out

@@ -11,8 +11,6 @@ ghost use Rattle.reading.specs.Fair.{HandleAt, NodeAt};
 ghost use Rattle.refine.specs.Sound.{Standing};
 ghost use Rattle.refine.specs.Contract.{charged as counted, Keepable, Kept, Ownership, Owning, Mapped, Reserved, Opened, Looked, contentsOf, Fillable, Walkable, Valued, Cloned};
 
-
-
 // N, K, the heads of the journal's index; the index starts behind K records.
 pub struct Limits {
     pub nodes: usize,
@@ -121,7 +119,15 @@ pub fn own(work: &mut [u32], lim: Limits, st: Counts, env: Env, r: Record) -> An
 }
 
 // A charge and a map entry: the node whose record is before `place`.
-pub fn map(work: &mut [u32], lim: Limits, st: Counts, scope: u32, id: u32, out: u32, place: u32) -> Answer
+pub fn map(
+    work: &mut [u32],
+    lim: Limits,
+    st: Counts,
+    scope: u32,
+    id: u32,
+    out: u32,
+    place: u32,
+) -> Answer
     requires { ⌜ Standing lim (now work) st ⌝ }
     requires { ⌜ NodeAt (now work) (st .charges) out place ⌝ }
     ensures { λ a. ⌜ Mapped lim (now (work .entry)) st scope id out place (now (work .exit)) a ⌝ }
