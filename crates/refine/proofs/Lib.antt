@@ -5,3 +5,5 @@ pub mod Charges
 pub mod Keeping
 pub mod Owning
 pub mod Mapping
+pub mod Opening
+pub mod Reserving

@@ -79,6 +79,9 @@ pub record Mapped (L : Limits) (w : List ℕ) (t : Counts) (scope id out place :
   pub done : IfDone (λ t′ v p. MappedAt t out place t′ v p) a
 
 -- ---- a new node and its map entry
+abbrev pub blankOf : ℕ → ℕ → Record
+blankOf scope id = record { tag = tagNode; a = scope; b = id; c = 0; d = 4294967295; e = 0; f = 0; g = 0; h = 0; i = 0; j = 0; k = 0 }
+
 pub record ReservedAt (w : List ℕ) (t : Counts) (w′ : List ℕ) (t′ : Counts) (v p : ℕ) : Type 0 where
   pub counts : t′ ≡ record { nodes = t .nodes + 1; scopes = t .scopes; externs = t .externs; charges = t .charges + 2 }
   pub value : v ≡ t .nodes
@@ -90,6 +93,9 @@ pub record Reserved (L : Limits) (w : List ℕ) (t : Counts) (e : code.Env) (id 
   pub done : IfDone (λ t′ v p. ReservedAt w t w′ t′ v p) a
 
 -- ---- a new scope: its number, and the place of its record
+abbrev pub scopeOf : ℕ → ℕ → ℕ → ℕ → ℕ → ℕ → Record
+scopeOf kind document proto index opener n = record { tag = tagScope; a = kind; b = document; c = proto; d = index; e = opener; f = n; g = 0; h = 0; i = 0; j = 0; k = 0 }
+
 pub record OpenedAt (w : List ℕ) (t : Counts) (kind document proto index opener : ℕ) (w′ : List ℕ) (t′ : Counts) (v p : ℕ) : Type 0 where
   pub counts : t′ ≡ record { nodes = t .nodes; scopes = t .scopes + 1; externs = t .externs; charges = t .charges + 1 }
   pub value : v ≡ t .scopes

@@ -11,6 +11,8 @@ ghost use Rattle.reading.specs.Fair.{HandleAt, NodeAt};
 ghost use Rattle.refine.specs.Sound.{Standing};
 ghost use Rattle.refine.specs.Contract.{charged as counted, Keepable, Kept, Ownership, Owning, Mapped, Reserved, Opened, Looked, contentsOf, Fillable, Walkable, Valued, Cloned};
 
+const NONE: u32 = 4294967295;
+
 // N, K, the heads of the journal's index; the index starts behind K records.
 pub struct Limits {
     pub nodes: usize,
@@ -160,5 +162,125 @@ pub fn map(
         st: charged(st, 1),
         value: out,
         place,
+    }
+}
+
+// A new node, blank, and its map entry: its id, and its record's place with one added.
+pub fn reserve(work: &mut [u32], lim: Limits, st: Counts, env: Env, id: u32) -> Answer
+    requires { ⌜ Standing lim (now work) st ⌝ }
+    ensures { λ a. ⌜ Reserved lim (now (work .entry)) st env id (now (work .exit)) a ⌝ }
+{
+    let c = st.charges;
+    let new = st.nodes;
+    if lim.nodes <= wide(new) {
+        return Answer::Refused {
+            number: 8,
+            first: 0,
+            second: 0,
+        };
+    }
+    if lim.rows - c < 2 {
+        return too_many();
+    }
+    let scope = env.scope;
+    journal::push(
+        work,
+        c,
+        Record {
+            tag: 3,
+            a: scope,
+            b: id,
+            c: 0,
+            d: NONE,
+            e: 0,
+            f: 0,
+            g: 0,
+            h: 0,
+            i: 0,
+            j: 0,
+            k: 0,
+        },
+    );
+    let place = (c + 1) as u32;
+    journal::enter(
+        work,
+        lim.rows * 12,
+        lim.slots,
+        c + 1,
+        Record {
+            tag: 1,
+            a: scope,
+            b: id,
+            c: new,
+            d: place,
+            e: 0,
+            f: 0,
+            g: 0,
+            h: 0,
+            i: 0,
+            j: 0,
+            k: 0,
+        },
+    );
+    let t = Counts {
+        nodes: new + 1,
+        scopes: st.scopes,
+        externs: st.externs,
+        charges: c + 2,
+    };
+    Answer::Done {
+        st: t,
+        value: new,
+        place,
+    }
+}
+
+// A charge and a scope: its number, and the place of its record.
+pub fn open(
+    work: &mut [u32],
+    lim: Limits,
+    st: Counts,
+    kind: u32,
+    document: u32,
+    proto: u32,
+    index: u32,
+    opener: u32,
+) -> Answer
+    requires { ⌜ Standing lim (now work) st ⌝ }
+    ensures { λ a. ⌜ Opened lim (now (work .entry)) st kind document proto index opener (now (work .exit)) a ⌝ }
+{
+    let c = st.charges;
+    if lim.rows <= c {
+        return too_many();
+    }
+    let n = st.scopes;
+    journal::push(
+        work,
+        c,
+        Record {
+            tag: 10,
+            a: kind,
+            b: document,
+            c: proto,
+            d: index,
+            e: opener,
+            f: n,
+            g: 0,
+            h: 0,
+            i: 0,
+            j: 0,
+            k: 0,
+        },
+    );
+    let t = Counts {
+        nodes: st.nodes,
+        scopes: n + 1,
+        externs: st.externs,
+        charges: c + 1,
+    };
+    Answer::Done {
+        st: t,
+        value: n,
+        place: c as u32,
     }
 }
