@@ -23,6 +23,9 @@ handle-none w c t = record { low = omega arith; tag = λ l. absurd (omega arith)
 pub handle-new : (w : List ℕ) (c t : ℕ) → cell w c 0 ≡ t → HandleAt w (c + 1) t (c + 1)
 handle-new w c t e = record { low = omega arith; tag = λ l. let z : c + 1 - 1 ≡ c = omega arith in rw z e }
 
+pub node-at-more : {w : List ℕ} {c k o p : ℕ} → c ≤ k → NodeAt w c o p → NodeAt w k o p
+node-at-more le x = record { some = x .some; low = omega (arith, x .low); tag = x .tag; number = x .number }
+
 module _ {c : ℕ} {w w′ : List ℕ} (f : Fixed c w w′) where
   tag-kept : (r t : ℕ) → r < c → cell w r 0 ≡ t → cell w′ r 0 ≡ t
   tag-kept r t l e = steady-tag (f .steady r l) ∙ e

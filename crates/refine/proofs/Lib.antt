@@ -7,3 +7,7 @@ pub mod Owning
 pub mod Mapping
 pub mod Opening
 pub mod Reserving
+pub mod Looking
+pub mod Filling
+pub mod Walking
+pub mod Cloning

@@ -18,7 +18,7 @@ use Rattle.journal.specs.declared.Found.the-variants.{At, Nothing}
 use Rattle.journal.specs.Records.{tagMap, tagNode, tagId, tagStored, tagScope, tagAssociation, cell, Pushed}
 use Rattle.journal.specs.Index.{foundOf}
 use Rattle.journal.specs.Owned.{OwnedTag, Appended}
-use Rattle.reading.specs.Reading.{valueAt, valueRec, valuesAt, scopeBy, scopeRec, idsAt, mapOf}
+use Rattle.reading.specs.Reading.{valueAt, valueRec, valuesAt, scopeBy, scopeRec, mapOf}
 use Rattle.reading.specs.Fair.{HandleAt, NodeAt, valued}
 use Rattle.refine.specs.declared.Limits.{Limits}
 use Rattle.refine.specs.declared.Counts.{Counts}
@@ -123,11 +123,7 @@ pub record Fillable (w : List ℕ) (place : ℕ) : Type 0 where
   pub some : 0 < place
   pub room : place * 12 ≤ length w
 
--- ---- walking a list of records of tag t from its handle
-pub record Walkable (w : List ℕ) (t h : ℕ) : Type 0 where
-  pub room : h * 12 ≤ length w
-  pub tag : 0 < h → cell w (h - 1) 0 ≡ t
-  pub linked : (r : ℕ) → r < h → cell w r 0 ≡ t → HandleAt w r t (cell w r 8)
+-- ---- values
 
 -- the stored value of a name
 pub record Valued (w : List ℕ) (h name : ℕ) (f : Found) : Type 0 where

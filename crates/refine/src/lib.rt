@@ -7,9 +7,9 @@ ghost use Prim.Native.Nat.{_+_, _-_, _≤_};
 ghost use lib.ListN.{length};
 ghost use Rattle.journal.specs.Records.{tagId, tagStored, Wide, Pushed};
 ghost use Rattle.reading.specs.Reading.{idsAt};
-ghost use Rattle.reading.specs.Fair.{HandleAt, NodeAt};
+ghost use Rattle.reading.specs.Fair.{HandleAt, NodeAt, Walkable};
 ghost use Rattle.refine.specs.Sound.{Standing};
-ghost use Rattle.refine.specs.Contract.{charged as counted, Keepable, Kept, Ownership, Owning, Mapped, Reserved, Opened, Looked, contentsOf, Fillable, Walkable, Valued, Cloned};
+ghost use Rattle.refine.specs.Contract.{charged as counted, Keepable, Kept, Ownership, Owning, Mapped, Reserved, Opened, Looked, contentsOf, Fillable, Valued, Cloned};
 
 const NONE: u32 = 4294967295;
 
@@ -121,15 +121,7 @@ pub fn own(work: &mut [u32], lim: Limits, st: Counts, env: Env, r: Record) -> An
 }
 
 // A charge and a map entry: the node whose record is before `place`.
-pub fn map(
-    work: &mut [u32],
-    lim: Limits,
-    st: Counts,
-    scope: u32,
-    id: u32,
-    out: u32,
-    place: u32,
-) -> Answer
+pub fn map(work: &mut [u32], lim: Limits, st: Counts, scope: u32, id: u32, out: u32, place: u32) -> Answer
     requires { ⌜ Standing lim (now work) st ⌝ }
     requires { ⌜ NodeAt (now work) (st .charges) out place ⌝ }
     ensures { λ a. ⌜ Mapped lim (now (work .entry)) st scope id out place (now (work .exit)) a ⌝ }
@@ -236,16 +228,7 @@ pub fn reserve(work: &mut [u32], lim: Limits, st: Counts, env: Env, id: u32) -> 
 }
 
 // A charge and a scope: its number, and the place of its record.
-pub fn open(
-    work: &mut [u32],
-    lim: Limits,
-    st: Counts,
-    kind: u32,
-    document: u32,
-    proto: u32,
-    index: u32,
-    opener: u32,
-) -> Answer
+pub fn open(work: &mut [u32], lim: Limits, st: Counts, kind: u32, document: u32, proto: u32, index: u32, opener: u32) -> Answer
     requires { ⌜ Standing lim (now work) st ⌝ }
     ensures { λ a. ⌜ Opened lim (now (work .entry)) st kind document proto index opener (now (work .exit)) a ⌝ }
 {
