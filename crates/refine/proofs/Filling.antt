@@ -27,6 +27,11 @@ use Rattle.refine.specs.Sound.{Source, headsAt, Sound, OfBody, Later}
 use Rattle.refine.specs.Does.{number, at, Does}
 use Rattle.refine.specs.Contract.{contentsOf}
 
+-- what is written
+pub fill-law : (w w′ : List ℕ) (place ty def kind id fs is ss os m s q : ℕ) → m ≡ place → s ≡ cell w (m - 1) 1 → q ≡ cell w (m - 1) 2
+    → Pushed w w′ (m - 1) (record { tag = tagNode; a = s; b = q; c = ty; d = def; e = kind; f = id; g = fs; h = is; i = ss; j = os; k = 0 }) → Pushed w w′ (place - 1) (contentsOf w (place - 1) ty def kind id fs is ss os)
+fill-law w w′ place ty def kind id fs is ss os m s q em es eq p = rw (← em, ← es, ← eq) p
+
 -- ---- one node's words are changed, and nothing else
 pub record OnlyNode (n : ℕ) (w w′ : List ℕ) : Type 0 where
   pub node : cell w n 0 ≡ tagNode

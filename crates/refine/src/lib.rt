@@ -121,7 +121,15 @@ pub fn own(work: &mut [u32], lim: Limits, st: Counts, env: Env, r: Record) -> An
 }
 
 // A charge and a map entry: the node whose record is before `place`.
-pub fn map(work: &mut [u32], lim: Limits, st: Counts, scope: u32, id: u32, out: u32, place: u32) -> Answer
+pub fn map(
+    work: &mut [u32],
+    lim: Limits,
+    st: Counts,
+    scope: u32,
+    id: u32,
+    out: u32,
+    place: u32,
+) -> Answer
     requires { ⌜ Standing lim (now work) st ⌝ }
     requires { ⌜ NodeAt (now work) (st .charges) out place ⌝ }
     ensures { λ a. ⌜ Mapped lim (now (work .entry)) st scope id out place (now (work .exit)) a ⌝ }
@@ -228,7 +236,16 @@ pub fn reserve(work: &mut [u32], lim: Limits, st: Counts, env: Env, id: u32) -> 
 }
 
 // A charge and a scope: its number, and the place of its record.
-pub fn open(work: &mut [u32], lim: Limits, st: Counts, kind: u32, document: u32, proto: u32, index: u32, opener: u32) -> Answer
+pub fn open(
+    work: &mut [u32],
+    lim: Limits,
+    st: Counts,
+    kind: u32,
+    document: u32,
+    proto: u32,
+    index: u32,
+    opener: u32,
+) -> Answer
     requires { ⌜ Standing lim (now work) st ⌝ }
     ensures { λ a. ⌜ Opened lim (now (work .entry)) st kind document proto index opener (now (work .exit)) a ⌝ }
 {
@@ -265,5 +282,110 @@ pub fn open(work: &mut [u32], lim: Limits, st: Counts, kind: u32, document: u32,
         st: t,
         value: n,
         place: c as u32,
+    }
+}
+
+// The map entry of a source id in a scope: word 3 is its copy, word 4 the copy's place.
+pub fn look(work: &[u32], lim: Limits, st: Counts, scope: u32, id: u32) -> Found
+    requires { ⌜ Standing lim (now work) st ⌝ }
+    ensures { λ f. ⌜ Looked (now (work .entry)) (st .charges) scope id f ⌝ }
+{
+    journal::find(work, lim.rows * 12, lim.slots, st.charges, 1, scope, id)
+}
+
+// The contents of the node whose record is before `place`.
+pub fn fill(
+    work: &mut [u32],
+    place: u32,
+    ty: u32,
+    def: u32,
+    kind: u32,
+    id: u32,
+    fields: u32,
+    interface: u32,
+    statements: u32,
+    order: u32,
+)
+    requires { ⌜ Fillable (now work) place ⌝ }
+    ensures { λ _.
+        ⌜ Pushed (now (work .entry)) (now (work .exit)) (place - 1)
+        (contentsOf (now (work .entry)) (place - 1) ty def kind id fields interface statements order) ⌝ }
+{
+    let n = wide(place) - 1;
+    let scope = journal::word(work, n, 1);
+    let source = journal::word(work, n, 2);
+    journal::push(
+        work,
+        n,
+        Record {
+            tag: 3,
+            a: scope,
+            b: source,
+            c: ty,
+            d: def,
+            e: kind,
+            f: id,
+            g: fields,
+            h: interface,
+            i: statements,
+            j: order,
+            k: 0,
+        },
+    );
+}
+
+// The stored value of a name, newest first.
+pub fn value_of(work: &[u32], values: u32, name: u32) -> Found
+    requires { ⌜ Walkable (now work) tagStored values ⌝ }
+    ensures { λ f. ⌜ Valued (now (work .entry)) values name f ⌝ }
+{
+    let mut cur = wide(values);
+    while 0 < cur {
+        let r = cur - 1;
+        if journal::word(work, r, 1) == name {
+            return Found::At(r);
+        }
+        cur = wide(journal::word(work, r, 8));
+    }
+    Found::Nothing
+}
+
+// How many ids a list has.
+fn count(work: &[u32], ids: u32) -> usize
+    requires { ⌜ Walkable (now work) tagId ids ⌝ }
+    ensures { λ n. ⌜ n ≡ length (idsAt (now (work .entry)) ids) ⌝ }
+{
+    let mut n = 0;
+    let mut cur = wide(ids);
+    while 0 < cur {
+        n += 1;
+        cur = wide(journal::word(work, cur - 1, 8));
+    }
+    n
+}
+
+// The charges of a value that is cloned: one for each id.
+pub fn clone(work: &mut [u32], lim: Limits, st: Counts, class: u32, payload: u32) -> Answer
+    requires { ⌜ Standing lim (now work) st ⌝ }
+    requires { ⌜ (class ≡ 2 → HandleAt (now work) (st .charges) tagId payload) ⌝ }
+    ensures { λ a. ⌜ Cloned lim (now (work .entry)) st class payload (now (work .exit)) a ⌝ }
+{
+    if class != 2 {
+        return Answer::Done {
+            st,
+            value: payload,
+            place: 0,
+        };
+    }
+    let n = count(work, payload);
+    let c = st.charges;
+    if lim.rows - c < n {
+        return too_many();
+    }
+    journal::paid(work, c, n);
+    Answer::Done {
+        st: charged(st, n),
+        value: payload,
+        place: 0,
     }
 }
