@@ -49,6 +49,10 @@ module _ {w w′ : List ℕ} {at slots c : ℕ} (f : Fixed c w w′) (ix : Index
   pub index-keep : ((b : ℕ) → b < slots → getD w′ (at + b) 0 ≡ getD w (at + b) 0) → Indexed w′ at slots c
   index-keep h = record { some = ix .some; few = ix .few; heads = λ b lb. heads-kept b lb (h b lb); links = links-kept; slotted = slots-kept }
 
+-- ---- a count written otherwise
+pub index-at : {w : List ℕ} {at slots c c′ : ℕ} → c ≡ c′ → Indexed w at slots c → Indexed w at slots c′
+index-at e ix = rw (← e) ix
+
 -- ---- one record more that is not keyed
 pub index-step : {w : List ℕ} {at slots c : ℕ} → Indexed w at slots c → keyed (cell w c 0) ≡ false → Indexed w at slots (c + 1)
 index-step {w} {at} {slots} {c} ix e = record {

@@ -119,6 +119,10 @@ module _ {w w′ : List ℕ} {c : ℕ} (f : Fixed c w w′) (ow : Owned w c) whe
 pub owned-same : {w w′ : List ℕ} {c : ℕ} → Same c w w′ → Owned w c → Owned w′ c
 owned-same s ow = owned-keep (same-fixed s) ow (λ r t lr e o. s .keeps r (headWord t) lr (omega (arith, o .high)))
 
+-- a count written otherwise
+pub owned-at : {w : List ℕ} {c c′ : ℕ} → c ≡ c′ → Owned w c → Owned w c′
+owned-at e ow = rw (← e) ow
+
 -- ---- one record more: of another kind, and a scope
 module _ {w : List ℕ} {c : ℕ} (ow : Owned w c) where
   pub owned-step : (tagScope ≤ cell w c 0 → cell w c 0 ≤ tagAssociation → ⊥) → Owned w (c + 1)
