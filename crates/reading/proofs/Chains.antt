@@ -1,24 +1,19 @@
 -- Lists read from a handle: they last, and a record that is written stands at the end of the list whose handle it has.
-use mathlib.Core.Path.{_≡_, refl, sym, ap, _∙_}
+use mathlib.Core.Path.{_≡_, refl, sym, _∙_}
 use mathlib.Core.Bool.{Bool, true, false}
-use mathlib.Core.List.{List, [], _∷_, _++_, append-nil, append-assoc}
-use mathlib.Core.Option.{Option, none, some}
+use mathlib.Core.List.{List, [], _∷_, _++_, append-assoc}
 use Prim.Native.Nat.{ℕ, zero, suc, _+_, _-_, _<_, _≤_}
 use native.Mathlib.Omega.{arith}
-use native.Mathlib.Numerals.{add-one}
 use lib.Dec.{eqb}
-use borrow.Author.Tests.{eq-eqb, eqb-true, eqb-false}
-use Rattle.ast.specs.Ast.{FieldData, FieldValue, FieldBinding, Field, InterfaceDecl, Statement, BodyElement, Association, Route}
+use borrow.Author.Tests.{eqb-true}
+use Rattle.ast.specs.Ast.{FieldData, FieldValue}
 use Rattle.ast.specs.Choice.{choose}
-use Rattle.sheet.specs.Parse.{optional, statementOf, bodyElementOf}
-use Rattle.sheet.specs.Print.{row}
 use Rattle.journal.specs.declared.Record.{Record}
-use Rattle.journal.specs.Records.{tagId, tagField, tagInterface, tagStatement, tagOrder, tagStored, cell, stays, Steady, Fixed, Holds}
+use Rattle.journal.specs.Records.{cell, stays, Fixed, Holds}
 use Rattle.journal.specs.Logs.{scan, revOnto}
-use Rattle.journal.proofs.Frame.{steady-tag, fixed-less}
+use Rattle.journal.proofs.Frame.{fixed-less}
 use Rattle.journal.proofs.Lists.{scan-same, scan-low, scan-push, scan-end}
-use Rattle.expansion.specs.Values.{Values}
-use Rattle.reading.specs.Reading.{kept, back, chain, idsIn, idsAt, valueBy, valueAt, valueRec, valueNew, fieldBy, fieldRec, fieldNew, interfaceBy, interfaceRec, interfaceNew, statementRec, statementNew, orderRec, orderNew, fieldsAt, interfacesAt, statementsAt, orderAt, storedRec, storedNew, valuesAt, rootRec, routeBy, bodyRouteRec, associationRec}
+use Rattle.reading.specs.Reading.{kept, back, chain, idsIn, idsAt, valueAt, valueRec, valueNew, fieldRec, fieldNew, interfaceRec, interfaceNew, statementRec, statementNew, orderRec, orderNew, fieldsAt, interfacesAt, statementsAt, orderAt, storedRec, storedNew, valuesAt, rootRec, bodyRouteRec, associationRec}
 use Rattle.reading.proofs.Words.{kept-is, kept-fixed, Lasting, lasting-word}
 
 -- ---- any list

@@ -1,18 +1,17 @@
 -- Handles and fair records stay so.
-use mathlib.Core.Path.{_≡_, refl, sym, ap, _∙_}
+use mathlib.Core.Path.{_≡_, refl, sym, _∙_}
 use mathlib.Core.Bool.{Bool, true, false}
 use mathlib.Core.List.{List}
-use Prim.Native.Nat.{ℕ, suc, _+_, _-_, _<_, _≤_}
+use Prim.Native.Nat.{ℕ, _+_, _-_, _<_, _≤_}
 use native.Mathlib.Omega.{arith}
-use lib.Dec.{eqb, ltb}
+use lib.Dec.{eqb}
 use borrow.Author.Tests.{ne-eqb, eqb-true, lt-ltb, le-ltb}
 use Rattle.ast.specs.Choice.{choose}
 use Rattle.journal.specs.Records.{tagMap, tagNode, tagId, tagField, tagInterface, tagStored, tagScope, tagRoot, tagRoute, tagAssociation, tagInstance, cell, stays, Fixed}
 use Rattle.journal.specs.Owned.{ownedBy, lastOwned}
 use Rattle.journal.proofs.Frame.{steady-tag, steady-is, stays-all, fixed-less, last-fixed}
 use Rattle.journal.proofs.Owned.{owned-stable}
-use Rattle.reading.specs.Reading.{below}
-use Rattle.reading.specs.Fair.{HandleAt, NodeAt, listed, valued, NodeClosed, InstanceClosed, Fair, AllFair}
+use Rattle.reading.specs.Fair.{HandleAt, NodeAt, listed, valued, NodeClosed, InstanceClosed, Fair}
 use Rattle.reading.proofs.Logs.{below-fixed}
 
 -- ---- handles

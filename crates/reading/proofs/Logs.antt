@@ -1,13 +1,12 @@
 -- Logs of the records that pass a test: they last, pass over records that do not pass, and take one that does at their end.
-use mathlib.Core.Path.{_≡_, refl, sym, ap, _∙_}
+use mathlib.Core.Path.{_≡_, refl, _∙_}
 use mathlib.Core.Bool.{Bool, true, false}
-use mathlib.Core.List.{List, [], _∷_, _++_, map, append-nil}
+use mathlib.Core.List.{List, [], _∷_, _++_, map}
 use Prim.Native.Nat.{ℕ, zero, suc, _+_, _<_, _≤_}
 use native.Mathlib.Omega.{arith}
-use native.Mathlib.Numerals.{add-one}
 use Rattle.ast.specs.Choice.{choose}
 use Rattle.journal.specs.Records.{cell, Fixed}
-use Rattle.journal.specs.Logs.{logUp, logDown, only, countOf}
+use Rattle.journal.specs.Logs.{logUp, logDown, only}
 use Rattle.journal.specs.Owned.{tagged}
 use Rattle.journal.proofs.Frame.{fixed-less, Stable, count-fixed}
 use Rattle.journal.proofs.Lists.{up-same, down-same, up-span, down-span, up-one, down-one, only-here, only-other, count-span, count-here}

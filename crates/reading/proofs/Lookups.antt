@@ -1,22 +1,22 @@
 -- What is found in the map and among the externs is the newest record of its key; the associations of a scope are its own list.
-use mathlib.Core.Path.{_≡_, refl, sym, ap, _∙_}
+use mathlib.Core.Path.{_≡_, refl, _∙_}
 use mathlib.Core.Bool.{Bool, true, false, _&&_}
 use mathlib.Core.List.{List, [], _∷_, _++_}
 use mathlib.Core.Option.{Option, none, some}
-use Prim.Native.Nat.{ℕ, zero, suc, _+_, _<_, _≤_}
+use Prim.Native.Nat.{ℕ, zero, suc, _+_}
 use native.Mathlib.Omega.{arith}
 use lib.Dec.{eqb}
-use borrow.Author.Tests.{eq-eqb, ne-eqb, eqb-true, eqb-false}
+use borrow.Author.Tests.{eqb-true}
 use Rattle.ast.specs.Ast.{Association}
 use Rattle.ast.specs.Choice.{choose, mapO}
 use Rattle.expansion.specs.State.{Entry, ExternEntry, lookup}
 use Rattle.expansion.specs.Externs.{lookupExtern}
 use Rattle.expansion.specs.Instances.{associationsOf}
-use Rattle.journal.specs.Records.{tagMap, tagExtern, tagAssociation, cell, stays}
+use Rattle.journal.specs.Records.{tagMap, tagExtern, tagAssociation, cell}
 use Rattle.journal.specs.Logs.{newestOf, logUp, logDown, only}
 use Rattle.journal.specs.Index.{hit, newest}
 use Rattle.journal.specs.Owned.{tagged, ownedBy, ownedLog}
-use Rattle.reading.specs.Reading.{kept, entryRec, externEntryRec, isRec, associationRec, mapOf, externMapOf, isMapOf}
+use Rattle.reading.specs.Reading.{entryRec, externEntryRec, isRec, associationRec, mapOf, externMapOf, isMapOf}
 use Rattle.reading.proofs.Words.{kept-is}
 
 -- a search in a log of keyed records, newest first

@@ -1,24 +1,20 @@
 -- The nodes of the output: they last while their words and the ends of recorded routes do, and one that is changed is set.
-use mathlib.Core.Path.{_≡_, refl, sym, ap, _∙_}
+use mathlib.Core.Path.{_≡_, refl, sym, _∙_}
 use mathlib.Core.Bool.{Bool, true, false}
-use mathlib.Core.List.{List, [], _∷_, _++_, append-nil}
-use mathlib.Core.Option.{Option, none, some}
-use Prim.Native.Nat.{ℕ, zero, suc, _+_, _-_, _<_, _≤_}
+use mathlib.Core.List.{List, [], _∷_, _++_}
+use Prim.Native.Nat.{ℕ, _+_, _-_, _<_, _≤_}
 use native.Mathlib.Omega.{arith}
 use lib.ListN.{length, set}
-use lib.Dec.{eqb}
-use Rattle.ast.specs.Ast.{Route, Node, NodeOrigin}
 use Rattle.ast.specs.Choice.{choose}
-use Rattle.sheet.specs.Parse.{optional, originOf}
-use Rattle.sheet.specs.Print.{row}
+use Rattle.sheet.specs.Parse.{originOf}
 use Rattle.expansion.specs.PlainCopy.{blank}
 use Rattle.journal.specs.declared.Record.{Record}
-use Rattle.journal.specs.Records.{tagNode, tagRoot, tagRoute, tagAssociation, tagInstance, cell, stays, Same, Fixed, SetWord}
-use Rattle.journal.specs.Logs.{scan, logUp, only}
-use Rattle.journal.specs.Owned.{tagged, ownedBy, ownedLog, Appended, headWord}
+use Rattle.journal.specs.Records.{tagNode, tagRoot, tagRoute, tagAssociation, tagInstance, cell, Same, Fixed, SetWord}
+use Rattle.journal.specs.Logs.{only}
+use Rattle.journal.specs.Owned.{tagged, ownedBy, Appended}
 use Rattle.journal.proofs.Cells.{set-cell}
-use Rattle.journal.proofs.Frame.{steady-tag, fixed-less, same-fixed, set-fixed}
-use Rattle.journal.proofs.Lists.{up-same, up-span, up-one, only-here, only-other, up-count, up-patch, up-get, scan-end}
+use Rattle.journal.proofs.Frame.{steady-tag, same-fixed, set-fixed}
+use Rattle.journal.proofs.Lists.{up-same, up-span, up-one, only-here, only-other, up-count, up-patch, scan-end}
 use Rattle.journal.proofs.Owned.{tagged-here, tagged-other, tagged-is, tagged-stable, owned-is, owned-stable, append-fixed}
 use Rattle.reading.specs.Reading.{kept, rootRec, routeRec, associationRec, instanceRec, merged, instancesAt, nodeBy, nodeRec, nodesOf, below}
 use Rattle.reading.specs.Fair.{HandleAt, NodeClosed, AllFair}

@@ -1,13 +1,13 @@
 -- Which state the records stand for after records are written: those that no log reads, and one of each other tag.
-use mathlib.Core.Path.{_≡_, refl, sym, ap, _∙_}
+use mathlib.Core.Path.{_≡_, sym, _∙_}
 use mathlib.Core.List.{List, [], _∷_, _++_}
 use Prim.Native.Nat.{ℕ, suc, _+_, _<_, _≤_}
 use native.Mathlib.Omega.{arith}
 use native.Mathlib.Numerals.{add-one}
-use lib.ListN.{length, set}
-use Rattle.ast.specs.Ast.{Association, Node, ExternProtoDecl}
+use lib.ListN.{length}
+use Rattle.ast.specs.Ast.{Node, ExternProtoDecl}
 use Rattle.expansion.specs.Scopes.{Scope}
-use Rattle.expansion.specs.State.{Entry, World, ExternEntry, State, withWorld, withNodes}
+use Rattle.expansion.specs.State.{ExternEntry, State, withWorld, withNodes}
 use Rattle.expansion.specs.Charges.{oneMore}
 use Rattle.expansion.specs.PlainCopy.{pushAssociation}
 use Rattle.expansion.specs.Instances.{addEntry}
@@ -16,12 +16,12 @@ use Rattle.journal.specs.Records.{tagMap, tagExtern, tagNode, tagScope, tagAsso
 use Rattle.journal.specs.Owned.{tagged}
 use Rattle.journal.proofs.Lists.{up-count}
 use Rattle.journal.proofs.Owned.{tagged-here, tagged-other, tagged-stable}
-use Rattle.reading.specs.Reading.{kept, scopeBy, scopeRec, externBy, externRec, entryRec, ledgerRec, externEntryRec, isRec, associationRec, mapOf, ledgerOf, scopesOf, nodesOf, externsOf, externMapOf, isMapOf, stateOf, nodeRec, below}
+use Rattle.reading.specs.Reading.{kept, scopeBy, scopeRec, externBy, externRec, entryRec, ledgerRec, externEntryRec, isRec, mapOf, ledgerOf, scopesOf, nodesOf, externsOf, externMapOf, isMapOf, stateOf, nodeRec, below}
 use Rattle.reading.specs.Fair.{AllFair}
 use Rattle.reading.proofs.Words.{kept-is, kept-fixed, Lasting}
 use Rattle.reading.proofs.Chains.{association-lasting}
 use Rattle.reading.proofs.Logs.{up-stays, down-stays, up-new, down-new}
-use Rattle.reading.proofs.Nodes.{Calm, nodes-stays, nodes-new, nodes-fixed}
+use Rattle.reading.proofs.Nodes.{Calm, nodes-stays, nodes-new}
 
 -- ---- what each log reads of a record lasts
 module _ {r : ℕ} {w w′ : List ℕ} (f : Fixed (suc r) w w′) where

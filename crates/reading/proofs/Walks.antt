@@ -1,12 +1,12 @@
 -- Walks along a list of records from its handle.
-use mathlib.Core.Path.{_≡_, refl, sym, ap, _∙_}
+use mathlib.Core.Path.{_≡_, refl, _∙_}
 use mathlib.Core.Bool.{true}
 use mathlib.Core.List.{List, [], _∷_}
-use Prim.Native.Nat.{ℕ, suc, _+_, _*_, _-_, _<_, _≤_}
+use Prim.Native.Nat.{ℕ, _+_, _*_, _-_, _<_, _≤_}
 use native.Mathlib.Omega.{arith}
 use lib.ListN.{length}
 use Rattle.journal.specs.Records.{cell}
-use Rattle.journal.specs.Logs.{scan, revOnto}
+use Rattle.journal.specs.Logs.{revOnto}
 use Rattle.journal.proofs.Lists.{scan-low, scan-push, scan-end}
 use Rattle.reading.specs.Reading.{kept, back}
 use Rattle.reading.specs.Fair.{HandleAt, listed, AllFair, Walkable}

@@ -1,5 +1,5 @@
 -- Words that never change, and what reads only those.
-use mathlib.Core.Path.{_≡_, refl, sym, ap, _∙_}
+use mathlib.Core.Path.{_≡_, refl}
 use mathlib.Core.Bool.{Bool, true, false}
 use mathlib.Core.List.{List}
 use Prim.Native.Nat.{ℕ, suc, _<_}
@@ -7,8 +7,7 @@ use native.Mathlib.Omega.{arith}
 use lib.Dec.{ltb}
 use borrow.Author.Tests.{lt-ltb, ltb-true}
 use Rattle.ast.specs.Choice.{choose}
-use Rattle.journal.specs.declared.Record.{Record}
-use Rattle.journal.specs.Records.{cell, stays, Steady, Fixed, Holds}
+use Rattle.journal.specs.Records.{cell, stays, Steady, Fixed}
 use Rattle.journal.proofs.Frame.{steady-tag}
 use Rattle.reading.specs.Reading.{kept}
 

@@ -1,13 +1,12 @@
 -- How the records of the journal are read as parts of the expansion's state.
 -- A handle is the place of a list's last record with one added, 0 for an empty list; word 8 of a record is the one before it.
 -- What is read by `kept` never changes; what is read by `cell` may: a node's contents, and a route's remapped ends.
-use mathlib.Core.Bool.{Bool, true, false}
 use mathlib.Core.List.{List, [], _∷_, _++_, map}
 use mathlib.Core.Option.{Option, none, some}
 use Prim.Native.Nat.{ℕ}
-use lib.ListN.{length, drop}
+use lib.ListN.{drop}
 use lib.Dec.{eqb, ltb}
-use Rattle.ast.specs.Ast.{FieldData, FieldValue, FieldBinding, Field, InterfaceDecl, Route, Statement, NodeOrigin, BodyElement, Association, ProtoInstance, Node, ExternProtoDecl}
+use Rattle.ast.specs.Ast.{FieldData, FieldValue, FieldBinding, Field, InterfaceDecl, Route, Statement, BodyElement, Association, ProtoInstance, Node, ExternProtoDecl}
 use Rattle.ast.specs.Choice.{choose}
 use Rattle.sheet.specs.Rows.{rows}
 use Rattle.sheet.specs.Parse.{optional, statementOf, bodyElementOf, originOf, externProtoOf}
@@ -15,7 +14,7 @@ use Rattle.sheet.specs.Print.{row}
 use Rattle.lookup.specs.Lookup.{sheetOf}
 use Rattle.picks.specs.Picks.{Pick}
 use Rattle.expansion.specs.Scopes.{Scope}
-use Rattle.expansion.specs.State.{Entry, World, ExternEntry, State}
+use Rattle.expansion.specs.State.{Entry, ExternEntry, State}
 use Rattle.expansion.specs.Values.{Values}
 use Rattle.expansion.specs.Externs.{noValue}
 use Rattle.expansion.specs.Instances.{Body}

@@ -1,10 +1,8 @@
 -- How code is shown to do what a piece of the definition does, step by step.
-use mathlib.Core.Path.{_≡_, refl, sym, ap, _∙_}
-use mathlib.Core.List.{List, [], _∷_, _++_, append-nil, append-assoc}
-use Prim.Native.Nat.{ℕ, zero, suc, _+_, _-_, _≤_, _<_}
-use native.Mathlib.Omega.{arith}
-use lib.ListN.{length}
-use Rattle.expansion.specs.State.{State, Result, refusal, ok, Comp, bindR, _>>=_, _>>_, ret, fail, mapM, foldM}
+use mathlib.Core.Path.{_≡_, refl, sym, _∙_}
+use mathlib.Core.List.{List, [], _∷_}
+use Prim.Native.Nat.{ℕ, _-_, _≤_}
+use Rattle.expansion.specs.State.{Result, refusal, ok, Comp, bindR, _>>=_, _>>_, ret, fail, mapM, foldM}
 use Rattle.expansion.specs.Input.{Input}
 use Rattle.expansion.specs.Charges.{charge, paid}
 use Rattle.refine.specs.declared.Limits.{Limits}
@@ -12,7 +10,7 @@ use Rattle.refine.specs.declared.Counts.{Counts}
 use Rattle.refine.specs.declared.Answer.{Answer}
 use Rattle.refine.specs.declared.Answer.the-variants.{Done, Refused}
 use Rattle.refine.specs.Sound.{Source, Sound, Later}
-use Rattle.refine.specs.Does.{Decode, at, resultOf, IfDone, Does, Doing}
+use Rattle.refine.specs.Does.{Decode, at, IfDone, Does, Doing}
 use Rattle.refine.proofs.Later.{later-refl, later-trans, later-young}
 
 -- ---- the monad: nested steps in a row
@@ -106,6 +104,11 @@ module _ {M : Type 0} {S : Source} {L : Limits} {young : ℕ} {m₀ : Comp M} {w
         rest (refusal n i j) = refl
         rest (ok b st) = most b (mapM f l st)
 
+    -- the next element is done
+    pub each-step : (a : A) (l : List A) (k : List B → Comp M) → Doing S L young m₀ w₀ t₀ (mapM f (a ∷ l) >>= k) w t → {d : Decode B} {w′ : List ℕ} {r : Answer} → Does S L young d (f a) w t w′ r → {t′ : Counts} {v p : ℕ}
+        → r ≡ Done t′ v p → Doing S L young m₀ w₀ t₀ (mapM f l >>= (λ bs. k (d w′ v p ∷ bs))) w′ t′
+    each-step a l k g x e = step (λ b. mapM f l >>= (λ bs. k (b ∷ bs))) (each a l k g) x e
+
     pub each-end : (k : List B → Comp M) → Doing S L young m₀ w₀ t₀ (mapM f [] >>= k) w t → Doing S L young m₀ w₀ t₀ (k []) w t
     unfolding mapM bindR
     each-end k g = g
@@ -115,6 +118,11 @@ module _ {M : Type 0} {S : Source} {L : Limits} {young : ℕ} {m₀ : Comp M} {w
     pub fold : (b : B) (a : A) (l : List A) (k : B → Comp M) → Doing S L young m₀ w₀ t₀ (foldM f b (a ∷ l) >>= k) w t → Doing S L young m₀ w₀ t₀ (f b a >>= (λ c. foldM f c l >>= k)) w t
     unfolding foldM
     fold b a l k g = turn g (f b a >>= (λ c. foldM f c l >>= k)) (assoc (f b a (at S w t)) (λ c. foldM f c l) k)
+
+    -- the next element is done
+    pub fold-step : (b : B) (a : A) (l : List A) (k : B → Comp M) → Doing S L young m₀ w₀ t₀ (foldM f b (a ∷ l) >>= k) w t → {d : Decode B} {w′ : List ℕ} {r : Answer} → Does S L young d (f b a) w t w′ r → {t′ : Counts} {v p : ℕ}
+        → r ≡ Done t′ v p → Doing S L young m₀ w₀ t₀ (foldM f (d w′ v p) l >>= k) w′ t′
+    fold-step b a l k g x e = step (λ c. foldM f c l >>= k) (fold b a l k g) x e
 
     pub fold-end : (b : B) (k : B → Comp M) → Doing S L young m₀ w₀ t₀ (foldM f b [] >>= k) w t → Doing S L young m₀ w₀ t₀ (k b) w t
     unfolding foldM bindR

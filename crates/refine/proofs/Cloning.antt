@@ -1,11 +1,11 @@
 -- Charges that keep nothing, and `clone`.
 use mathlib.Core.Path.{_≡_, refl, sym, ap, _∙_}
-use mathlib.Core.List.{List, []}
-use Prim.Native.Nat.{ℕ, zero, suc, _+_, _*_, _-_, _≤_, _<_}
+use mathlib.Core.List.{List}
+use Prim.Native.Nat.{ℕ, _+_, _-_, _≤_, _<_}
 use native.Mathlib.Omega.{arith}
-use lib.ListN.{length, getD}
+use lib.ListN.{length}
 use borrow.Author.Tests.{eq-eqb, ne-eqb}
-use Rattle.ast.specs.Ast.{FieldData, FieldValue}
+use Rattle.ast.specs.Ast.{FieldValue}
 use Rattle.expansion.specs.State.{ok, bindR}
 use Rattle.expansion.specs.Charges.{chargeEach}
 use Rattle.expansion.specs.Values.{clone}
@@ -24,8 +24,8 @@ use Rattle.refine.specs.declared.Limits.{Limits}
 use Rattle.refine.specs.declared.Counts.{Counts}
 use Rattle.refine.specs.declared.Answer.{Answer}
 use Rattle.refine.specs.declared.Answer.the-variants.{Done, Refused}
-use Rattle.refine.specs.Sound.{Source, inputOf, headsAt, Sound, Ready, Standing, OfBody, Later}
-use Rattle.refine.specs.Does.{nothing, at}
+use Rattle.refine.specs.Sound.{Source, inputOf, Sound, Standing, Later}
+use Rattle.refine.specs.Does.{at}
 use Rattle.refine.specs.Contract.{charged, Cloned}
 use Rattle.refine.proofs.Grow.{sound-more, later-more}
 use Rattle.refine.proofs.Later.{later-refl}

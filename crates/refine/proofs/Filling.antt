@@ -7,23 +7,22 @@ use native.Mathlib.Omega.{arith}
 use lib.ListN.{length, getD, set}
 use lib.Dec.{eqb, ltb}
 use borrow.Author.Tests.{eqb-true, eqb-false, ltb-true, ltb-false}
-use Rattle.ast.specs.Ast.{Node}
-use Rattle.expansion.specs.State.{State, ok, withNodes}
-use Rattle.journal.specs.Records.{tagExtern, tagNode, tagField, tagInterface, tagStatement, tagOrder, tagScope, tagRoute, tagInstance, cell, stays, Fixed, Steady, Pushed}
+use Rattle.expansion.specs.State.{ok, withNodes}
+use Rattle.journal.specs.Records.{tagExtern, tagNode, tagField, tagInterface, tagStatement, tagOrder, tagScope, tagRoute, tagInstance, cell, Fixed, Pushed}
 use Rattle.journal.specs.Owned.{headWord}
 use Rattle.journal.proofs.Frame.{stays-most}
 use Rattle.journal.proofs.Index.{index-keep}
 use Rattle.journal.proofs.Owned.{owned-keep}
 use Rattle.reading.specs.Reading.{nodeBy, nodeRec, nodesOf, below}
-use Rattle.reading.specs.Fair.{HandleAt, NodeAt, NodeClosed, AllFair}
+use Rattle.reading.specs.Fair.{HandleAt, NodeAt, NodeClosed}
 use Rattle.reading.proofs.Fair.{handle-none, handle-fixed, fair-fixed, closed-fixed}
 use Rattle.reading.proofs.Logs.{below-fixed}
-use Rattle.reading.proofs.Nodes.{EndsKept, NodeKept, node-same, nodes-patch}
+use Rattle.reading.proofs.Nodes.{EndsKept, node-same, nodes-patch}
 use Rattle.reading.proofs.States.{state-patch}
 use Rattle.refine.specs.declared.Limits.{Limits}
 use Rattle.refine.specs.declared.Counts.{Counts}
 use Rattle.refine.specs.declared.Answer.the-variants.{Done}
-use Rattle.refine.specs.Sound.{Source, headsAt, Sound, OfBody, Later}
+use Rattle.refine.specs.Sound.{Source, headsAt, Sound, Later}
 use Rattle.refine.specs.Does.{number, at, Does}
 use Rattle.refine.specs.Contract.{contentsOf}
 

@@ -1,8 +1,8 @@
 -- Records more: what holds of the journal after them, and that it is later.
-use mathlib.Core.Path.{_≡_, refl, sym, ap, _∙_}
+use mathlib.Core.Path.{_≡_, refl, sym, _∙_}
 use mathlib.Core.Bool.{Bool, true, false}
 use mathlib.Core.List.{List}
-use Prim.Native.Nat.{ℕ, zero, suc, _+_, _*_, _-_, _≤_, _<_}
+use Prim.Native.Nat.{ℕ, _+_, _-_, _≤_, _<_}
 use native.Mathlib.Omega.{arith}
 use lib.ListN.{length, getD}
 use lib.Dec.{ltb}
@@ -12,7 +12,7 @@ use Rattle.journal.specs.Records.{tagNode, tagScope, tagExtern, cell, Fixed, Ho
 use Rattle.journal.specs.Index.{Indexed}
 use Rattle.journal.specs.Owned.{Owned}
 use Rattle.reading.specs.Reading.{below}
-use Rattle.reading.specs.Fair.{NodeClosed, Fair, AllFair}
+use Rattle.reading.specs.Fair.{Fair, AllFair}
 use Rattle.reading.proofs.Fair.{fair-fixed, closed-fixed}
 use Rattle.reading.proofs.Logs.{below-stays, below-new}
 use Rattle.reading.proofs.Nodes.{Calm}

@@ -1,20 +1,19 @@
 -- `keep`: a charge and a record of a list; what the list of its handle is.
-use mathlib.Core.Path.{_≡_, refl, sym, ap, _∙_}
-use mathlib.Core.Bool.{Bool, true, false}
+use mathlib.Core.Path.{_≡_, refl, sym, _∙_}
+use mathlib.Core.Bool.{true}
 use mathlib.Core.Logic.{_⊎_, ⊎-elim}
 use mathlib.Core.List.{List, [], _∷_, _++_}
-use Prim.Native.Nat.{ℕ, zero, suc, _+_, _*_, _-_, _≤_, _<_}
+use Prim.Native.Nat.{ℕ, _+_, _-_, _≤_, _<_}
 use native.Mathlib.Omega.{arith}
-use lib.ListN.{length, getD}
-use Rattle.expansion.specs.Charges.{oneMore}
+use lib.ListN.{length}
 use Rattle.journal.specs.declared.Record.{Record}
-use Rattle.journal.specs.Records.{tagMap, tagExtern, tagNode, tagId, tagField, tagInterface, tagStatement, tagOrder, tagStored, tagScope, tagAssociation, cell, stays, Fixed, Pushed}
+use Rattle.journal.specs.Records.{tagExtern, tagNode, tagScope, cell, stays, Fixed, Pushed}
 use Rattle.journal.proofs.Frame.{same-fixed, stays-all}
 use Rattle.journal.proofs.Keys.{unkeyed}
 use Rattle.journal.proofs.Index.{index-push}
 use Rattle.journal.proofs.Owned.{owned-push}
 use Rattle.reading.specs.Reading.{idsAt, fieldsAt, fieldNew, interfacesAt, interfaceNew, statementsAt, statementNew, orderAt, orderNew, valuesAt, storedNew}
-use Rattle.reading.specs.Fair.{HandleAt, listed, valued, Fair}
+use Rattle.reading.specs.Fair.{HandleAt, valued, Fair}
 use Rattle.reading.proofs.Chains.{ids-new, fields-new, interfaces-new, statements-new, order-new, values-new}
 use Rattle.reading.proofs.Fair.{handle-fixed, handle-new}
 use Rattle.reading.proofs.Nodes.{Calm, calm-same}
@@ -23,7 +22,7 @@ use Rattle.refine.specs.declared.Limits.{Limits}
 use Rattle.refine.specs.declared.Counts.{Counts}
 use Rattle.refine.specs.declared.Answer.{Answer}
 use Rattle.refine.specs.declared.Answer.the-variants.{Done, Refused}
-use Rattle.refine.specs.Sound.{Source, headsAt, Sound, Ready, Standing, OfBody, Later}
+use Rattle.refine.specs.Sound.{Sound, Standing, OfBody, Later}
 use Rattle.refine.specs.Does.{at}
 use Rattle.refine.specs.Contract.{charged, Keepable, KeptAt, Kept}
 use Rattle.refine.proofs.Grow.{sound-more, later-more, alone, count-other}

@@ -1,24 +1,20 @@
 -- From one step to a later one: how `Later` goes together, and what stays true.
-use mathlib.Core.Path.{_≡_, refl, sym, ap, _∙_}
+use mathlib.Core.Path.{_≡_, refl, sym, _∙_}
 use mathlib.Core.Bool.{Bool, true, false}
-use mathlib.Core.Logic.{_⊎_, ⊎-elim, inl, inr}
-use mathlib.Core.List.{List, [], _∷_, _++_}
-use mathlib.Core.Option.{none, some}
-use Prim.Native.Nat.{ℕ, zero, suc, _+_, _*_, _-_, _≤_, _<_}
+use mathlib.Core.Logic.{inl, inr}
+use mathlib.Core.List.{List}
+use Prim.Native.Nat.{ℕ, _+_, _-_, _≤_, _<_}
 use native.Mathlib.Omega.{arith}
-use lib.ListN.{length, getD}
 use lib.Dec.{ltb}
 use borrow.Author.Tests.{ltb-true, ltb-false}
-use Rattle.ast.specs.Choice.{choose}
-use Rattle.ast.specs.Ast.{Route}
-use Rattle.journal.specs.Records.{tagScope, tagStored, tagRoot, tagRoute, tagAssociation, tagInstance, cell, Fixed}
+use Rattle.journal.specs.Records.{tagScope, tagRoot, tagRoute, tagInstance, cell}
 use Rattle.journal.specs.Owned.{ownedBy, ownedLog}
 use Rattle.journal.proofs.Frame.{fixed-refl, fixed-trans, fixed-less, steady-tag, steady-first, steady-is}
 use Rattle.journal.proofs.Owned.{owned-is, owned-stable}
 use Rattle.expansion.specs.Values.{Env}
-use Rattle.reading.specs.Reading.{kept, scopeRec, valuesAt, rootRec, bodyRouteRec, bodyOf, below}
-use Rattle.reading.specs.Fair.{HandleAt, NodeAt, AllFair}
-use Rattle.reading.proofs.Words.{kept-fixed, Lasting}
+use Rattle.reading.specs.Reading.{kept, rootRec, bodyRouteRec, bodyOf}
+use Rattle.reading.specs.Fair.{HandleAt, NodeAt}
+use Rattle.reading.proofs.Words.{Lasting}
 use Rattle.reading.proofs.Chains.{values-fixed, root-lasting, bodyRoute-lasting}
 use Rattle.reading.proofs.Logs.{up-stays}
 use Rattle.reading.proofs.Fair.{handle-fixed, node-at-fixed}
@@ -27,7 +23,7 @@ use Rattle.reading.proofs.States.{scope-lasting}
 use Rattle.refine.specs.declared.Limits.{Limits}
 use Rattle.refine.specs.declared.Counts.{Counts}
 use Rattle.refine.specs.declared.Env as code
-use Rattle.refine.specs.Sound.{headsAt, Sound, Ready, Standing, OfBody, Later, EnvAt, envOf}
+use Rattle.refine.specs.Sound.{Sound, Standing, OfBody, Later, EnvAt, envOf}
 
 -- ---- how it goes together
 pub later-refl : {L : Limits} {w : List ℕ} {t : Counts} (young : ℕ) → Sound L w t → Later L young w t w t

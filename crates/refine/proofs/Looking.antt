@@ -1,20 +1,14 @@
 -- `look`: what is found in the map, and the node that it is.
-use mathlib.Core.Path.{_≡_, refl, sym, ap, _∙_}
-use mathlib.Core.Bool.{true}
+use mathlib.Core.Path.{_≡_, sym, _∙_}
 use mathlib.Core.List.{List}
-use mathlib.Core.Option.{Option, none, some}
-use Prim.Native.Nat.{ℕ, _+_, _*_, _≤_, _<_}
+use Prim.Native.Nat.{ℕ}
 use native.Mathlib.Omega.{arith}
-use Rattle.ast.specs.Choice.{mapO}
-use Rattle.expansion.specs.State.{lookup}
 use Rattle.journal.specs.declared.Found.{Found}
-use Rattle.journal.specs.declared.Found.the-variants.{At, Nothing}
-use Rattle.journal.specs.Records.{tagMap, cell}
+use Rattle.journal.specs.Records.{tagMap}
 use Rattle.journal.specs.Index.{hit, newest, foundOf}
 use Rattle.journal.proofs.Keys.{hit-is}
 use Rattle.journal.proofs.Lists.{newest-is}
-use Rattle.reading.specs.Reading.{mapOf}
-use Rattle.reading.specs.Fair.{NodeAt, AllFair}
+use Rattle.reading.specs.Fair.{AllFair}
 use Rattle.reading.proofs.Fair.{node-at-more}
 use Rattle.reading.proofs.Lookups.{map-lookup}
 use Rattle.refine.specs.Contract.{Looked}

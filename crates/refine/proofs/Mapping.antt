@@ -1,15 +1,14 @@
 -- `map`: a charge and a map entry.
-use mathlib.Core.Path.{_≡_, refl, sym, ap, _∙_}
-use mathlib.Core.Bool.{true}
+use mathlib.Core.Path.{_≡_, refl, ap}
 use mathlib.Core.List.{List}
-use Prim.Native.Nat.{ℕ, zero, suc, _+_, _*_, _-_, _≤_, _<_}
+use Prim.Native.Nat.{ℕ, _+_, _-_, _≤_, _<_}
 use native.Mathlib.Omega.{arith}
-use lib.ListN.{length, getD}
-use Rattle.expansion.specs.State.{ok, bindR, _>>=_, _>>_}
-use Rattle.expansion.specs.Charges.{oneMore, charge}
+use lib.ListN.{length}
+use Rattle.expansion.specs.State.{ok}
+use Rattle.expansion.specs.Charges.{oneMore}
 use Rattle.expansion.specs.Instances.{addEntry}
 use Rattle.journal.specs.declared.Record.{Record}
-use Rattle.journal.specs.Records.{tagMap, tagExtern, tagNode, tagScope, cell}
+use Rattle.journal.specs.Records.{tagExtern, tagNode, tagScope, cell}
 use Rattle.journal.specs.Logs.{lastOf}
 use Rattle.journal.specs.Index.{slotOf, inSlot, linked, Entered}
 use Rattle.journal.proofs.Owned.{owned-enter}
@@ -21,9 +20,9 @@ use Rattle.refine.specs.declared.Limits.{Limits}
 use Rattle.refine.specs.declared.Counts.{Counts}
 use Rattle.refine.specs.declared.Answer.{Answer}
 use Rattle.refine.specs.declared.Answer.the-variants.{Done, Refused}
-use Rattle.refine.specs.Sound.{Source, inputOf, headsAt, Sound, OfBody, Later}
+use Rattle.refine.specs.Sound.{Source, headsAt, Sound, OfBody, Later}
 use Rattle.refine.specs.Does.{nothing, at}
-use Rattle.refine.specs.Contract.{charged, entryOf, MappedAt, Mapped}
+use Rattle.refine.specs.Contract.{charged, entryOf, Mapped}
 use Rattle.refine.proofs.Grow.{sound-more, later-more, alone, count-other}
 use Rattle.refine.proofs.Charges.{change-refused, change-done}
 use Rattle.refine.proofs.Keeping.{not-of-body}

@@ -1,25 +1,24 @@
 -- `open`: a charge and a scope; what its Env is, and that its lists are empty.
 use mathlib.Core.Path.{_≡_, refl, sym, ap, _∙_}
 use mathlib.Core.Bool.{Bool, true, false}
-use mathlib.Core.List.{List, [], _∷_, _++_}
+use mathlib.Core.List.{List, []}
 use mathlib.Core.Option.{none, some}
-use Prim.Native.Nat.{ℕ, zero, suc, _+_, _*_, _-_, _≤_, _<_}
+use Prim.Native.Nat.{ℕ, _+_, _-_, _≤_, _<_}
 use native.Mathlib.Omega.{arith}
-use lib.ListN.{length, getD}
+use lib.ListN.{length}
 use lib.Dec.{ltb}
 use borrow.Author.Tests.{lt-ltb}
 use Rattle.ast.specs.Choice.{choose}
 use Rattle.expansion.specs.Input.{Input}
-use Rattle.expansion.specs.State.{State, ok, Comp, bindR, _>>=_, _>>_, withWorld}
+use Rattle.expansion.specs.State.{ok, Comp}
 use Rattle.expansion.specs.Scopes.{Scope}
 use Rattle.expansion.specs.Values.{Env}
-use Rattle.expansion.specs.Charges.{oneMore, charge}
+use Rattle.expansion.specs.Charges.{oneMore}
 use Rattle.expansion.specs.Instances.{pushScope, openScope}
 use Rattle.journal.specs.declared.Record.{Record}
-use Rattle.journal.specs.Records.{tagMap, tagExtern, tagNode, tagStored, tagScope, tagRoot, tagRoute, tagInstance, cell, stays, Pushed}
-use Rattle.journal.specs.Logs.{logUp, only}
-use Rattle.journal.specs.Owned.{tagged, OwnedTag, ownedBy, ownedLog, Owned}
-use Rattle.journal.proofs.Frame.{steady-tag, steady-first, steady-is}
+use Rattle.journal.specs.Records.{tagExtern, tagNode, tagStored, tagScope, tagRoot, tagRoute, cell, Pushed}
+use Rattle.journal.specs.Logs.{only}
+use Rattle.journal.specs.Owned.{tagged, OwnedTag, ownedBy, ownedLog}
 use Rattle.journal.proofs.Lists.{count-low, count-more, up-span, up-zero, only-other}
 use Rattle.journal.proofs.Index.{index-push}
 use Rattle.journal.proofs.Owned.{owned-scope, owned-is}
@@ -30,13 +29,13 @@ use Rattle.reading.proofs.Chains.{values-fixed}
 use Rattle.reading.proofs.Fair.{fair-plain, handle-fixed}
 use Rattle.reading.proofs.Logs.{below-fixed}
 use Rattle.reading.proofs.Nodes.{Calm, calm-same, Unrecorded}
-use Rattle.reading.proofs.States.{withScopes, scopes-length, state-scope}
+use Rattle.reading.proofs.States.{scopes-length, state-scope}
 use Rattle.refine.specs.declared.Limits.{Limits}
 use Rattle.refine.specs.declared.Counts.{Counts}
 use Rattle.refine.specs.declared.Env as code
 use Rattle.refine.specs.declared.Answer.{Answer}
 use Rattle.refine.specs.declared.Answer.the-variants.{Done, Refused}
-use Rattle.refine.specs.Sound.{Source, inputOf, headsAt, Sound, OfBody, Later, EnvAt, envOf}
+use Rattle.refine.specs.Sound.{Source, inputOf, Sound, OfBody, Later, EnvAt, envOf}
 use Rattle.refine.specs.Does.{number, at}
 use Rattle.refine.specs.Contract.{scopeOf, OpenedAt, Opened}
 use Rattle.refine.proofs.Grow.{grown, sound-more, later-more, alone, count-other, count-new}

@@ -1,24 +1,19 @@
 -- `own`: a charge and a record of a scope's own lists; what the body of the scope has given then.
 use mathlib.Core.Path.{_≡_, refl, sym, ap, _∙_}
-use mathlib.Core.Bool.{Bool, true, false}
+use mathlib.Core.Bool.{false}
 use mathlib.Core.Logic.{_⊎_, ⊎-elim}
 use mathlib.Core.List.{List, [], _∷_, _++_}
 use mathlib.Core.Option.{none, some}
-use Prim.Native.Nat.{ℕ, zero, suc, _+_, _*_, _-_, _≤_, _<_}
+use Prim.Native.Nat.{ℕ, _+_, _-_, _≤_, _<_}
 use native.Mathlib.Omega.{arith}
-use lib.ListN.{length, getD}
+use lib.ListN.{length}
 use lib.Dec.{eqb}
-use Rattle.ast.specs.Ast.{Association, Route}
 use Rattle.ast.specs.Choice.{choose}
-use Rattle.sheet.specs.Parse.{optional}
-use Rattle.expansion.specs.State.{ok, bindR}
-use Rattle.expansion.specs.Charges.{oneMore}
+use Rattle.expansion.specs.State.{ok}
 use Rattle.expansion.specs.PlainCopy.{pushAssociation, associate}
-use Rattle.expansion.specs.Instances.{Body}
 use Rattle.journal.specs.declared.Record.{Record}
-use Rattle.journal.specs.Records.{tagMap, tagExtern, tagNode, tagScope, tagRoot, tagRoute, tagAssociation, tagInstance, cell, stays, Fixed, Holds}
-use Rattle.journal.specs.Owned.{ownedBy, ownedLog, Owned, headWord, after, Appended}
-use Rattle.journal.proofs.Frame.{steady-tag, steady-first}
+use Rattle.journal.specs.Records.{tagExtern, tagNode, tagScope, tagRoot, tagRoute, tagAssociation, cell, stays, Fixed, Holds}
+use Rattle.journal.specs.Owned.{ownedBy, ownedLog, headWord, after, Appended}
 use Rattle.journal.proofs.Owned.{append-fixed, index-append, owned-here, owned-tag, owned-stable}
 use Rattle.reading.specs.Reading.{kept, rootRec, bodyRouteRec, routeNew, bodyOf}
 use Rattle.reading.specs.Fair.{Fair}
@@ -26,15 +21,15 @@ use Rattle.reading.proofs.Words.{kept-is, Lasting}
 use Rattle.reading.proofs.Chains.{root-lasting, bodyRoute-lasting}
 use Rattle.reading.proofs.Fair.{fair-plain, unlisted-own}
 use Rattle.reading.proofs.Logs.{up-new, up-stays}
-use Rattle.reading.proofs.Nodes.{Calm, calm-append, Unrecorded}
-use Rattle.reading.proofs.States.{Silent, state-one, state-association}
+use Rattle.reading.proofs.Nodes.{Calm, calm-append}
+use Rattle.reading.proofs.States.{state-one, state-association}
 use Rattle.refine.specs.declared.Limits.{Limits}
 use Rattle.refine.specs.declared.Counts.{Counts}
 use Rattle.refine.specs.declared.Env as code
 use Rattle.refine.specs.declared.Answer.{Answer}
 use Rattle.refine.specs.declared.Answer.the-variants.{Done, Refused}
-use Rattle.refine.specs.Sound.{Source, inputOf, headsAt, Sound, Ready, Standing, OfBody, Later, EnvAt, envOf}
-use Rattle.refine.specs.Does.{nothing, at}
+use Rattle.refine.specs.Sound.{Sound, Standing, OfBody, Later}
+use Rattle.refine.specs.Does.{nothing}
 use Rattle.refine.specs.Contract.{charged, Ownership, OwnedAt, Owning}
 use Rattle.refine.proofs.Grow.{sound-more, later-more, alone, count-other}
 use Rattle.refine.proofs.Charges.{charge-refused, charge-done, change-refused, change-done}

@@ -2,15 +2,15 @@
 use mathlib.Core.Path.{_≡_, refl, sym, ap, _∙_}
 use mathlib.Core.Bool.{Bool, true, false}
 use mathlib.Core.List.{List, [], _∷_, _++_}
-use Prim.Native.Nat.{ℕ, zero, suc, _+_, _*_, _-_, _≤_, _<_}
+use Prim.Native.Nat.{ℕ, _+_, _-_, _≤_, _<_}
 use native.Mathlib.Omega.{arith}
-use lib.ListN.{length, getD}
+use lib.ListN.{length}
 use lib.Dec.{ltb}
 use borrow.Author.Tests.{lt-ltb, le-ltb, ltb-true, ltb-false}
 use Rattle.expansion.specs.Input.{Input}
-use Rattle.expansion.specs.State.{State, Result, refusal, ok, bindR, withNodes}
+use Rattle.expansion.specs.State.{State, refusal, ok, bindR, withNodes}
 use Rattle.expansion.specs.Values.{Env}
-use Rattle.expansion.specs.Charges.{oneMore, charge}
+use Rattle.expansion.specs.Charges.{oneMore}
 use Rattle.expansion.specs.PlainCopy.{blank, addNode, reserveIf, reserve}
 use Rattle.expansion.specs.Instances.{addEntry}
 use Rattle.journal.specs.declared.Record.{Record}
@@ -18,8 +18,8 @@ use Rattle.journal.specs.Records.{tagExtern, tagNode, tagScope, cell, Pushed}
 use Rattle.journal.specs.Index.{Enterable, Entered}
 use Rattle.journal.proofs.Index.{index-push}
 use Rattle.journal.proofs.Owned.{owned-push}
-use Rattle.reading.specs.Reading.{nodeRec, nodesOf, ledgerOf, below}
-use Rattle.reading.specs.Fair.{HandleAt, NodeAt, NodeClosed, Fair}
+use Rattle.reading.specs.Reading.{nodeRec, nodesOf, ledgerOf}
+use Rattle.reading.specs.Fair.{NodeAt, NodeClosed, Fair}
 use Rattle.reading.proofs.Fair.{fair-plain, handle-none}
 use Rattle.reading.proofs.Logs.{below-fixed}
 use Rattle.reading.proofs.Nodes.{Calm, calm-same, nodes-length, node-blank}
@@ -29,9 +29,9 @@ use Rattle.refine.specs.declared.Counts.{Counts}
 use Rattle.refine.specs.declared.Env as code
 use Rattle.refine.specs.declared.Answer.{Answer}
 use Rattle.refine.specs.declared.Answer.the-variants.{Done, Refused}
-use Rattle.refine.specs.Sound.{Source, inputOf, headsAt, Sound, Ready, Standing, OfBody, Later, envOf}
-use Rattle.refine.specs.Does.{number, at, Does}
-use Rattle.refine.specs.Contract.{entryOf, blankOf, ReservedAt, Reserved}
+use Rattle.refine.specs.Sound.{Source, inputOf, headsAt, Sound, Standing, OfBody, Later, envOf}
+use Rattle.refine.specs.Does.{number, at}
+use Rattle.refine.specs.Contract.{entryOf, blankOf, Reserved}
 use Rattle.refine.proofs.Grow.{grown, sound-more, later-more, alone, count-other, count-new}
 use Rattle.refine.proofs.Later.{later-trans, later-node}
 use Rattle.refine.proofs.Charges.{charge-full, charge-some}

@@ -1,20 +1,18 @@
 -- What the steps that write one record ask and give.
 use mathlib.Core.Path.{_≡_}
-use mathlib.Core.Bool.{Bool, true, false}
+use mathlib.Core.Bool.{true}
 use mathlib.Core.List.{List}
-use mathlib.Core.Option.{Option}
-use Prim.Native.Nat.{ℕ, _+_, _*_, _-_, _≤_, _<_}
+use Prim.Native.Nat.{ℕ, _+_, _*_, _≤_, _<_}
 use lib.ListN.{length}
-use Rattle.ast.specs.Ast.{Association}
 use Rattle.ast.specs.Choice.{mapO}
-use Rattle.expansion.specs.State.{State, ok, Comp, bindR, _>>=_, _>>_, lookup}
+use Rattle.expansion.specs.State.{ok, _>>_, lookup}
 use Rattle.expansion.specs.Charges.{charge}
 use Rattle.expansion.specs.Values.{valueOf, clone}
 use Rattle.expansion.specs.PlainCopy.{reserve, associate}
 use Rattle.expansion.specs.Instances.{openScope, addEntry}
 use Rattle.journal.specs.declared.Record.{Record}
 use Rattle.journal.specs.declared.Found.{Found}
-use Rattle.journal.specs.declared.Found.the-variants.{At, Nothing}
+use Rattle.journal.specs.declared.Found.the-variants.{At}
 use Rattle.journal.specs.Records.{tagMap, tagNode, tagId, tagStored, tagScope, tagAssociation, cell, Pushed}
 use Rattle.journal.specs.Index.{foundOf}
 use Rattle.journal.specs.Owned.{OwnedTag, Appended}
@@ -24,7 +22,7 @@ use Rattle.refine.specs.declared.Limits.{Limits}
 use Rattle.refine.specs.declared.Counts.{Counts}
 use Rattle.refine.specs.declared.Env as code
 use Rattle.refine.specs.declared.Answer.{Answer}
-use Rattle.refine.specs.Sound.{Source, inputOf, Standing, EnvAt, envOf}
+use Rattle.refine.specs.Sound.{Source, inputOf, EnvAt, envOf}
 use Rattle.refine.specs.Does.{nothing, number, IfDone, Does}
 
 -- n charges more

@@ -9,7 +9,7 @@ use Rattle.refine.specs.declared.Limits.{Limits}
 use Rattle.refine.specs.declared.Counts.{Counts}
 use Rattle.refine.specs.declared.Answer.{Answer}
 use Rattle.refine.specs.declared.Answer.the-variants.{Done, Refused}
-use Rattle.refine.specs.Sound.{Source, Sound, Later}
+use Rattle.refine.specs.Sound.{Source, Later}
 
 -- what an answer's value and place are read as, in the words after
 abbrev pub Decode : Type 0 → Type 0
