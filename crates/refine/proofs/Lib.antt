@@ -1,4 +1,5 @@
 pub mod Later
+pub mod Beginning
 pub mod Calculus
 pub mod Grow
 pub mod Charges
