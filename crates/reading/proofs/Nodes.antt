@@ -1,0 +1,186 @@
+-- The nodes of the output: they last while their words and the ends of recorded routes do, and one that is changed is set.
+use mathlib.Core.Path.{_≡_, refl, sym, ap, _∙_}
+use mathlib.Core.Bool.{Bool, true, false}
+use mathlib.Core.List.{List, [], _∷_, _++_, append-nil}
+use mathlib.Core.Option.{Option, none, some}
+use Prim.Native.Nat.{ℕ, zero, suc, _+_, _-_, _<_, _≤_}
+use native.Mathlib.Omega.{arith}
+use lib.ListN.{length, set}
+use lib.Dec.{eqb}
+use Rattle.ast.specs.Ast.{Route, Node, NodeOrigin}
+use Rattle.ast.specs.Choice.{choose}
+use Rattle.sheet.specs.Parse.{optional, originOf}
+use Rattle.sheet.specs.Print.{row}
+use Rattle.expansion.specs.PlainCopy.{blank}
+use Rattle.journal.specs.declared.Record.{Record}
+use Rattle.journal.specs.Records.{tagNode, tagRoot, tagRoute, tagAssociation, tagInstance, cell, stays, Same, Fixed, SetWord}
+use Rattle.journal.specs.Logs.{scan, logUp, only}
+use Rattle.journal.specs.Owned.{tagged, ownedBy, ownedLog, Appended, headWord}
+use Rattle.journal.proofs.Cells.{set-cell}
+use Rattle.journal.proofs.Frame.{steady-tag, fixed-less, same-fixed, set-fixed}
+use Rattle.journal.proofs.Lists.{up-same, up-span, up-one, only-here, only-other, up-count, up-patch, up-get, scan-end}
+use Rattle.journal.proofs.Owned.{tagged-here, tagged-other, tagged-is, tagged-stable, owned-is, owned-stable, append-fixed}
+use Rattle.reading.specs.Reading.{kept, rootRec, routeRec, associationRec, instanceRec, merged, instancesAt, nodeBy, nodeRec, nodesOf, below}
+use Rattle.reading.specs.Fair.{HandleAt, NodeClosed, AllFair}
+use Rattle.reading.proofs.Words.{kept-is, kept-fixed}
+use Rattle.reading.proofs.Chains.{scan-on, root-lasting, association-lasting, fields-fixed, interfaces-fixed, statements-fixed, order-fixed, fields-none, interfaces-none, statements-none, order-none}
+use Rattle.reading.proofs.Logs.{up-fixed}
+
+-- how many there are is how many records of nodes there are
+pub nodes-length : (w : List ℕ) (c : ℕ) → length (nodesOf w c) ≡ below w tagNode c
+unfolding nodesOf
+nodes-length w c = up-count (tagged w tagNode) (nodeRec w) c
+
+-- ---- what may change, besides the words that never do
+-- the remapped ends of the routes of recorded instances are the same
+pub record EndsKept (c : ℕ) (w w′ : List ℕ) : Type 0 where
+  pub from : (n q : ℕ) → n < q → q < c → cell w q 0 ≡ tagInstance → cell w n 0 ≡ tagRoute → cell w n 1 ≡ cell w q 1 → cell w′ n 10 ≡ cell w n 10
+  pub to : (n q : ℕ) → n < q → q < c → cell w q 0 ≡ tagInstance → cell w n 0 ≡ tagRoute → cell w n 1 ≡ cell w q 1 → cell w′ n 11 ≡ cell w n 11
+
+-- and the words of the node of record r
+pub record NodeKept (r : ℕ) (w w′ : List ℕ) : Type 0 where
+  pub keeps : (j : ℕ) → 3 ≤ j → j < 12 → cell w′ r j ≡ cell w r j
+
+-- and those of each node below c
+pub record Calm (c : ℕ) (w w′ : List ℕ) : Type 0 where
+  pub fixed : Fixed c w w′
+  pub ends : EndsKept c w w′
+  pub nodes : (r : ℕ) → r < c → cell w r 0 ≡ tagNode → NodeKept r w w′
+
+-- ---- instances
+module _ {c : ℕ} {w w′ : List ℕ} (f : Fixed c w w′) (fair : AllFair w c) (ends : EndsKept c w w′) where
+  -- the routes of a recorded instance
+  route-same : (q : ℕ) → q < c → cell w q 0 ≡ tagInstance → (r : ℕ) → r < q → only (ownedBy w′ tagRoute (kept w q 1)) (routeRec w′) r ≡ only (ownedBy w tagRoute (kept w q 1)) (routeRec w) r
+  unfolding only
+  route-same q lq e r lr = rw (owned-stable tagRoute (kept w q 1) .same r w w′ (f .steady r (omega arith))) (by (ownedBy w tagRoute (kept w q 1) r) refl)
+    where
+      by : (t : Bool) → ownedBy w tagRoute (kept w q 1) r ≡ t → choose t (routeRec w′ r ∷ []) [] ≡ choose t (routeRec w r ∷ []) []
+      by true p =
+          let o = owned-is w tagRoute (kept w q 1) r p in
+          let s : cell w r 1 ≡ cell w q 1 = o .1 ∙ kept-is w q tagInstance 1 (cell w q 1) e (omega arith) refl in
+          rw (
+            kept-fixed f r 2 (omega arith),
+            kept-fixed f r 3 (omega arith),
+            kept-fixed f r 4 (omega arith),
+            kept-fixed f r 5 (omega arith),
+            ends .from r q lr lq e (o .0) s,
+            ends .to r q lr lq e (o .0) s,
+          )
+      by false p = refl
+
+  instance-same : (q : ℕ) → q < c → cell w q 0 ≡ tagInstance → instanceRec w′ q ≡ instanceRec w q
+  instance-same q lq e =
+      rw (
+        kept-fixed f q 1 lq,
+        kept-fixed f q 2 lq,
+        up-fixed (λ u. ownedBy u tagRoot (kept w q 1)) (owned-stable tagRoot (kept w q 1)) rootRec root-lasting f q (omega arith),
+        up-same (only (ownedBy w tagRoute (kept w q 1)) (routeRec w)) (only (ownedBy w′ tagRoute (kept w q 1)) (routeRec w′)) q (route-same q lq e),
+        up-fixed (λ u. ownedBy u tagAssociation (kept w q 1)) (owned-stable tagAssociation (kept w q 1)) associationRec association-lasting f q (omega arith),
+      )
+
+  pub instances-same : (h : ℕ) → HandleAt w c tagInstance h → instancesAt w′ h ≡ instancesAt w h
+  unfolding instancesAt
+  instances-same h x =
+      scan-on (λ r. cell w r 0 ≡ tagInstance) (instanceRec w) (instanceRec w′) (λ r. kept w r 8) (λ r. kept w′ r 8) h h
+      (λ r l e. instance-same r (omega (arith, x .low)) e) (λ r l e. kept-fixed f r 8 (omega (arith, x .low))) next (x .tag)
+    where
+      next : (r : ℕ) → r < h → cell w r 0 ≡ tagInstance → 0 < kept w r 8 → cell w (kept w r 8 - 1) 0 ≡ tagInstance
+      next r l e pos =
+          let z : kept w r 8 ≡ cell w r 8 = kept-is w r tagInstance 8 (cell w r 8) e (omega arith) refl in
+          let p : 0 < cell w r 8 = omega arith in
+          rw z (fair .each r (omega (arith, x .low)) .linked (rw e) .tag p ∙ e)
+
+  -- ---- nodes: what their handles stand for is the same
+  pub node-same : (ty def kind id fs is ss os x : ℕ) → fs ≤ c → is ≤ c → ss ≤ c → os ≤ c → HandleAt w c tagInstance x → nodeBy w′ ty def kind id fs is ss os x ≡ nodeBy w ty def kind id fs is ss os x
+  unfolding nodeBy
+  node-same ty def kind id fs is ss os x l1 l2 l3 l4 h =
+      rw (fields-fixed f fs l1, interfaces-fixed f is l2, statements-fixed f ss l3, order-fixed f os l4, instances-same x h)
+
+  record-same : (r : ℕ) → r < c → cell w r 0 ≡ tagNode → NodeKept r w w′ → nodeRec w′ r ≡ nodeRec w r
+  record-same r l e k =
+      let x : NodeClosed w c r = fair .each r l .node e in
+      rw (
+        k .keeps 3 (omega arith) (omega arith),
+        k .keeps 4 (omega arith) (omega arith),
+        k .keeps 5 (omega arith) (omega arith),
+        k .keeps 6 (omega arith) (omega arith),
+        k .keeps 7 (omega arith) (omega arith),
+        k .keeps 8 (omega arith) (omega arith),
+        k .keeps 9 (omega arith) (omega arith),
+        k .keeps 10 (omega arith) (omega arith),
+        k .keeps 11 (omega arith) (omega arith),
+      )
+      (node-same (cell w r 3) (cell w r 4) (cell w r 5) (cell w r 6) (cell w r 7) (cell w r 8) (cell w r 9) (cell w r 10) (cell w r 11) (x .fields .low) (x .interface .low) (x .statements .low) (x .bodyOrder .low) (x .instance))
+
+  log-same : (r : ℕ) → r < c → (cell w r 0 ≡ tagNode → NodeKept r w w′) → only (tagged w′ tagNode) (nodeRec w′) r ≡ only (tagged w tagNode) (nodeRec w) r
+  unfolding only
+  log-same r l k = rw (tagged-stable tagNode .same r w w′ (f .steady r l)) (by (tagged w tagNode r) refl)
+    where
+      by : (t : Bool) → tagged w tagNode r ≡ t → choose t (nodeRec w′ r ∷ []) [] ≡ choose t (nodeRec w r ∷ []) []
+      by true p = let e : cell w r 0 ≡ tagNode = tagged-is w tagNode r p in rw (record-same r l e (k e))
+      by false p = refl
+
+  -- one node is changed
+  pub nodes-patch : (n : ℕ) → n < c → cell w n 0 ≡ tagNode → ((r : ℕ) → r < c → (r ≡ n → ⊥) → cell w r 0 ≡ tagNode → NodeKept r w w′) → nodesOf w′ c ≡ set (nodesOf w c) (below w tagNode n) (nodeRec w′ n)
+  unfolding nodesOf
+  nodes-patch n l e k =
+      up-patch (only (tagged w tagNode) (nodeRec w)) (only (tagged w′ tagNode) (nodeRec w′)) n (nodeRec w′ n) (nodeRec w n)
+      (only-here (tagged w tagNode) (nodeRec w) n (tagged-here w tagNode n e))
+      (only-here (tagged w′ tagNode) (nodeRec w′) n (tagged-here w′ tagNode n (steady-tag (f .steady n l) ∙ e)))
+      c l (λ r ne lr. log-same r lr (k r lr ne))
+      ∙ rw (up-count (tagged w tagNode) (nodeRec w) n)
+
+-- ---- nothing of a node is changed
+module _ {c : ℕ} {w w′ : List ℕ} (q : Calm c w w′) (fair : AllFair w c) where
+  pub nodes-fixed : nodesOf w′ c ≡ nodesOf w c
+  unfolding nodesOf
+  nodes-fixed = up-same (only (tagged w tagNode) (nodeRec w)) (only (tagged w′ tagNode) (nodeRec w′)) c (λ r l. log-same (q .fixed) fair (q .ends) r l (q .nodes r l))
+
+  -- n records more that are no nodes
+  pub nodes-stays : (n : ℕ) → ((r : ℕ) → c ≤ r → r < c + n → cell w′ r 0 ≡ tagNode → ⊥) → nodesOf w′ (c + n) ≡ nodesOf w c
+  unfolding nodesOf
+  nodes-stays n quiet =
+      up-span (only (tagged w′ tagNode) (nodeRec w′)) c n (λ r l h. only-other (tagged w′ tagNode) (nodeRec w′) r (tagged-other w′ tagNode r (quiet r l h))) ∙ nodes-fixed
+
+  pub nodes-new : cell w′ c 0 ≡ tagNode → nodesOf w′ (c + 1) ≡ nodesOf w c ++ (nodeRec w′ c ∷ [])
+  unfolding nodesOf
+  nodes-new e = up-one (only (tagged w′ tagNode) (nodeRec w′)) c ∙ rw (only-here (tagged w′ tagNode) (nodeRec w′) c (tagged-here w′ tagNode c e), nodes-fixed)
+
+-- a node that has nothing yet
+pub node-blank : (w : List ℕ) → nodeBy w 0 4294967295 0 0 0 0 0 0 0 ≡ blank
+unfolding nodeBy originOf instancesAt merged
+node-blank w = rw (fields-none w, interfaces-none w, statements-none w, order-none w, scan-end (instanceRec w) (λ r. kept w r 8))
+
+-- ---- what is calm
+pub calm-same : {c : ℕ} {w w′ : List ℕ} → Same c w w′ → Calm c w w′
+calm-same s = record {
+  fixed = same-fixed s;
+  ends = record { from = λ n q l lq e t o. s .keeps n 10 (omega arith) (omega arith); to = λ n q l lq e t o. s .keeps n 11 (omega arith) (omega arith) };
+  nodes = λ r l e. record { keeps = λ j a b. s .keeps r j l b };
+}
+
+-- a record at the end of its scope's list
+pub calm-append : {w w′ : List ℕ} {s c : ℕ} {r : Record} → Appended w w′ s c r → Calm c w w′
+calm-append {w} {w′} {s} {c} {r} a = record {
+  fixed = append-fixed a;
+  ends = record { from = λ n q l lq e t o. a .other n 10 (omega arith) (omega arith) (λ z y. apart n tagRoute (omega arith) t z); to = λ n q l lq e t o. a .other n 11 (omega arith) (omega arith) (λ z y. apart n tagRoute (omega arith) t z) };
+  nodes = λ n l e. record { keeps = λ j x b. a .other n j l b (λ z y. apart n tagNode (omega arith) e z) };
+}
+  where
+    apart : (n t : ℕ) → (t ≡ 10 → ⊥) → cell w n 0 ≡ t → n ≡ s → ⊥
+    apart n t ne e z = ne (sym e ∙ rw z (a .scope))
+
+-- no instance of scope s is recorded below c
+pub record Unrecorded (w : List ℕ) (c s : ℕ) : Type 0 where
+  pub apart : (q : ℕ) → q < c → cell w q 0 ≡ tagInstance → cell w q 1 ≡ s → ⊥
+
+-- a remapped end of a route of such a scope
+pub calm-end : {c : ℕ} {w w′ : List ℕ} {n j v : ℕ} → SetWord w w′ n j v → 10 ≤ j → j < 12 → cell w n 0 ≡ tagRoute → Unrecorded w c (cell w n 1) → Calm c w w′
+calm-end {c} {w} {w′} {n} {j} {v} s lo hi e un = record {
+  fixed = set-fixed c s hi (rw e lo);
+  ends = record { from = λ m q l lq i t o. kept m q 10 (omega arith) lq i o; to = λ m q l lq i t o. kept m q 11 (omega arith) lq i o };
+  nodes = λ r l t. record { keeps = λ i a b. set-cell w w′ n j v hi s r i b (λ z y. let k : cell w n 0 ≡ tagNode = rw z at t in omega arith) };
+}
+  where
+    kept : (m q i : ℕ) → i < 12 → q < c → cell w q 0 ≡ tagInstance → cell w m 1 ≡ cell w q 1 → cell w′ m i ≡ cell w m i
+    kept m q i li lq t o = set-cell w w′ n j v hi s m i li (λ z y. un .apart q lq t (sym o ∙ rw z))

@@ -1,0 +1,86 @@
+-- `keep`: a charge and a record of a list; what the list of its handle is.
+use mathlib.Core.Path.{_≡_, refl, sym, ap, _∙_}
+use mathlib.Core.Bool.{Bool, true, false}
+use mathlib.Core.Logic.{_⊎_, ⊎-elim}
+use mathlib.Core.List.{List, [], _∷_, _++_}
+use Prim.Native.Nat.{ℕ, zero, suc, _+_, _*_, _-_, _≤_, _<_}
+use native.Mathlib.Omega.{arith}
+use lib.ListN.{length, getD}
+use Rattle.expansion.specs.Charges.{oneMore}
+use Rattle.journal.specs.declared.Record.{Record}
+use Rattle.journal.specs.Records.{tagMap, tagExtern, tagNode, tagId, tagField, tagInterface, tagStatement, tagOrder, tagStored, tagScope, tagAssociation, cell, stays, Pushed}
+use Rattle.journal.proofs.Frame.{same-fixed, stays-all}
+use Rattle.journal.proofs.Keys.{unkeyed}
+use Rattle.journal.proofs.Index.{index-push}
+use Rattle.journal.proofs.Owned.{owned-push}
+use Rattle.reading.specs.Reading.{idsAt, fieldsAt, fieldNew, interfacesAt, interfaceNew, statementsAt, statementNew, orderAt, orderNew, valuesAt, storedNew}
+use Rattle.reading.specs.Fair.{HandleAt, listed, valued, Fair}
+use Rattle.reading.proofs.Chains.{ids-new, fields-new, interfaces-new, statements-new, order-new, values-new}
+use Rattle.reading.proofs.Fair.{handle-fixed, handle-new}
+use Rattle.reading.proofs.Nodes.{Calm, calm-same}
+use Rattle.reading.proofs.States.{Silent, state-one}
+use Rattle.refine.specs.declared.Limits.{Limits}
+use Rattle.refine.specs.declared.Counts.{Counts}
+use Rattle.refine.specs.declared.Answer.the-variants.{Done, Refused}
+use Rattle.refine.specs.Sound.{Source, headsAt, Sound, Ready, Standing, OfBody, Later}
+use Rattle.refine.specs.Does.{at}
+use Rattle.refine.specs.Contract.{charged, Keepable, KeptAt, Kept}
+use Rattle.refine.proofs.Grow.{sound-more, later-more, alone, count-other}
+use Rattle.refine.proofs.Charges.{charge-refused, charge-done}
+
+-- a record below the tag of a scope's own is of no body
+pub not-of-body : (t : ℕ) → t ≤ tagScope → OfBody t → ⊥
+not-of-body t l o = ⊎-elim (λ e. omega arith) (λ x. ⊎-elim (λ e. omega arith) (λ e. omega arith) x) o
+
+pub keep-full : (L : Limits) (w : List ℕ) (t : Counts) (r : Record) → L .rows ≤ t .charges → Kept L w t r w (Refused 10 0 0)
+keep-full L w t r h = record { does = λ S young. charge-refused S young h; done = tt }
+
+module _ (L : Limits) (w : List ℕ) (t : Counts) (r : Record) (st : Standing L w t) (k : Keepable w (t .charges) r) (room : t .charges < L .rows) (w′ : List ℕ) (long : length w′ ≡ length w) (p : Pushed w w′ (t .charges) r) where
+  abbrev c : ℕ
+  c = t .charges
+
+  so : Sound L w t
+  so = st .sound
+
+  calm : Calm c w w′
+  calm = calm-same (p .same)
+
+  silent : Silent (r .tag)
+  silent = record {
+    map = λ e. omega (arith, k .least);
+    extern = λ e. omega (arith, k .least);
+    node = λ e. omega (arith, k .least);
+    scope = λ e. omega (arith, k .most);
+    association = λ e. omega (arith, k .most);
+  }
+
+  fair : Fair w′ (c + 1) c
+  fair = record {
+    mapped = λ e. absurd (omega (arith, p .holds .at0, k .least));
+    node = λ e. absurd (omega (arith, p .holds .at0, k .least));
+    instance = λ e. absurd (omega (arith, p .holds .at0, k .most));
+    linked = λ e. rw (p .holds .at0, p .holds .at8) (handle-fixed (calm .fixed) (omega arith) (omega arith) (k .before));
+    value = λ e q. rw (p .holds .at7) (handle-fixed (calm .fixed) (omega arith) (omega arith) (k .value (rw (p .holds .at0) at e) (sym (p .holds .at6) ∙ q)));
+  }
+
+  sound : Sound L w′ (charged t 1)
+  sound =
+      sound-more so calm 1 (t .nodes) (t .scopes) (t .externs) (omega arith)
+      (count-other (calm .fixed) r (p .holds) tagNode (so .nodes) (silent .node))
+      (count-other (calm .fixed) r (p .holds) tagScope (so .scopes) (silent .scope))
+      (count-other (calm .fixed) r (p .holds) tagExtern (so .externs) (silent .extern))
+      (alone c (Fair w′ (c + 1)) fair)
+      (index-push p (omega arith) (unkeyed (r .tag) (silent .map) (silent .extern)) (so .index))
+      (owned-push p (λ a b. omega (arith, k .most)) (so .owned))
+
+  later : (young : ℕ) → Later L young w t w′ (charged t 1)
+  later young =
+      later-more so calm 1 (t .nodes) (t .scopes) (t .externs) young (omega arith) (λ m l. p .above m (omega arith)) long
+      (alone c (λ n. OfBody (cell w′ n 0) → young ≤ cell w′ n 1) (λ o. absurd (not-of-body (cell w′ c 0) (omega (arith, p .holds .at0, k .most)) o)))
+      sound
+
+  pub keep-done : Kept L w t r w′ (Done (charged t 1) (t .charges + 1) 0)
+  keep-done = record {
+    does = λ S young. charge-done S young room (state-one (S .root) (S .library) calm (so .fair) r (p .holds) silent) (later young) (t .charges + 1) 0;
+    done = record { counts = refl; handle = refl; pushed = p };
+  }
