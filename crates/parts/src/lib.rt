@@ -24,8 +24,8 @@ ghost use Rattle.reading.specs.Reading.{mapOf};
 ghost use Rattle.reading.specs.Fair.{HandleAt};
 ghost use Rattle.source.specs.Directory.{numberOf, Slot};
 ghost use Rattle.lookup.specs.Lookup.{sheetOf};
-ghost use Rattle.refine.specs.Sound.{Standing, EnvAt};
-ghost use Rattle.parts.specs.Contract.{Lent, LastField, Counted, Declared, Remapped, Routed, ExternStated, Stating, fieldKept, Ordering};
+ghost use Rattle.refine.specs.Sound.{Standing};
+ghost use Rattle.parts.specs.Contract.{Lent, LastField, Counted, Declared, Remapped, Routed, ExternStated, Stating};
 
 const NONE: u32 = 4294967295;
 
@@ -98,7 +98,11 @@ pub fn extern_proto<'a>(
     let sheet = rows::select(root, library, document);
     let n = count(sheet, Part::Interfaces, at + 1) + count(sheet, Part::Urls, at + 1);
     if lim.rows - c <= n {
-        return refine::too_many();
+        return Answer::Refused {
+            number: 10,
+            first: 0,
+            second: 0,
+        };
     }
     let out = st.externs;
     journal::enter(
@@ -143,7 +147,7 @@ pub fn remap(work: &[u32], lim: Limits, st: Counts, scope: u32, id: u32) -> u32
     if id == NONE {
         return NONE;
     }
-    let journal::Found::At(r) = refine::look(work, lim, st, scope, id) else {
+    let journal::Found::At(r) = journal::find(work, lim.rows * 12, lim.slots, st.charges, 1, scope, id) else {
         return NONE;
     };
     journal::word(work, r, 3)
@@ -262,105 +266,6 @@ pub fn statements<'a>(
             } else {
                 extern_statement(root, library, dir, work, lim, cur, env.slot, r.b, h)
             };
-            let Answer::Done {
-                st: s,
-                value: n,
-                place: _,
-            } = a else {
-                return a;
-            };
-            cur = s;
-            h = n;
-        }
-    }
-}
-
-// Whether a field is kept: a value, an IS outside a body, or an IS that has a value in the body.
-fn field_kept(work: &[u32], lim: Limits, st: Counts, env: Env, r: Row) -> bool
-    requires { ⌜ Standing lim (now work) st ⌝ }
-    requires { ⌜ EnvAt (now work) (st .charges) env ⌝ }
-    ensures { λ k. ⌜ k ≡ fieldKept (now (work .entry)) env r ⌝ }
-{
-    if r.b != 1 {
-        return true;
-    }
-    if !env.body {
-        return true;
-    }
-    let journal::Found::At(_) = refine::value_of(work, env.values, r.c) else {
-        return false;
-    };
-    true
-}
-
-// The body order of the node at a row, without what was dropped.
-pub fn order<'a>(
-    root: &'a [u32],
-    library: &'a [u32],
-    dir: &[u32],
-    work: &mut [u32],
-    lim: Limits,
-    st: Counts,
-    env: Env,
-    row: usize,
-) -> Answer
-    requires { ⌜ Standing lim (now work) st ⌝ }
-    requires { ⌜ Lent lim (now root) (now library) (now dir) (now work) ⌝ }
-    requires { ⌜ Slot (now dir) (env .slot) ⌝ }
-    requires { ⌜ EnvAt (now work) (st .charges) env ⌝ }
-    requires { ⌜ row < length (rows (sheetOf (now root) (now library) (numberOf (now dir) (env .slot)))) ⌝ }
-    ensures { λ a. ⌜ Ordering lim (now (root .entry)) (now (library .entry)) (now (dir .entry)) (now (work .entry)) st env row (now (work .exit)) a ⌝ }
-{
-    let mut cur = st;
-    let mut h: u32 = 0;
-    let mut at = row + 1;
-    let mut field = row + 1;
-    let mut statement = row + 1;
-    loop {
-        let sheet = rows::select(root, library, directory::number(dir, env.slot));
-        let Found::At(q) = walk::seek(sheet, Part::BodyOrder, at) else {
-            return Answer::Done {
-                st: cur,
-                value: h,
-                place: 0,
-            };
-        };
-        at = q + 1;
-        let mark = row::row_at(sheet, q).a;
-        let mut kept = mark == 1;
-        if mark == 0 {
-            if let Found::At(f) = walk::seek(sheet, Part::Fields, field) {
-                kept = field_kept(work, lim, cur, env, row::row_at(sheet, f));
-                field = f + 1;
-            }
-        }
-        if 1 < mark {
-            if let Found::At(s) = walk::seek(sheet, Part::Statements, statement) {
-                let k = row::row_at(sheet, s).a;
-                kept = (k == 2) | (k == 3);
-                statement = s + 1;
-            }
-        }
-        if kept {
-            let a = refine::keep(
-                work,
-                lim,
-                cur,
-                Record {
-                    tag: 8,
-                    a: mark,
-                    b: 0,
-                    c: 0,
-                    d: 0,
-                    e: 0,
-                    f: 0,
-                    g: 0,
-                    h,
-                    i: 0,
-                    j: 0,
-                    k: 0,
-                },
-            );
             let Answer::Done {
                 st: s,
                 value: n,
