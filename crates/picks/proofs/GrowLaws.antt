@@ -76,7 +76,7 @@ grows-next : (next : Bases → Picked) (T : Bases) (p : Option Pick) → ((U : B
 grows-next next T none f = f T
 grows-next next T (some p) f = grows-same T
 
-pub grows-urls : (library : List File) (urls : List Url) (T : Bases) → Grows T (pickUrls library urls T .1)
+grows-urls : (library : List File) (urls : List Url) (T : Bases) → Grows T (pickUrls library urls T .1)
 unfolding pickUrls
 grows-urls library [] T = grows-same T
 grows-urls library (u ∷ l) T =

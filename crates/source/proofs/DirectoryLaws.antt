@@ -1,17 +1,17 @@
 -- The directory: what of it the documents rest on, how the table of bases is written to it and read from it.
-use mathlib.Core.Path.{_≡_, refl, sym, ap, subst, _∙_}
+use mathlib.Core.Path.{_≡_, sym, ap, subst, _∙_}
 use mathlib.Core.List.{List, [], _∷_, map}
-use mathlib.Core.Option.{Option, none, some}
+use mathlib.Core.Option.{none, some}
 use mathlib.Core.Bool.{Bool, true, false}
 use Prim.Native.Nat.{ℕ, zero, suc, _+_, _-_, _*_, _≤_, _<_}
 use native.Mathlib.Omega.{arith}
 use native.Mathlib.Decide.{ℕ-discrete}
-use lib.ListN.{length, getD, take, drop, set, getElem?, length-set}
+use lib.ListN.{length, getD, drop, set, getElem?, length-set}
 use lib.Dec.{eqb}
-use lib.Seq.{length-take-le, ext-getD, getD-set-same, getD-set-other, getD-take}
+use lib.Seq.{ext-getD, getD-set-same, getD-set-other}
 use borrow.Author.Tests.{ne-eqb}
-use Rattle.ast.specs.Ast.{Document, File}
-use Rattle.ast.specs.Choice.{choose, andThen}
+use Rattle.ast.specs.Ast.{File}
+use Rattle.ast.specs.Choice.{choose}
 use Rattle.sheet.specs.declared.row.Row.{Row}
 use Rattle.sheet.specs.Rows.{rows}
 use Rattle.sheet.specs.Parse.{filesOf}
@@ -19,11 +19,11 @@ use Rattle.lookup.specs.Lookup.{documentsOf, documentAt}
 use Rattle.lookup.proofs.DocLaws.{begins-root}
 use Rattle.picks.specs.declared.table.Table.{Table}
 use Rattle.picks.specs.Picks.{firstFile}
-use Rattle.picks.specs.Table.{basesOf, fileAt, sourceAt, Sourced, Sound, Empty}
+use Rattle.picks.specs.Table.{sourceAt, Sourced, Empty}
 use Rattle.picks.specs.Chosen.{Final}
 use Rattle.source.specs.Words.{Outside}
 use Rattle.source.specs.Directory.{size, numberOf, rowOf, baseOf, countOf, Slot, Begun, Entries, Copy, Stored, Directory, SlotFor}
-use Rattle.source.proofs.WordLaws.{stays-set, three, three-first, three-second, three-third, three-other}
+use Rattle.source.proofs.WordLaws.{three, three-first, three-second, three-third, three-other}
 
 -- ---- the documents rest on the first 195 words alone
 
@@ -79,22 +79,28 @@ module _ (R : List Row) (t : Table) (dir : List ℕ) (long : size ≤ length dir
     }
 
   module _ (n row : ℕ) (h : n < 64) (s : Stored R t dir n) where
+    abbrev f : ℕ
+    f = getD (t .files) n 0
+
+    abbrev b : ℕ
+    b = getD (t .bases) n 0
+
     abbrev next : List ℕ
-    next = set (set (set dir (n + 1) (getD (t .files) n 0)) (65 + (n + 1)) row) (130 + n) (getD (t .bases) n 0)
+    next = set (set (set dir (n + 1) f) (65 + (n + 1)) row) (130 + n) b
 
     apart : (k : ℕ) → (k ≡ n + 1 → ⊥) → (k ≡ 65 + (n + 1) → ⊥) → (k ≡ 130 + n → ⊥) → getD next k 0 ≡ getD dir k 0
-    apart = three-other dir (n + 1) (getD (t .files) n 0) (65 + (n + 1)) row (130 + n) (getD (t .bases) n 0) (omega arith) (omega arith) (omega arith)
+    apart = three-other dir (n + 1) f (65 + (n + 1)) row (130 + n) b (omega arith) (omega arith) (omega arith)
 
     base : (j : ℕ) → j < n + 1 → Dec (j ≡ n) → baseOf next j ≡ getD (t .bases) j 0
-    base j i (yes z) = rw z (three-third dir (n + 1) (getD (t .files) n 0) (65 + (n + 1)) row (130 + n) (getD (t .bases) n 0) (omega arith) (omega arith) (omega arith))
+    base j i (yes z) = rw z (three-third dir (n + 1) f (65 + (n + 1)) row (130 + n) b (omega arith) (omega arith) (omega arith))
     base j i (no z) = apart (130 + j) (λ e. omega arith) (λ e. omega arith) (λ e. z (omega arith)) ∙ s .bases j (omega arith)
 
     file : (j : ℕ) → j < n + 1 → Dec (j ≡ n) → numberOf next (j + 1) ≡ getD (t .files) j 0
-    file j i (yes z) = rw z (three-first dir (n + 1) (getD (t .files) n 0) (65 + (n + 1)) row (130 + n) (getD (t .bases) n 0) (omega arith) (omega arith) (omega arith))
+    file j i (yes z) = rw z (three-first dir (n + 1) f (65 + (n + 1)) row (130 + n) b (omega arith) (omega arith) (omega arith))
     file j i (no z) = apart (j + 1) (λ e. z (omega arith)) (λ e. omega arith) (λ e. omega arith) ∙ s .files j (omega arith)
 
     row-at : drop row R ≡ drop (getD (t .rows) n 0) R → (j : ℕ) → j < n + 1 → Dec (j ≡ n) → drop (rowOf next (j + 1)) R ≡ drop (getD (t .rows) j 0) R
-    row-at e j i (yes z) = rw (z, three-second dir (n + 1) (getD (t .files) n 0) (65 + (n + 1)) row (130 + n) (getD (t .bases) n 0) (omega arith) (omega arith) (omega arith)) e
+    row-at e j i (yes z) = rw (z, three-second dir (n + 1) f (65 + (n + 1)) row (130 + n) b (omega arith) (omega arith) (omega arith)) e
     row-at e j i (no z) = rw (apart (65 + (j + 1)) (λ e. omega arith) (λ e. z (omega arith)) (λ e. omega arith)) (s .rows j (omega arith))
 
     pub stored-more : drop row R ≡ drop (getD (t .rows) n 0) R → Stored R t next (n + 1)

@@ -1,17 +1,16 @@
 -- What a node is an instance of, by its origin.
-use mathlib.Core.Path.{_≡_, refl, sym, _∙_}
+use mathlib.Core.Path.{_≡_, refl}
 use mathlib.Core.List.{List}
-use mathlib.Core.Option.{Option, none}
+use mathlib.Core.Option.{none}
 use Prim.Native.Nat.{ℕ, zero, suc, _<_}
 use native.Mathlib.Omega.{arith}
-use lib.ListN.{getD}
-use Rattle.ast.specs.Ast.{NodeOrigin, Document, File}
+use Rattle.ast.specs.Ast.{Document, File}
 use Rattle.sheet.specs.Rows.{rows}
 use Rattle.sheet.specs.Parse.{externProtoOf, documentOf, filesOf}
 use Rattle.lookup.specs.declared.walk.Found.{Found}
 use Rattle.lookup.specs.declared.walk.Found.the-variants.{Nothing}
 use Rattle.lookup.specs.Lookup.{documentAt, Looked}
-use Rattle.picks.specs.Picks.{Pick, pickAt}
+use Rattle.picks.specs.Picks.{pickAt}
 use Rattle.picks.proofs.PickLaws.{pick-missing}
 use Rattle.source.specs.declared.instance.Target.{Target}
 use Rattle.source.specs.declared.instance.Target.the-variants.{Plain, Of}

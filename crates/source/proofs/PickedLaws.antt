@@ -1,37 +1,33 @@
 -- The file that a pick leads to is that of a base of the final table: so its document has a slot.
-use mathlib.Core.Path.{_≡_, refl, sym, ap, subst, _∙_}
+use mathlib.Core.Path.{_≡_, refl, sym, ap, _∙_}
 use mathlib.Core.Bool.{Bool, true, false}
 use mathlib.Core.List.{List, [], _∷_, _++_}
 use mathlib.Core.Option.{Option, none, some}
-use Prim.Native.Nat.{ℕ, zero, suc, _+_, _≤_, _<_}
+use Prim.Native.Nat.{ℕ, zero, suc, _+_, _<_}
 use native.Mathlib.Omega.{arith}
 use native.Mathlib.Decide.{ℕ-discrete}
 use lib.ListN.{length, getD, getElem?}
 use lib.Dec.{ltb, eqb}
-use borrow.Author.Tests.{ne-eqb, eq-eqb}
 use Rattle.ast.specs.Ast.{Url, ExternProtoDecl, Document, File}
 use Rattle.ast.specs.Choice.{choose, andThen}
 use Rattle.sheet.specs.declared.row.Row.{Row}
 use Rattle.sheet.specs.Rows.{rows}
 use Rattle.sheet.specs.Parse.{externProtoOf, documentOf, filesOf}
-use Rattle.lookup.specs.declared.walk.Found.{Found}
 use Rattle.lookup.specs.declared.walk.Found.the-variants as found
 use Rattle.lookup.specs.Lookup.{documentAt, Looked}
 use Rattle.picks.specs.declared.table.Table.{Table}
 use Rattle.picks.specs.declared.Choice.{Choice}
-use Rattle.picks.specs.declared.Chosen.{Chosen}
 use Rattle.picks.specs.declared.Chosen.the-variants.{Proto, Nothing}
 use Rattle.ast.specs.declared.ProtoId.{ProtoId}
 use Rattle.picks.specs.Picks.{Pick, Bases, Picked, firstFile, pickIn, pickFrom, pickUrl, member, remember, orNext, tryUrl, pickUrls, picksFrom, picks, pickAt, basesFrom, finalBases}
 use Rattle.picks.specs.Table.{basesOf, fileAt, sourceAt, Sound}
-use Rattle.picks.specs.Chosen.{pickOf, Tried, Final}
+use Rattle.picks.specs.Chosen.{pickOf, Tried}
 use Rattle.picks.proofs.MemberLaws.{member-last, member-none}
-use Rattle.picks.proofs.GrowLaws.{grows-urls, grows-all}
+use Rattle.picks.proofs.GrowLaws.{grows-all}
 use Rattle.picks.proofs.PickLaws.{pick-found}
-use Rattle.source.specs.declared.instance.Target.{Target}
 use Rattle.source.specs.declared.instance.Target.the-variants.{Plain, Of}
-use Rattle.source.specs.Directory.{numberOf, countOf, Slot, Copy, Directory, SlotFor}
-use Rattle.source.specs.Instance.{targetOf, Targeted}
+use Rattle.source.specs.Directory.{Copy, Directory, SlotFor}
+use Rattle.source.specs.Instance.{Targeted}
 use Rattle.source.proofs.DirectoryLaws.{first-at}
 
 -- a document is the first file of a base of a table

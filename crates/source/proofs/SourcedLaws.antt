@@ -1,14 +1,13 @@
 -- What the lookups rest on: that it stays where the words of the region do, and how the cache of picks grows.
-use mathlib.Core.Path.{_≡_, refl, sym, ap, subst, _∙_}
+use mathlib.Core.Path.{_≡_, sym, _∙_}
 use mathlib.Core.List.{List, _++_}
 use mathlib.Core.Option.{Option}
 use Prim.Native.Nat.{ℕ, _+_, _-_, _*_, _≤_, _<_}
 use native.Mathlib.Omega.{arith}
 use native.Mathlib.Decide.{ℕ-discrete}
 use lib.ListN.{length, getD, take, drop, set, length-set}
-use lib.Dec.{eqb}
 use lib.Seq.{getD-set-same, getD-set-other}
-use borrow.Author.Tests.{ne-eqb, eq-eqb}
+use borrow.Author.Tests.{ne-eqb}
 use Rattle.sheet.specs.Rows.{rows}
 use Rattle.sheet.specs.Parse.{documentOf, filesOf}
 use Rattle.lookup.specs.Index.{Filled}
@@ -19,8 +18,8 @@ use Rattle.source.specs.declared.instance.Target.{Target}
 use Rattle.source.specs.declared.instance.Target.the-variants.{Plain, Of}
 use Rattle.source.specs.Words.{Outside}
 use Rattle.source.specs.Directory.{size, numberOf, rowOf, countOf, strideOf, cacheOf, cachedOf, fromOf, endOf, groupPart, groupOf, placeOf, filledOf, Slot, Copy, Directory, HeldAt}
-use Rattle.source.specs.Instance.{targetOf, SlotOf, Targeted, targetAt, Small}
-use Rattle.source.specs.Sourced.{Cached, Sourced, Region, Remembered}
+use Rattle.source.specs.Instance.{Targeted, targetAt, Small}
+use Rattle.source.specs.Sourced.{Sourced, Region, Remembered}
 use Rattle.source.proofs.WordLaws.{stays, stays-front, stays-set, stays-on, stays-wide}
 use Rattle.source.proofs.DirectoryLaws.{slot-on, copy-on, slot-back, directory-kept}
 use Rattle.source.proofs.GroupLaws.{held-filled, held-on, held-dir}
@@ -29,6 +28,9 @@ module _ {root library dir w : List ℕ} (s : Sourced root library dir w) where
   -- slot 0 is the root's, document 0
   pub slot-root : Slot dir 0
   slot-root = record { upto = omega arith; real = λ h. absurd (omega arith) }
+
+  pub slot-within : {u : ℕ} → Slot dir u → u < length dir
+  slot-within x = omega (arith, x .upto, s .directory .few, s .directory .long)
 
   pub number-root : numberOf dir 0 ≡ 0
   number-root = s .directory .number

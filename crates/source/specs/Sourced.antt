@@ -2,7 +2,7 @@
 use mathlib.Core.Path.{_≡_}
 use mathlib.Core.List.{List}
 use Prim.Native.Nat.{ℕ, _+_, _*_, _≤_, _<_}
-use lib.ListN.{length, getD, drop}
+use lib.ListN.{length}
 use Rattle.sheet.specs.Rows.{rows}
 use Rattle.sheet.specs.Parse.{documentOf, filesOf}
 use Rattle.picks.specs.Picks.{pickAt}
@@ -35,6 +35,12 @@ pub record Fit (root library w : List ℕ) (at len : ℕ) (dir : List ℕ) : Typ
   pub within : at + len ≤ length w
   pub words : at + len ≤ 4294967295
   pub long : size ≤ length dir
+
+-- the directory of the documents and the region is written, by the scratch before the region
+pub record Opened (root library w₀ w : List ℕ) (at len : ℕ) (dir : List ℕ) : Type 0 where
+  pub directory : Directory root library dir
+  pub region : Region dir at len
+  pub stays : Outside 0 at w₀ w
 
 -- the index of one group of a slot has been written from place up to next
 pub record Grouped (root library dir₀ dir w₀ w : List ℕ) (s g place end next : ℕ) : Type 0 where

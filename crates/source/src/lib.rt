@@ -16,7 +16,26 @@ ghost use Rattle.sheet.specs.Parse.{nodeOf, protoOf, externProtoOf, documentOf,
 ghost use Rattle.lookup.specs.Lookup.{documentsOf, sheetOf, Located};
 ghost use Rattle.source.specs.Directory.{numberOf, Slot};
 ghost use Rattle.source.specs.Instance.{originFrom, instanceIn, Targeted};
-ghost use Rattle.source.specs.Sourced.{Sourced, Fit, Prepared};
+ghost use Rattle.source.specs.Sourced.{Sourced, Fit, Opened, Prepared};
+
+// Writes the directory of the documents: the words before the region are scratch.
+fn write_directory<'a>(
+    root: &'a [u32],
+    library: &'a [u32],
+    work: &mut [u32],
+    at: usize,
+    len: usize,
+    dir: &mut [u32],
+)
+    requires { ⌜ Fit (now root) (now library) (now work) at len (now dir) ⌝ }
+    ensures { λ _. ⌜ Opened (now (root .entry)) (now (library .entry)) (now (work .entry)) (now (work .exit)) at len (now (dir .exit)) ⌝ }
+{
+    let table = picks::bases_of(root, library, &mut work[..at]);
+    directory::store(library, table, dir);
+    dir[195] = group::stride(root.len() / 8 + library.len() / 8, len / 2);
+    dir[198] = at as u32;
+    dir[199] = (at + len) as u32;
+}
 
 // Writes the directory, and to the words [at, at + len) of work the indexes and the cache of picks. The words before them
 // are scratch; those after them stay.
@@ -31,13 +50,8 @@ pub fn prepare<'a>(
     requires { ⌜ Fit (now root) (now library) (now work) at len (now dir) ⌝ }
     ensures { λ _. ⌜ Prepared (now (root .entry)) (now (library .entry)) (now (work .entry)) (now (work .exit)) at len (now (dir .exit)) ⌝ }
 {
-    let end = at + len;
-    let table = picks::bases_of(root, library, &mut work[..at]);
-    directory::store(library, table, dir);
-    dir[195] = group::stride(root.len() / 8 + library.len() / 8, len / 2);
-    dir[198] = at as u32;
-    dir[199] = end as u32;
-    let next = group::index_all(root, library, dir, work, at, end);
+    write_directory(root, library, work, at, len, dir);
+    let next = group::index_all(root, library, dir, work, at, at + len);
     dir[196] = next as u32;
     dir[197] = 0;
     instance::remember(root, library, dir, work);

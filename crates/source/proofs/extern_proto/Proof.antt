@@ -5,7 +5,6 @@ use Rattle.source.proofs.extern_proto.Tie as tie
 use Rattle.source.proofs.extern_proto.Reads as reads
 use Rattle.source.proofs.extern_proto.Lts as lts
 use Rattle.source.proofs.group.locate.Reads as locate-reads
-use Rattle.sheet.specs.declared.part.Part.the-variants.{Nodes, Protos, Externs}
 use denote.Ref.{now}
 use Rattle.source.proofs.GroupLaws.{extern-at}
 use native.Mathlib.Omega.{arith}

@@ -4,115 +4,54 @@ use Rattle.source.proofs.prepare.Statement.{statement}
 use Rattle.source.proofs.prepare.Tie as tie
 use Rattle.source.proofs.prepare.Reads as reads
 use Rattle.source.proofs.prepare.Lts as lts
-use Rattle.picks.proofs.bases_of.Reads as bases-of-reads
-use Rattle.source.proofs.directory.store.Reads as store-reads
 use Rattle.source.proofs.group.index_all.Reads as index-all-reads
-use Rattle.source.proofs.group.stride.Reads as stride-reads
 use Rattle.source.proofs.instance.remember.Reads as remember-reads
-use mathlib.Core.Path.{_≡_, _∙_}
-use Prim.Native.Nat.{_≤_, _+_}
-use denote.Ref.{now}
-use lib.ListN.{length, length-set}
-use lib.Seq.{length-take-le}
-use Rattle.source.proofs.WordLaws.{stays-front}
-use Rattle.source.proofs.PrepareLaws.{begun, started, prepared}
+use Rattle.source.proofs.write_directory.Reads as write-directory-reads
+use mathlib.Core.Path.{_∙_}
+use lib.ListN.{length-set}
+use Rattle.source.proofs.PrepareLaws.{started, prepared}
 use native.Mathlib.Omega.{arith}
 
-add-end : tie.Need-add-end
-add-end c = search needs
+write-directory-requires : tie.Need-write-directory-requires
+write-directory-requires c κs = c .before .before .before .before .before .before .pre
 
-slice-relend-prefix-bases-of : tie.Need-slice-relend-prefix-bases-of
-slice-relend-prefix-bases-of c = search needs
+add-index-all : tie.Need-add-index-all
+add-index-all c = search needs
 
-slice-aggregate-bases-of : tie.Need-slice-aggregate-bases-of
-slice-aggregate-bases-of c = let h : (c .before .before .before .before .before .args .at) ≤ length (now (c .before .before .before .before .before .args .work)) = omega (arith, c .before .before .before .before .before .pre .within) in let z = length-take-le (c .before .before .before .before .before .args .at) (now (c .before .before .before .before .before .args .work)) h in search needs
-
-bases-of-requires : tie.Need-bases-of-requires
-bases-of-requires c κs = c .before .before .before .before .before .pre .librarySmall
-
-store-requires : tie.Need-store-requires
-store-requires c κs = (c .before .before .before .before .before .before .before .before .before .pre .librarySmall, c .before .before .before .before .before .before .before .before .before .pre .long, c .before .before .before .bases-of .ensures .sound)
-
-add-stride : tie.Need-add-stride
-add-stride c = search needs
-
-stride-requires : tie.Need-stride-requires
-stride-requires c κs = search needs
-
-slice-write-dir : tie.Need-slice-write-dir
-slice-write-dir c = omega (arith, c .before .before .before .store .ensures .0, c .before .before .before .before .before .before .before .before .before .before .before .before .before .pre .long)
+index-all-requires : tie.Need-index-all-requires
+index-all-requires c κs = (c .before .before .before .before .before .before .write-directory .ensures .directory, omega arith, omega (arith, c .before .before .before .before .before .before .before .before .before .before .before .before .before .pre .within, c .before .before .before .before .before .before .write-directory .ensures .stays .long), c .before .before .before .before .before .before .before .before .before .before .before .before .before .pre .words)
 
 cast-dir : tie.Need-cast-dir
 cast-dir c = search needs
 
+slice-write-dir : tie.Need-slice-write-dir
+slice-write-dir c = omega (arith, c .before .before .before .before .index-all .ensures .indexing .directory .long)
+
 slice-write-dir-2 : tie.Need-slice-write-dir-2
-slice-write-dir-2 c = simp length-set (omega (arith, c .before .before .before .store .ensures .0, c .before .before .before .before .before .before .before .before .before .before .before .before .before .pre .long))
-
-cast-dir-2 : tie.Need-cast-dir-2
-cast-dir-2 c = search needs
-
-slice-write-dir-3 : tie.Need-slice-write-dir-3
-slice-write-dir-3 c = simp length-set (omega (arith, c .before .before .before .store .ensures .0, c .before .before .before .before .before .before .before .before .before .before .before .before .before .pre .long))
-
-index-all-requires : tie.Need-index-all-requires
-index-all-requires c κs =
-    let h : (c .before .before .before .before .before .before .before .before .before .before .before .before .before .before .before .args .at) ≤ length (now (c .before .before .before .before .before .before .before .before .before .before .before .before .before .before .before .args .work)) = omega (arith, c .before .before .before .before .before .before .before .before .before .before .before .before .before .before .before .pre .within) in
-    let e = (c .before .before .before .before .before .before .before .before .before .bases-of .kept .1 .1 .0) ∙ length-take-le (c .before .before .before .before .before .before .before .before .before .before .before .before .before .before .before .args .at) (now (c .before .before .before .before .before .before .before .before .before .before .before .before .before .before .before .args .work)) h in
-    let p = stays-front (now (c .before .before .before .before .before .before .before .before .before .before .before .before .before .before .before .args .work)) (c .before .before .before .before .before .before .before .before .before .bases-of .last .1 .1 .0) (c .before .before .before .before .before .before .before .before .before .before .before .before .before .before .before .args .at) h e in
-    let b = begun (now (c .before .before .before .before .before .before .before .before .before .before .before .before .before .before .before .args .root)) (now (c .before .before .before .before .before .before .before .before .before .before .before .before .before .before .before .args .library)) (c .before .before .before .before .before .store .last .1 .1 .0) (c .before .before .before .before .before .before .before .before .before .bases-of .result) (c .before .before .stride .result) (c .before .before .before .before .before .before .before .before .before .before .before .before .before .before .before .args .at) ((c .before .before .before .before .before .before .before .before .before .before .before .before .before .before .before .args .at) + (c .before .before .before .before .before .before .before .before .before .before .before .before .before .before .before .args .len)) (c .before .before .before .before .before .before .before .before .before .bases-of .ensures) (c .before .before .before .before .before .store .ensures .1) (c .before .before .before .before .before .before .before .before .before .before .before .before .before .before .before .pre .librarySmall) (omega (arith, c .before .before .before .before .before .store .ensures .0, c .before .before .before .before .before .before .before .before .before .before .before .before .before .before .before .pre .long)) in
-    (b .directory, omega arith, omega (arith, c .before .before .before .before .before .before .before .before .before .before .before .before .before .before .before .pre .within, p .long), c .before .before .before .before .before .before .before .before .before .before .before .before .before .before .before .pre .words)
-
-cast-dir-3 : tie.Need-cast-dir-3
-cast-dir-3 c = search needs
-
-slice-write-dir-4 : tie.Need-slice-write-dir-4
-slice-write-dir-4 c = omega (arith, c .before .before .before .before .index-all .ensures .indexing .directory .long)
-
-slice-write-dir-5 : tie.Need-slice-write-dir-5
-slice-write-dir-5 c = simp length-set (omega (arith, c .before .before .before .before .index-all .ensures .indexing .directory .long))
+slice-write-dir-2 c = simp length-set (omega (arith, c .before .before .before .before .index-all .ensures .indexing .directory .long))
 
 remember-requires : tie.Need-remember-requires
-remember-requires c κs =
-    let h : (c .before .before .before .before .before .before .before .before .before .before .before .before .before .before .before .before .before .before .before .before .before .before .args .at) ≤ length (now (c .before .before .before .before .before .before .before .before .before .before .before .before .before .before .before .before .before .before .before .before .before .before .args .work)) = omega (arith, c .before .before .before .before .before .before .before .before .before .before .before .before .before .before .before .before .before .before .before .before .before .before .pre .within) in
-    let e = (c .before .before .before .before .before .before .before .before .before .before .before .before .before .before .before .before .bases-of .kept .1 .1 .0) ∙ length-take-le (c .before .before .before .before .before .before .before .before .before .before .before .before .before .before .before .before .before .before .before .before .before .before .args .at) (now (c .before .before .before .before .before .before .before .before .before .before .before .before .before .before .before .before .before .before .before .before .before .before .args .work)) h in
-    let p = stays-front (now (c .before .before .before .before .before .before .before .before .before .before .before .before .before .before .before .before .before .before .before .before .before .before .args .work)) (c .before .before .before .before .before .before .before .before .before .before .before .before .before .before .before .before .bases-of .last .1 .1 .0) (c .before .before .before .before .before .before .before .before .before .before .before .before .before .before .before .before .before .before .before .before .before .before .args .at) h e in
-    let b = begun (now (c .before .before .before .before .before .before .before .before .before .before .before .before .before .before .before .before .before .before .before .before .before .before .args .root)) (now (c .before .before .before .before .before .before .before .before .before .before .before .before .before .before .before .before .before .before .before .before .before .before .args .library)) (c .before .before .before .before .before .before .before .before .before .before .before .before .store .last .1 .1 .0) (c .before .before .before .before .before .before .before .before .before .before .before .before .before .before .before .before .bases-of .result) (c .before .before .before .before .before .before .before .before .before .stride .result) (c .before .before .before .before .before .before .before .before .before .before .before .before .before .before .before .before .before .before .before .before .before .before .args .at) ((c .before .before .before .before .before .before .before .before .before .before .before .before .before .before .before .before .before .before .before .before .before .before .args .at) + (c .before .before .before .before .before .before .before .before .before .before .before .before .before .before .before .before .before .before .before .before .before .before .args .len)) (c .before .before .before .before .before .before .before .before .before .before .before .before .before .before .before .before .bases-of .ensures) (c .before .before .before .before .before .before .before .before .before .before .before .before .store .ensures .1) (c .before .before .before .before .before .before .before .before .before .before .before .before .before .before .before .before .before .before .before .before .before .before .pre .librarySmall) (omega (arith, c .before .before .before .before .before .before .before .before .before .before .before .before .store .ensures .0, c .before .before .before .before .before .before .before .before .before .before .before .before .before .before .before .before .before .before .before .before .before .before .pre .long)) in
-    started b (c .before .before .before .before .before .before .index-all .ensures) (omega (arith, c .before .before .before .before .before .before .before .before .before .before .before .before .before .before .before .before .before .before .before .before .before .before .pre .within, p .long)) .sourced
+remember-requires c κs = started (c .before .before .before .before .before .before .before .before .before .before .before .before .before .write-directory .ensures) (c .before .before .before .before .before .before .index-all .ensures) (c .before .before .before .before .before .before .before .before .before .before .before .before .before .before .before .before .before .before .before .before .pre .within)
 
 same-length : tie.Need-same-length
 same-length c = search needs
 
 same-length-2 : tie.Need-same-length-2
-same-length-2 c = (simp length-set at (c .before .before .before .before .remember .ensures .dirStays .long)) ∙ (simp length-set at (c .before .before .before .before .before .before .before .before .before .before .before .index-all .ensures .dirStays .long)) ∙ (c .before .before .before .before .before .before .before .before .before .before .before .before .before .before .before .before .before .store .ensures .0)
+same-length-2 c = (simp length-set at (c .before .before .before .before .remember .ensures .dirStays .long)) ∙ (c .before .before .before .before .before .before .before .before .before .before .before .index-all .ensures .dirStays .long) ∙ (c .before .before .before .before .before .before .before .before .before .before .before .before .before .before .before .before .before .before .write-directory .kept .1 .1 .1 .1 .1 .0)
 
 returns : tie.Need-returns
-returns c =
-    let h : (c .before .before .before .before .before .before .before .before .before .before .before .before .before .before .before .before .before .before .before .before .before .before .before .before .before .before .before .args .at) ≤ length (now (c .before .before .before .before .before .before .before .before .before .before .before .before .before .before .before .before .before .before .before .before .before .before .before .before .before .before .before .args .work)) = omega (arith, c .before .before .before .before .before .before .before .before .before .before .before .before .before .before .before .before .before .before .before .before .before .before .before .before .before .before .before .pre .within) in
-    let e = (c .before .before .before .before .before .before .before .before .before .before .before .before .before .before .before .before .before .before .before .before .before .bases-of .kept .1 .1 .0) ∙ length-take-le (c .before .before .before .before .before .before .before .before .before .before .before .before .before .before .before .before .before .before .before .before .before .before .before .before .before .before .before .args .at) (now (c .before .before .before .before .before .before .before .before .before .before .before .before .before .before .before .before .before .before .before .before .before .before .before .before .before .before .before .args .work)) h in
-    let p = stays-front (now (c .before .before .before .before .before .before .before .before .before .before .before .before .before .before .before .before .before .before .before .before .before .before .before .before .before .before .before .args .work)) (c .before .before .before .before .before .before .before .before .before .before .before .before .before .before .before .before .before .before .before .before .before .bases-of .last .1 .1 .0) (c .before .before .before .before .before .before .before .before .before .before .before .before .before .before .before .before .before .before .before .before .before .before .before .before .before .before .before .args .at) h e in
-    let b = begun (now (c .before .before .before .before .before .before .before .before .before .before .before .before .before .before .before .before .before .before .before .before .before .before .before .before .before .before .before .args .root)) (now (c .before .before .before .before .before .before .before .before .before .before .before .before .before .before .before .before .before .before .before .before .before .before .before .before .before .before .before .args .library)) (c .before .before .before .before .before .before .before .before .before .before .before .before .before .before .before .before .before .store .last .1 .1 .0) (c .before .before .before .before .before .before .before .before .before .before .before .before .before .before .before .before .before .before .before .before .before .bases-of .result) (c .before .before .before .before .before .before .before .before .before .before .before .before .before .before .stride .result) (c .before .before .before .before .before .before .before .before .before .before .before .before .before .before .before .before .before .before .before .before .before .before .before .before .before .before .before .args .at) ((c .before .before .before .before .before .before .before .before .before .before .before .before .before .before .before .before .before .before .before .before .before .before .before .before .before .before .before .args .at) + (c .before .before .before .before .before .before .before .before .before .before .before .before .before .before .before .before .before .before .before .before .before .before .before .before .before .before .before .args .len)) (c .before .before .before .before .before .before .before .before .before .before .before .before .before .before .before .before .before .before .before .before .before .bases-of .ensures) (c .before .before .before .before .before .before .before .before .before .before .before .before .before .before .before .before .before .store .ensures .1) (c .before .before .before .before .before .before .before .before .before .before .before .before .before .before .before .before .before .before .before .before .before .before .before .before .before .before .before .pre .librarySmall) (omega (arith, c .before .before .before .before .before .before .before .before .before .before .before .before .before .before .before .before .before .store .ensures .0, c .before .before .before .before .before .before .before .before .before .before .before .before .before .before .before .before .before .before .before .before .before .before .before .before .before .before .before .pre .long)) in
-    prepared (now (c .before .before .before .before .before .before .before .before .before .before .before .before .before .before .before .before .before .before .before .before .before .before .before .before .before .before .before .args .work)) (c .before .before .before .before .before .before .before .before .before .before .before .before .before .before .before .before .before .before .before .before .before .before .before .before .before .before .before .args .len) p (c .before .before .before .before .before .before .before .before .before .before .before .index-all .ensures .workStays) (started b (c .before .before .before .before .before .before .before .before .before .before .before .index-all .ensures) (omega (arith, c .before .before .before .before .before .before .before .before .before .before .before .before .before .before .before .before .before .before .before .before .before .before .before .before .before .before .before .pre .within, p .long))) (c .before .before .before .before .remember .ensures)
+returns c = prepared (c .before .before .before .before .before .before .before .before .before .before .before .before .before .before .before .before .before .before .write-directory .ensures) (c .before .before .before .before .before .before .before .before .before .before .before .index-all .ensures) (c .before .before .before .before .remember .ensures)
 
 pub prepare-spec : {M : Type 1} → statement M
 prepare-spec =
     tie.close
     (tie.spec
-    add-end
-    slice-relend-prefix-bases-of
-    slice-aggregate-bases-of
-    bases-of-requires
-    store-requires
-    add-stride
-    stride-requires
-    slice-write-dir
-    cast-dir
-    slice-write-dir-2
-    cast-dir-2
-    slice-write-dir-3
+    write-directory-requires
+    add-index-all
     index-all-requires
-    cast-dir-3
-    slice-write-dir-4
-    slice-write-dir-5
+    cast-dir
+    slice-write-dir
+    slice-write-dir-2
     remember-requires
     same-length
     same-length-2

@@ -4,9 +4,7 @@ use Rattle.source.proofs.directory.slot_of.Tie as tie
 use Rattle.source.proofs.directory.slot_of.Reads as reads
 use Rattle.source.proofs.directory.slot_of.Lts as lts
 use Rattle.source.proofs.directory.wide.Reads as wide-reads
-use mathlib.Core.Path.{_≡_, refl}
-use Prim.Native.Nat.{ℕ, _≤_, _<_, _+_, _-_}
-use lib.ListN.{getD}
+use Prim.Native.Nat.{_+_, _-_}
 use Rattle.source.proofs.DirectoryLaws.{Passed, pass-start, pass-next, slot-here, slot-none}
 use native.Mathlib.Omega.{arith}
 use borrow.Author.Needs.{needs}

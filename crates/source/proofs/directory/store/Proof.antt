@@ -4,10 +4,10 @@ use Rattle.source.proofs.directory.store.Tie as tie
 use Rattle.source.proofs.directory.store.Reads as reads
 use Rattle.source.proofs.directory.store.Lts as lts
 use Rattle.source.proofs.directory.row_word.Reads as row-word-reads
-use mathlib.Core.Path.{_≡_, refl, _∙_}
-use Prim.Native.Nat.{_≤_, _-_, _+_}
+use mathlib.Core.Path.{_≡_, refl}
+use Prim.Native.Nat.{_≤_, _-_}
 use denote.Ref.{now}
-use lib.ListN.{length, getD, length-set}
+use lib.ListN.{length, length-set}
 use Rattle.sheet.specs.Rows.{rows}
 use Rattle.source.specs.Directory.{size, Stored}
 use Rattle.source.proofs.DirectoryLaws.{stored-start, stored-more}

@@ -6,7 +6,7 @@ use Rattle.source.proofs.directory.table_of.Lts as lts
 use Rattle.picks.proofs.table.empty.Reads as empty-reads
 use Rattle.source.proofs.directory.wide.Reads as wide-reads
 use mathlib.Core.Path.{_≡_}
-use Prim.Native.Nat.{_≤_, _-_, _+_}
+use Prim.Native.Nat.{_≤_, _-_}
 use denote.Ref.{now}
 use Rattle.source.specs.Directory.{Entries}
 use Rattle.source.proofs.DirectoryLaws.{entries-start, entries-more, copied}

@@ -5,10 +5,7 @@ use Rattle.source.proofs.group.index_all.Reads as reads
 use Rattle.source.proofs.group.index_all.Lts as lts
 use Rattle.source.proofs.directory.wide.Reads as wide-reads
 use Rattle.source.proofs.group.index_one.Reads as index-one-reads
-use mathlib.Core.Path.{_≡_, refl}
-use Prim.Native.Nat.{_≤_, _<_, _-_, _+_, _*_, _/_}
-use denote.Ref.{now}
-use lib.ListN.{length}
+use Prim.Native.Nat.{_≤_, _<_, _-_, _/_}
 use Rattle.source.specs.Words.{Outside}
 use Rattle.source.specs.Directory.{size}
 use Rattle.source.specs.Sourced.{Indexing}

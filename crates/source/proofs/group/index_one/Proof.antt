@@ -8,10 +8,10 @@ use Rattle.lookup.proofs.index.index.Reads as index-reads
 use Rattle.lookup.proofs.rows.select.Reads as select-reads
 use Rattle.source.proofs.directory.wide.Reads as wide-reads
 use Rattle.source.proofs.group.part_of.Reads as part-of-reads
-use mathlib.Core.Path.{_≡_, _∙_}
+use mathlib.Core.Path.{_∙_}
 use Prim.Native.Nat.{_+_, _-_}
 use denote.Ref.{now}
-use lib.ListN.{length, take, drop, length-set, length-drop}
+use lib.ListN.{take, drop, length-set, length-drop}
 use lib.Seq.{length-take-le}
 use Rattle.sheet.specs.Rows.{rows}
 use Rattle.lookup.specs.Index.{Indexed}

@@ -8,10 +8,6 @@ use Rattle.lookup.proofs.index.find.Reads as find-reads
 use Rattle.lookup.proofs.rows.select.Reads as select-reads
 use Rattle.source.proofs.directory.wide.Reads as wide-reads
 use Rattle.source.proofs.group.part_of.Reads as part-of-reads
-use mathlib.Core.Path.{_≡_}
-use Prim.Native.Nat.{_≤_}
-use denote.Ref.{now}
-use lib.ListN.{length}
 use Rattle.source.proofs.SourcedLaws.{place-within, filled-at}
 use native.Mathlib.Omega.{arith}
 

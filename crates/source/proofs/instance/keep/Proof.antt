@@ -4,11 +4,10 @@ use Rattle.source.proofs.instance.keep.Statement.{statement}
 use Rattle.source.proofs.instance.keep.Tie as tie
 use Rattle.source.proofs.instance.keep.Reads as reads
 use Rattle.source.proofs.instance.keep.Lts as lts
-use mathlib.Core.Path.{_≡_, sym, _∙_, subst}
-use Prim.Native.Nat.{_<_, _+_}
+use mathlib.Core.Path.{subst}
+use Prim.Native.Nat.{_<_}
 use denote.Ref.{now}
-use Rattle.source.specs.Words.{Outside}
-use Rattle.source.specs.Instance.{targetAt, Small}
+use Rattle.source.specs.Instance.{Small}
 use Rattle.source.proofs.SourcedLaws.{kept-of, kept-plain}
 use native.Mathlib.Omega.{arith}
 

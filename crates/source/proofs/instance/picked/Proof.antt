@@ -9,7 +9,7 @@ use Rattle.source.proofs.directory.wide.Reads as wide-reads
 use Rattle.source.proofs.instance.kept.Reads as kept-reads
 use Rattle.source.proofs.instance.pick_row.Reads as pick-row-reads
 use Rattle.source.proofs.instance.root_extern.Reads as root-extern-reads
-use mathlib.Core.Path.{_≡_, subst, sym}
+use mathlib.Core.Path.{subst}
 use denote.Ref.{now}
 use Rattle.sheet.specs.Rows.{rows}
 use Rattle.sheet.specs.Parse.{externProtoOf}

@@ -8,8 +8,8 @@ use Rattle.source.proofs.directory.wide.Reads as wide-reads
 use Rattle.source.proofs.instance.keep.Reads as keep-reads
 use Rattle.source.proofs.instance.pick_row.Reads as pick-row-reads
 use Rattle.source.proofs.instance.root_extern.Reads as root-extern-reads
-use mathlib.Core.Path.{_≡_, refl, subst, sym, _∙_}
-use Prim.Native.Nat.{_-_, _+_, _*_}
+use mathlib.Core.Path.{refl, subst, _∙_}
+use Prim.Native.Nat.{_-_}
 use denote.Ref.{now}
 use lib.Seq.{length-take-le}
 use Rattle.sheet.specs.Rows.{rows}
