@@ -1,0 +1,4 @@
+pub mod Fields
+pub mod Lending
+pub mod Externs
+pub mod Routes
