@@ -15,6 +15,7 @@ use Rattle.ast.specs.Lookups.{externProtoAt}
 use Rattle.sheet.specs.declared.row.Row.{Row}
 use Rattle.sheet.specs.declared.part.Part.the-variants.{Interfaces, Urls}
 use Rattle.sheet.specs.Rows.{rows, rest}
+use Rattle.sheet.proofs.RowLaws.{rows-length}
 use Rattle.sheet.specs.Parse.{elements, externProtoOf, interfaceOf, interfacesOf, urlOf}
 use Rattle.lookup.specs.declared.walk.Found as walk
 use Rattle.lookup.specs.declared.walk.Found.the-variants as walked
@@ -30,6 +31,8 @@ use Rattle.journal.specs.declared.Found.{Found}
 use Rattle.journal.specs.declared.Found.the-variants.{At, Nothing}
 use Rattle.journal.specs.Records.{tagExtern, tagNode, tagScope, cell, Paid}
 use Rattle.journal.specs.Index.{newest, foundOf, Entered, linked}
+use Rattle.journal.specs.Owned.{tagged}
+use Rattle.journal.proofs.Lists.{count-low}
 use Rattle.journal.proofs.Index.{index-paid}
 use Rattle.journal.proofs.Owned.{owned-enter, owned-paid}
 use Rattle.reading.specs.Reading.{externMapOf, externsOf}
@@ -48,7 +51,8 @@ use Rattle.refine.proofs.Later.{later-refl, later-trans}
 use Rattle.refine.proofs.Grow.{grown, sound-more, later-more, alone, count-other, count-new}
 use Rattle.refine.proofs.Charges.{charge-full, charge-some, each-full, each-some}
 use Rattle.refine.proofs.Keeping.{not-of-body}
-use Rattle.parts.specs.Contract.{sourceOf, Counted, Declared}
+use Rattle.parts.specs.Contract.{sourceOf, Lent, Counted, Declared}
+use Rattle.parts.proofs.Lending.{sheet-small}
 
 never : false ≡ true → ⊥
 never y = let k : _≡_ {A = ℕ} 0 1 = cc in omega arith
@@ -157,7 +161,30 @@ module _ (L : Limits) {w w′ : List ℕ} {t : Counts} (so : Sound L w t) (r : R
       (alone (t .charges) (λ n. OfBody (cell w′ n 0) → young ≤ cell w′ n 1) (λ o. absurd (not-of-body (cell w′ (t .charges) 0) (omega (arith, p .holds .at0, is)) o)))
       entered-sound
 
+-- ---- room
+pub externs-few : {L : Limits} {w : List ℕ} {t : Counts} → Sound L w t → t .externs ≤ t .charges
+externs-few {L} {w} {t} so = rw (so .externs) (count-low (tagged w tagExtern) (t .charges))
+
+-- the row of an extern is a row of its sheet, and rows are few
+module _ {L : Limits} {root library dir w : List ℕ} (x : Lent L root library dir w) {sheet : List ℕ} (doc : ℕ) (isSheet : sheet ≡ sheetOf root library doc) where
+  pub rows-few : length (rows sheet) ≤ 1048576
+  rows-few = rw isSheet (omega (arith, sheet-small x doc, rows-length (sheetOf root library doc)))
+
+  pub extern-row : {A : Type 0} {g : List Row → A} {o : Option A} (slot : ℕ) → doc ≡ numberOf dir slot → {f : walk.Found} → Located g o (rows (sheetOf root library (numberOf dir slot))) f → {row : ℕ} → f ≡ walked.At row → row < length (rows sheet)
+  extern-row slot e y q = rw (isSheet, e) (rw q at (y .below))
+
 -- ---- the four answers
+-- the record: its document and id, its id in the output, the row that declares it, its slot
+abbrev externRecord : ℕ → ℕ → ℕ → ℕ → ℕ → Record
+externRecord doc id out row slot = record { tag = 2; a = doc; b = id; c = out; d = row; e = slot; f = 0; g = 0; h = 0; i = 0; j = 0; k = 0 }
+
+-- the counts after it, and after n charges more
+abbrev oneExtern : Counts → Counts
+oneExtern t = grown t 1 (t .nodes) (t .scopes) (t .externs + 1)
+
+abbrev paidExtern : Counts → ℕ → Counts
+paidExtern t n = grown (oneExtern t) n (t .nodes) (t .scopes) (t .externs + 1)
+
 module _ (L : Limits) (root library dir w : List ℕ) (t : Counts) (slot id doc : ℕ) (isDoc : doc ≡ numberOf dir slot) (so : Sound L w t) where
   abbrev S : ℕ → Source
   S D = sourceOf root library D
@@ -184,7 +211,10 @@ module _ (L : Limits) (root library dir w : List ℕ) (t : Counts) (slot id doc 
       unknown : lookupExtern (externMapOf w (t .charges)) doc id ≡ none
       unknown = extern-lookup w (t .charges) doc id ∙ rw (← find, new)
 
-      module _ {x : walk.Found} (loc : Located externProtoOf (externProtoAt (documentsOf root library) doc id) (rows (sheetOf root library doc)) x) where
+      module _ {x : walk.Found} (found : Located externProtoOf (externProtoAt (documentsOf root library) (numberOf dir slot) id) (rows (sheetOf root library (numberOf dir slot))) x) where
+        loc : Located externProtoOf (externProtoAt (documentsOf root library) doc id) (rows (sheetOf root library doc)) x
+        loc = rw isDoc found
+
         pub extern-missing : x ≡ walked.Nothing → Declared L root library dir w t slot id w (Refused 4 doc id)
         unfolding declare
         extern-missing q = record { does = λ D young e here. record { same = same D e here; later = tt } }
@@ -193,17 +223,17 @@ module _ (L : Limits) (root library dir w : List ℕ) (t : Counts) (slot id doc 
             same D e here = sym (by-doc D e here ∙ rw (unknown, loc .is, q))
 
         -- it stands at a row
-        module _ {row : ℕ} (q : x ≡ walked.At row) {a b : ℕ} (ca : Counted Interfaces (rows (sheetOf root library doc)) (row + 1) a) (cb : Counted Urls (rows (sheetOf root library doc)) (row + 1) b) where
+        module _ {row : ℕ} (q : x ≡ walked.At row) {sheet : List ℕ} (isSheet : sheet ≡ sheetOf root library doc) {a b : ℕ} (ca : Counted Interfaces (rows sheet) (row + 1) a) (cb : Counted Urls (rows sheet) (row + 1) b) where
           abbrev decl : ExternProtoDecl
           decl = externProtoOf (drop row (rows (sheetOf root library doc)))
 
           interfaces : length (decl .interface) ≡ a
           unfolding externProtoOf interfacesOf
-          interfaces = length-map (elements Interfaces (rest (drop row (rows (sheetOf root library doc))))) interfaceOf ∙ rw (rest-drop (rows (sheetOf root library doc)) row) (sym (ca .is))
+          interfaces = length-map (elements Interfaces (rest (drop row (rows (sheetOf root library doc))))) interfaceOf ∙ rw (rest-drop (rows (sheetOf root library doc)) row) (sym (rw isSheet at (ca .is)))
 
           urls : length (decl .urls) ≡ b
           unfolding externProtoOf
-          urls = length-map (elements Urls (rest (drop row (rows (sheetOf root library doc))))) urlOf ∙ rw (rest-drop (rows (sheetOf root library doc)) row) (sym (cb .is))
+          urls = length-map (elements Urls (rest (drop row (rows (sheetOf root library doc))))) urlOf ∙ rw (rest-drop (rows (sheetOf root library doc)) row) (sym (rw isSheet at (cb .is)))
 
           pub extern-full : L .rows - t .charges ≤ a + b → Declared L root library dir w t slot id w (Refused 10 0 0)
           unfolding declare
@@ -216,30 +246,21 @@ module _ (L : Limits) (root library dir w : List ℕ) (t : Counts) (slot id doc 
 
           -- the record, and the rest of the charges
           module _ {w₁ w₂ : List ℕ} (fits : a + b < L .rows - t .charges) (long₁ : length w₁ ≡ length w) (long₂ : length w₂ ≡ length w₁) where
-            abbrev new-record : Record
-            new-record = record { tag = 2; a = doc; b = id; c = t .externs; d = row; e = slot; f = 0; g = 0; h = 0; i = 0; j = 0; k = 0 }
-
-            abbrev t₁ : Counts
-            t₁ = grown t 1 (t .nodes) (t .scopes) (t .externs + 1)
-
-            abbrev t₂ : Counts
-            t₂ = grown t₁ (a + b) (t .nodes) (t .scopes) (t .externs + 1)
-
-            pub extern-done : Entered w w₁ (L .rows * 12) (L .slots) (t .charges) new-record → Paid w₁ w₂ (t .charges + 1) (a + b)
-                → Declared L root library dir w t slot id w₂ (Done t₂ (t .externs) 0)
+            pub extern-done : Entered w w₁ (L .rows * 12) (L .slots) (t .charges) (externRecord doc id (t .externs) row slot) → Paid w₁ w₂ (t .charges + 1) (a + b)
+                → Declared L root library dir w t slot id w₂ (Done (paidExtern t (a + b)) (t .externs) 0)
             unfolding declare
             extern-done en pa = record { does = λ D young e here. record { same = same D e here; later = later-trans (first young) (second young) } }
               where
-                first : (young : ℕ) → Later L young w t w₁ t₁
-                first young = entered-later L so new-record refl (omega (arith, so .charges)) long₁ en young
+                first : (young : ℕ) → Later L young w t w₁ (oneExtern t)
+                first young = entered-later L so (externRecord doc id (t .externs) row slot) refl (omega (arith, so .charges)) long₁ en young
 
-                second : (young : ℕ) → Later L young w₁ t₁ w₂ t₂
+                second : (young : ℕ) → Later L young w₁ (oneExtern t) w₂ (paidExtern t (a + b))
                 second young = paid-later L (first young .sound) (a + b) (omega (arith, so .charges)) long₂ pa young
 
-                same : (D : ℕ) (e : Env) → src e ≡ numberOf dir slot → ok (t .externs) (at (S D) w₂ t₂) ≡ externProto (inputOf (S D) L) e id (at (S D) w t)
+                same : (D : ℕ) (e : Env) → src e ≡ numberOf dir slot → ok (t .externs) (at (S D) w₂ (paidExtern t (a + b))) ≡ externProto (inputOf (S D) L) e id (at (S D) w t)
                 same D e here =
-                    let z : t .charges + 1 + (a + b) ≡ suc (t .charges) + a + b = omega arith in
+                    let z : suc (t .charges) + a + b ≡ suc (t .charges) + (a + b) = omega arith in
                     ap (ok (t .externs)) (paid-state L (first 0 .sound) (a + b) (omega (arith, so .charges)) long₂ pa (S D) ∙ ap (more (a + b)) (state-extern root library (calm-same (en .same)) (so .fair) _ (en .holds) refl))
                     ∙ sym (by-doc D e here ∙ rw (unknown, loc .is, q)
                     (all-some (inputOf (S D) L) (decl .interface) (decl .urls) (λ st. ok (length (st .externProtos)) (pushExtern doc id decl st)) (at (S D) w t) (omega (arith, interfaces, urls, so .charges))
-                    ∙ rw (interfaces, urls, externs-length root library w (t .charges), ← so .externs)))
+                    ∙ rw (interfaces, urls, externs-length root library w (t .charges), ← so .externs, z)))

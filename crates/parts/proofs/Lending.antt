@@ -1,11 +1,18 @@
 -- What is lent stays lent, since no step writes behind the heads; a journal that stands can be searched.
-use mathlib.Core.Path.{_≡_, refl}
-use mathlib.Core.Bool.{true}
+use mathlib.Core.Path.{_≡_, refl, sym, _∙_}
+use mathlib.Core.Bool.{Bool, true, false}
 use mathlib.Core.List.{List}
 use Prim.Native.Nat.{ℕ, _+_, _*_, _-_, _≤_, _<_}
 use native.Mathlib.Omega.{arith}
 use lib.ListN.{length, getD}
-use Rattle.journal.specs.Index.{keyed, Findable}
+use lib.Dec.{eqb}
+use Rattle.ast.specs.Choice.{choose}
+use Rattle.lookup.specs.Lookup.{sheetOf}
+use Rattle.journal.specs.declared.Record.{Record}
+use Rattle.journal.specs.declared.Found.{Found}
+use Rattle.journal.specs.declared.Found.the-variants.{At}
+use Rattle.journal.specs.Index.{keyed, hit, newest, foundOf, Findable, Enterable}
+use Rattle.journal.proofs.Lists.{newest-is}
 use Rattle.source.specs.Directory.{fromOf, endOf}
 use Rattle.source.proofs.SourcedLaws.{sourced-kept}
 use Rattle.refine.specs.declared.Limits.{Limits}
@@ -29,3 +36,22 @@ findable {L} {w} {t} s g k = record {
   index = s .sound .index;
   key = k;
 }
+
+-- what is found is below
+pub found-low : (w : List ℕ) (g x y c : ℕ) {f : Found} {r : ℕ} → foundOf f ≡ newest w g x y c → f ≡ At r → r < c
+found-low w g x y c {f} {r} e q = newest-is (hit w g x y) c r (sym e ∙ rw q) .0
+
+pub enterable : {L : Limits} {w : List ℕ} {t : Counts} → Standing L w t → t .charges < L .rows → (r : Record) → keyed (r .tag) ≡ true → Enterable w (L .rows * 12) (L .slots) (t .charges) r
+enterable {L} {w} {t} s l r k = record {
+  room = record { records = omega arith; heads = s .ready .room; narrow = omega (arith, s .ready .rows) };
+  index = s .sound .index;
+  key = k;
+}
+
+-- the sheets are small
+pub sheet-small : {L : Limits} {root library dir w : List ℕ} → Lent L root library dir w → (doc : ℕ) → length (sheetOf root library doc) ≤ 8 * 1048576
+sheet-small {L} {root} {library} x doc = by (eqb doc 0)
+  where
+    by : (b : Bool) → length (choose b root library) ≤ 8 * 1048576
+    by true = x .small
+    by false = x .sourced .directory .small

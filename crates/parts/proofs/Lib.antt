@@ -2,3 +2,4 @@ pub mod Fields
 pub mod Lending
 pub mod Externs
 pub mod Routes
+pub mod Said

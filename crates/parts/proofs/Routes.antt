@@ -46,12 +46,12 @@ module _ (L : Limits) (w : List ℕ) (t : Counts) (st : Standing L w t) (scope i
   pub end-none : id ≡ 4294967295 → Remapped (mapOf w (t .charges)) scope id 4294967295
   end-none e = rw e
 
-  module _ (some-id : id ≡ 4294967295 → ⊥) {f : Found} (find : foundOf f ≡ newest w tagMap scope id (t .charges)) where
-    there : {o : Option ℕ} → lookup (mapOf w (t .charges)) scope id ≡ o → andThen (optional id) (lookup (mapOf w (t .charges)) scope) ≡ o
-    there e = rw (ne-eqb id 4294967295 some-id) e
+  there : (id ≡ 4294967295 → ⊥) → {o : Option ℕ} → lookup (mapOf w (t .charges)) scope id ≡ o → andThen (optional id) (lookup (mapOf w (t .charges)) scope) ≡ o
+  there ne e = rw (ne-eqb id 4294967295 ne) e
 
+  module _ (some-id : id ≡ 4294967295 → ⊥) {f : Found} (find : foundOf f ≡ newest w tagMap scope id (t .charges)) where
     pub end-unmapped : f ≡ Nothing → Remapped (mapOf w (t .charges)) scope id 4294967295
-    end-unmapped q = sym (there (map-lookup w (t .charges) scope id ∙ rw (← find, q)))
+    end-unmapped q = sym (there some-id (map-lookup w (t .charges) scope id ∙ rw (← find, q)))
 
     module _ {r : ℕ} (q : f ≡ At r) where
       here : (r < t .charges) × (hit w tagMap scope id r ≡ true)
@@ -70,7 +70,7 @@ module _ (L : Limits) (w : List ℕ) (t : Counts) (st : Standing L w t) (scope i
       pub end-mapped : (v : ℕ) → v ≡ cell w r 3 → Remapped (mapOf w (t .charges)) scope id v
       end-mapped v e =
           let ne : v ≡ 4294967295 → ⊥ = λ z. omega (arith, small) in
-          rw (ne-eqb v 4294967295 ne) (sym (there (map-lookup w (t .charges) scope id ∙ rw (← find, q, e))))
+          rw (ne-eqb v 4294967295 ne) (sym (there some-id (map-lookup w (t .charges) scope id ∙ rw (← find, q, e))))
 
 -- ---- a statement's record, behind those of its handle
 module _ (w w′ : List ℕ) (t : Counts) (r : Record) (is : r .tag ≡ tagStatement) (p : Pushed w w′ (t .charges) r) where
@@ -111,7 +111,7 @@ route-keepable w c r from to h x = record { least = omega arith; most = omega ar
     never : false ≡ true → ⊥
     never y = let k : _≡_ {A = ℕ} 0 1 = cc in omega arith
 
-module _ (L : Limits) (w : List ℕ) (t : Counts) (scope : ℕ) (r : Row) (h : ℕ) (x : HandleAt w (t .charges) tagStatement h) {from to : ℕ} (f : Remapped (mapOf w (t .charges)) scope (r .f) from) (g : Remapped (mapOf w (t .charges)) scope (r .g) to) {w′ : List ℕ} where
+module _ (L : Limits) (w : List ℕ) (t : Counts) (scope : ℕ) (r : Row) (h : ℕ) (x : HandleAt w (t .charges) tagStatement h) (from to : ℕ) (f : Remapped (mapOf w (t .charges)) scope (r .f) from) (g : Remapped (mapOf w (t .charges)) scope (r .g) to) where
   -- the definition's statement is the record's
   same-route : (e : Env) → e .scope ≡ scope → (S : Source) → Statement.Route (remapRoute (at S w t .world) (e .scope) (routeOf (r ∷ []))) ≡ statementNew (routeRecord r from to h)
   unfolding routeOf statementOf
@@ -120,10 +120,10 @@ module _ (L : Limits) (w : List ℕ) (t : Counts) (scope : ℕ) (r : Row) (h : �
       made : Option ℕ → Option ℕ → Statement
       made a b = Statement.Route (record { fromNode = r .b; fromField = r .c; toNode = r .d; toField = r .e; fromId = a; toId = b })
 
-  pub route-law : (a : Answer) → Kept L w t (routeRecord r from to h) w′ a → Routed L w t scope r h w′ a
+  pub route-law : {w′ : List ℕ} (a : Answer) → Kept L w t (routeRecord r from to h) w′ a → Routed L w t scope r h w′ a
   unfolding copyRoute paid bindR
-  route-law (Refused n i j) k = record { does = λ S young e q. let z = k .does S young .same in record { same = rw (← z); later = tt }; done = tt }
-  route-law (Done t′ v p) k =
+  route-law {w′} (Refused n i j) k = record { does = λ S young e q. let z = k .does S young .same in record { same = rw (← z); later = tt }; done = tt }
+  route-law {w′} (Done t′ v p) k =
       let d = k .done in
       let y : t′ .charges ≡ t .charges + 1 = rw (d .counts) in
       let u : t .charges + 1 - 1 ≡ t .charges = omega arith in

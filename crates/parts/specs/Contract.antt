@@ -11,7 +11,7 @@ use Rattle.ast.specs.Choice.{choose, andThen, mapO}
 use Rattle.sheet.specs.declared.row.Row.{Row}
 use Rattle.sheet.specs.declared.part.Part.{Part}
 use Rattle.sheet.specs.Rows.{rows}
-use Rattle.sheet.specs.Parse.{elements, optional, fieldOf, routeOf, nodeOf}
+use Rattle.sheet.specs.Parse.{elements, optional, fieldOf, routeOf, statementOf, nodeOf}
 use Rattle.lookup.specs.declared.walk.Found.{Found}
 use Rattle.lookup.specs.Walk.{rowsAt, Below}
 use Rattle.lookup.specs.Lookup.{sheetOf}
@@ -104,6 +104,18 @@ keptStatement (Statement.Proto p) = false
 keptStatement (Statement.ExternProto x) = true
 keptStatement (Statement.Route r) = true
 keptStatement (Statement.Other p) = false
+
+-- out is what the statement of a row has become; the handle is of those kept so far
+pub record OneKept (source : Statement) (out : Option Statement) (w : List ℕ) (h : ℕ) (w′ : List ℕ) (t′ : Counts) (v : ℕ) : Type 0 where
+  pub handle : HandleAt w′ (t′ .charges) tagStatement v
+  pub list : statementsAt w′ v ≡ statementsAt w h ++ somes (out ∷ [])
+  pub kept : isSome out ≡ keptStatement source
+
+pub record OneStating (L : Limits) (root library dir w : List ℕ) (t : Counts) (e : code.Env) (r : Row) (h : ℕ) (w′ : List ℕ) (a : Answer) : Type 0 where
+  pub out : Option Statement
+  pub does : (D young : ℕ) (E : Env) → E .scope ≡ e .scope → src E ≡ numberOf dir (e .slot)
+      → Does (sourceOf root library D) L young (λ u v p. out) (copyStatement (inputOf (sourceOf root library D) L) E (statementOf (r ∷ []))) w t w′ a
+  pub done : IfDone (λ t′ v p. OneKept (statementOf (r ∷ [])) out w h w′ t′ v) a
 
 -- out is what each statement has become; the handle is of those kept
 pub record StatementsKept (source : List Statement) (out : List (Option Statement)) (w′ : List ℕ) (t′ : Counts) (v : ℕ) : Type 0 where

@@ -25,7 +25,7 @@ ghost use Rattle.reading.specs.Fair.{HandleAt};
 ghost use Rattle.source.specs.Directory.{numberOf, Slot};
 ghost use Rattle.lookup.specs.Lookup.{sheetOf};
 ghost use Rattle.refine.specs.Sound.{Standing};
-ghost use Rattle.parts.specs.Contract.{Lent, LastField, Counted, Declared, Remapped, Routed, ExternStated, Stating};
+ghost use Rattle.parts.specs.Contract.{Lent, LastField, Counted, Declared, Remapped, Routed, ExternStated, OneStating, Stating};
 
 const NONE: u32 = 4294967295;
 
@@ -229,6 +229,37 @@ pub fn extern_statement<'a>(
     )
 }
 
+// A statement of a node, by its row, behind those of a handle: Route and ExternProto are kept.
+fn statement<'a>(
+    root: &'a [u32],
+    library: &'a [u32],
+    dir: &[u32],
+    work: &mut [u32],
+    lim: Limits,
+    st: Counts,
+    env: Env,
+    r: Row,
+    h: u32,
+) -> Answer
+    requires { ⌜ Standing lim (now work) st ⌝ }
+    requires { ⌜ Lent lim (now root) (now library) (now dir) (now work) ⌝ }
+    requires { ⌜ Slot (now dir) (env .slot) ⌝ }
+    requires { ⌜ HandleAt (now work) (st .charges) tagStatement h ⌝ }
+    ensures { λ a. ⌜ OneStating lim (now (root .entry)) (now (library .entry)) (now (dir .entry)) (now (work .entry)) st env r h (now (work .exit)) a ⌝ }
+{
+    if r.a == 3 {
+        return route(work, lim, st, env.scope, r, h);
+    }
+    if r.a == 2 {
+        return extern_statement(root, library, dir, work, lim, st, env.slot, r.b, h);
+    }
+    Answer::Done {
+        st,
+        value: h,
+        place: 0,
+    }
+}
+
 // The statements of the node at a row: Route and ExternProto only.
 pub fn statements<'a>(
     root: &'a [u32],
@@ -259,22 +290,15 @@ pub fn statements<'a>(
             };
         };
         at = q + 1;
-        let r = row::row_at(sheet, q);
-        if (r.a == 2) | (r.a == 3) {
-            let a = if r.a == 3 {
-                route(work, lim, cur, env.scope, r, h)
-            } else {
-                extern_statement(root, library, dir, work, lim, cur, env.slot, r.b, h)
-            };
-            let Answer::Done {
-                st: s,
-                value: n,
-                place: _,
-            } = a else {
-                return a;
-            };
-            cur = s;
-            h = n;
-        }
+        let a = statement(root, library, dir, work, lim, cur, env, row::row_at(sheet, q), h);
+        let Answer::Done {
+            st: s,
+            value: n,
+            place: _,
+        } = a else {
+            return a;
+        };
+        cur = s;
+        h = n;
     }
 }

@@ -21,7 +21,7 @@ same-length : tie.Need-same-length
 same-length c = search needs
 
 returns : tie.Need-returns
-returns c = route-law _ _ _ _ (c .before .before .before .before .before .before .before .before .before .args .r) _ (c .before .before .before .before .before .before .before .before .before .pre .1) (c .before .before .before .before .before .before .remap .ensures) (c .before .before .before .before .remap2 .ensures) _ (c .before .before .keep .ensures)
+returns c = route-law _ _ _ _ (c .before .before .before .before .before .before .before .before .before .args .r) _ (c .before .before .before .before .before .before .before .before .before .pre .1) _ _ (c .before .before .before .before .before .before .remap .ensures) (c .before .before .before .before .remap2 .ensures) _ (c .before .before .keep .ensures)
 
 pub route-spec : {M : Type 1} → statement M
 route-spec = tie.close (tie.spec remap-requires remap-requires-2 keep-requires same-length returns)
