@@ -13,12 +13,13 @@ use Rattle.journal.specs.declared.Found.{Found}
 use Rattle.journal.specs.declared.Found.the-variants.{At}
 use Rattle.journal.specs.Index.{keyed, hit, newest, foundOf, Findable, Enterable}
 use Rattle.journal.proofs.Lists.{newest-is}
-use Rattle.source.specs.Directory.{fromOf, endOf}
+use Rattle.sheet.specs.Rows.{rows}
+use Rattle.source.specs.Directory.{numberOf, fromOf, endOf}
 use Rattle.source.proofs.SourcedLaws.{sourced-kept}
 use Rattle.refine.specs.declared.Limits.{Limits}
 use Rattle.refine.specs.declared.Counts.{Counts}
 use Rattle.refine.specs.Sound.{Standing, Later}
-use Rattle.parts.specs.Contract.{Lent}
+use Rattle.parts.specs.Contract.{Lent, rowsOf}
 
 pub lent-later : {L : Limits} {young : ℕ} {root library dir w w′ : List ℕ} {t t′ : Counts} → Later L young w t w′ t′ → Lent L root library dir w → Lent L root library dir w′
 lent-later {L} {young} {root} {library} {dir} {w} {w′} x y =
@@ -55,3 +56,7 @@ sheet-small {L} {root} {library} x doc = by (eqb doc 0)
     by : (b : Bool) → length (choose b root library) ≤ 8 * 1048576
     by true = x .small
     by false = x .sourced .directory .small
+
+-- the sheet that was selected is that of the slot
+pub sheet-is : {L : Limits} {root library dir w : List ℕ} → Lent L root library dir w → {sheet : List ℕ} (doc slot : ℕ) → sheet ≡ sheetOf root library doc → doc ≡ numberOf dir slot → rows sheet ≡ rowsOf root library dir slot
+sheet-is x doc slot e q = rw (e, q)
