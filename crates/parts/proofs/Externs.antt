@@ -33,14 +33,12 @@ use Rattle.journal.specs.Records.{tagExtern, tagNode, tagScope, cell, Paid}
 use Rattle.journal.specs.Index.{newest, foundOf, Entered, linked}
 use Rattle.journal.specs.Owned.{tagged}
 use Rattle.journal.proofs.Lists.{count-low}
-use Rattle.journal.proofs.Index.{index-paid}
-use Rattle.journal.proofs.Owned.{owned-enter, owned-paid}
+use Rattle.journal.proofs.Owned.{owned-enter}
 use Rattle.reading.specs.Reading.{externMapOf, externsOf}
 use Rattle.reading.specs.Fair.{Fair}
-use Rattle.reading.proofs.Logs.{below-stays}
 use Rattle.reading.proofs.Lookups.{extern-lookup}
 use Rattle.reading.proofs.Nodes.{Calm, calm-same}
-use Rattle.reading.proofs.States.{Silent, more, state-extern, state-silent, externs-length}
+use Rattle.reading.proofs.States.{more, state-extern, externs-length}
 use Rattle.source.specs.Directory.{numberOf}
 use Rattle.refine.specs.declared.Limits.{Limits}
 use Rattle.refine.specs.declared.Counts.{Counts}
@@ -51,6 +49,7 @@ use Rattle.refine.proofs.Later.{later-refl, later-trans}
 use Rattle.refine.proofs.Grow.{grown, sound-more, later-more, alone, count-other, count-new}
 use Rattle.refine.proofs.Charges.{charge-full, charge-some, each-full, each-some}
 use Rattle.refine.proofs.Keeping.{not-of-body}
+use Rattle.refine.proofs.Cloning.{paid-later, paid-state}
 use Rattle.parts.specs.Contract.{sourceOf, Lent, Counted, Declared}
 use Rattle.parts.proofs.Lending.{sheet-small}
 
@@ -84,47 +83,6 @@ module _ (I : Input) {A B C : Type 0} (xs : List A) (ys : List B) (k : Comp C) (
       one : (b : Bool) → ltb (st .charges) (I .limits .maxRows) ≡ b → all ≡ refusal 10 0 0
       one true e = let l = ltb-true (st .charges) (I .limits .maxRows) e in two l (ltb (I .limits .maxRows - suc (st .charges)) (length xs)) refl
       one false e = rw (charge-full I st (ltb-false (st .charges) (I .limits .maxRows) e))
-
--- ---- charges that keep nothing
-module _ (L : Limits) {w w′ : List ℕ} {t : Counts} (so : Sound L w t) (n : ℕ) (room : t .charges + n ≤ L .rows) (long : length w′ ≡ length w) (p : Paid w w′ (t .charges) n) where
-  abbrev after : Counts
-  after = grown t n (t .nodes) (t .scopes) (t .externs)
-
-  free : (g : ℕ) → 0 < g → (r : ℕ) → t .charges ≤ r → r < t .charges + n → cell w′ r 0 ≡ g → ⊥
-  free g l r a b e = omega (arith, p .tags r a b)
-
-  fair : (r : ℕ) → t .charges ≤ r → r < t .charges + n → Fair w′ (t .charges + n) r
-  fair r a b =
-      let z = p .tags r a b in
-      record {
-        mapped = λ e. absurd (omega arith);
-        node = λ e. absurd (omega arith);
-        instance = λ e. absurd (omega arith);
-        linked = λ e. absurd (never (rw z at e));
-        value = λ e q. absurd (never (rw z at e));
-      }
-
-  calm : Calm (t .charges) w w′
-  calm = calm-same (p .same)
-
-  paid-sound : Sound L w′ after
-  paid-sound =
-      sound-more so calm n (t .nodes) (t .scopes) (t .externs) room
-      (so .nodes ∙ sym (below-stays tagNode (calm .fixed) n (free tagNode (omega arith))))
-      (so .scopes ∙ sym (below-stays tagScope (calm .fixed) n (free tagScope (omega arith))))
-      (so .externs ∙ sym (below-stays tagExtern (calm .fixed) n (free tagExtern (omega arith))))
-      fair
-      (index-paid p (omega arith) (so .index))
-      (owned-paid p (so .owned))
-
-  paid-later : (young : ℕ) → Later L young w t w′ after
-  paid-later young =
-      later-more so calm n (t .nodes) (t .scopes) (t .externs) young (omega arith) (λ m l. p .above m (omega arith)) long
-      (λ r a b o. absurd (not-of-body (cell w′ r 0) (omega (arith, p .tags r a b)) o))
-      paid-sound
-
-  paid-state : (S : Source) → at S w′ after ≡ more n (at S w t)
-  paid-state S = state-silent (S .root) (S .library) calm (so .fair) n (λ r a b. let z = p .tags r a b in record { map = λ e. omega arith; extern = λ e. omega arith; node = λ e. omega arith; scope = λ e. omega arith; association = λ e. omega arith })
 
 -- ---- an extern's record
 module _ (L : Limits) {w w′ : List ℕ} {t : Counts} (so : Sound L w t) (r : Record) (is : r .tag ≡ tagExtern) (room : t .charges < L .rows) (long : length w′ ≡ length w) (p : Entered w w′ (L .rows * 12) (L .slots) (t .charges) r) where
@@ -255,12 +213,12 @@ module _ (L : Limits) (root library dir w : List ℕ) (t : Counts) (slot id doc 
                 first young = entered-later L so (externRecord doc id (t .externs) row slot) refl (omega (arith, so .charges)) long₁ en young
 
                 second : (young : ℕ) → Later L young w₁ (oneExtern t) w₂ (paidExtern t (a + b))
-                second young = paid-later L (first young .sound) (a + b) (omega (arith, so .charges)) long₂ pa young
+                second young = paid-later (first young .sound) (omega (arith, so .charges)) long₂ pa young
 
                 same : (D : ℕ) (e : Env) → src e ≡ numberOf dir slot → ok (t .externs) (at (S D) w₂ (paidExtern t (a + b))) ≡ externProto (inputOf (S D) L) e id (at (S D) w t)
                 same D e here =
                     let z : suc (t .charges) + a + b ≡ suc (t .charges) + (a + b) = omega arith in
-                    ap (ok (t .externs)) (paid-state L (first 0 .sound) (a + b) (omega (arith, so .charges)) long₂ pa (S D) ∙ ap (more (a + b)) (state-extern root library (calm-same (en .same)) (so .fair) _ (en .holds) refl))
+                    ap (ok (t .externs)) (paid-state (first 0 .sound) (omega (arith, so .charges)) long₂ pa (S D) ∙ ap (more (a + b)) (state-extern root library (calm-same (en .same)) (so .fair) _ (en .holds) refl))
                     ∙ sym (by-doc D e here ∙ rw (unknown, loc .is, q)
                     (all-some (inputOf (S D) L) (decl .interface) (decl .urls) (λ st. ok (length (st .externProtos)) (pushExtern doc id decl st)) (at (S D) w t) (omega (arith, interfaces, urls, so .charges))
                     ∙ rw (interfaces, urls, externs-length root library w (t .charges), ← so .externs, z)))

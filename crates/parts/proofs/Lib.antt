@@ -3,3 +3,4 @@ pub mod Lending
 pub mod Externs
 pub mod Routes
 pub mod Said
+pub mod Ordered

@@ -177,11 +177,11 @@ module _ (L : Limits) (root library dir w : List ℕ) (t : Counts) (e : code.Env
     }
 
 -- ---- all statements of a node
-statements-at : {R : List Row} {p q : ℕ} {r : Row} → Stands Statements R p q → r ≡ getD R q blank → statementsOf (drop p R) ≡ statementOf (r ∷ []) ∷ statementsOf (drop (q + 1) R)
+pub statements-at : {R : List Row} {p q : ℕ} {r : Row} → Stands Statements R p q → r ≡ getD R q blank → statementsOf (drop p R) ≡ statementOf (r ∷ []) ∷ statementsOf (drop (q + 1) R)
 unfolding statementsOf
 statements-at {R} {p} {q} {r} s is = each-at statementOf s ∙ rw (said-same (drop q R), front-drop R q, is)
 
-statements-end : (R : List Row) (p : ℕ) → elements Statements (drop p R) ≡ [] → statementsOf (drop p R) ≡ []
+pub statements-end : (R : List Row) (p : ℕ) → elements Statements (drop p R) ≡ [] → statementsOf (drop p R) ≡ []
 unfolding statementsOf
 statements-end R p e = each-none statementOf Statements R p e
 

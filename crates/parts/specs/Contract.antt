@@ -11,7 +11,8 @@ use Rattle.ast.specs.Choice.{choose, andThen, mapO}
 use Rattle.sheet.specs.declared.row.Row.{Row}
 use Rattle.sheet.specs.declared.part.Part.{Part}
 use Rattle.sheet.specs.Rows.{rows}
-use Rattle.sheet.specs.Parse.{elements, optional, fieldOf, routeOf, statementOf, nodeOf}
+use Rattle.sheet.specs.Parse.{elements, optional, fieldOf, fieldsOf, routeOf, statementOf, statementsOf, bodyElementOf, nodeOf}
+use Rattle.sheet.specs.Print.{row}
 use Rattle.lookup.specs.declared.walk.Found.{Found}
 use Rattle.lookup.specs.Walk.{rowsAt, Below}
 use Rattle.lookup.specs.Lookup.{sheetOf}
@@ -32,6 +33,7 @@ use Rattle.refine.specs.declared.Env as code
 use Rattle.refine.specs.declared.Answer.{Answer}
 use Rattle.refine.specs.Sound.{Source, inputOf, headsAt, envOf}
 use Rattle.refine.specs.Does.{Decode, number, IfDone, Does}
+use Rattle.parts.specs.declared.Taken.{Taken}
 
 -- ---- what is read
 
@@ -147,6 +149,19 @@ keptField vs f = keptBinding vs (f .binding)
 -- the same, of a field's row
 abbrev pub fieldKept : List ℕ → code.Env → Row → Bool
 fieldKept w e r = keptField (envOf w e .isValues) (fieldOf (r ∷ []))
+
+-- what a mark takes: it is kept or not, and fs and ss go on with those from the rows f and s on
+pub record Took (vs : Option Values) (R : List Row) (fs : List (Option Field)) (ss : List (Option Statement)) (m : BodyElement) (kept : Bool) (f s : ℕ) : Type 0 where
+  pub fields : List (Option Field)
+  pub statements : List (Option Statement)
+  pub isFields : map isSome fields ≡ map (keptField vs) (fieldsOf (drop f R))
+  pub isStatements : map isSome statements ≡ map keptStatement (statementsOf (drop s R))
+  pub is : (l : List BodyElement) → keptOrder fs ss (m ∷ l) ≡ choose kept (m ∷ keptOrder fields statements l) (keptOrder fields statements l)
+
+-- for all fields and statements that are kept as those from the rows f and s on
+pub record Takes (vs : Option Values) (R : List Row) (mark f s : ℕ) (x : Taken) : Type 0 where
+  pub each : (fs : List (Option Field)) (ss : List (Option Statement)) → map isSome fs ≡ map (keptField vs) (fieldsOf (drop f R)) → map isSome ss ≡ map keptStatement (statementsOf (drop s R))
+      → Took vs R fs ss (bodyElementOf (row 6 mark 0 0 0 0 0 0 ∷ [])) (x .kept) (x .field) (x .statement)
 
 -- for all fields and statements that are kept as the source says; the value is the order's handle
 pub record Ordering (L : Limits) (root library dir w : List ℕ) (t : Counts) (e : code.Env) (row : ℕ) (w′ : List ℕ) (a : Answer) : Type 0 where

@@ -18,14 +18,16 @@ use source::directory;
 ghost use mathlib.Core.Path.{_≡_};
 ghost use Prim.Native.Nat.{_<_, _≤_};
 ghost use lib.ListN.{length};
+ghost use mathlib.Core.List.{[], _∷_};
 ghost use Rattle.sheet.specs.Rows.{rows};
+ghost use Rattle.sheet.specs.Parse.{statementOf};
 ghost use Rattle.journal.specs.Records.{tagStatement};
 ghost use Rattle.reading.specs.Reading.{mapOf};
 ghost use Rattle.reading.specs.Fair.{HandleAt};
 ghost use Rattle.source.specs.Directory.{numberOf, Slot};
 ghost use Rattle.lookup.specs.Lookup.{sheetOf};
-ghost use Rattle.refine.specs.Sound.{Standing};
-ghost use Rattle.parts.specs.Contract.{Lent, LastField, Counted, Declared, Remapped, Routed, ExternStated, OneStating, Stating};
+ghost use Rattle.refine.specs.Sound.{Standing, EnvAt, envOf};
+ghost use Rattle.parts.specs.Contract.{Lent, LastField, Counted, Declared, Remapped, Routed, ExternStated, OneStating, Stating, keptStatement, fieldKept, Takes, Ordering};
 
 const NONE: u32 = 4294967295;
 
@@ -300,5 +302,149 @@ pub fn statements<'a>(
         };
         cur = s;
         h = n;
+    }
+}
+
+// Whether a field is kept: a value, an IS outside a body, or an IS that has a value in the body.
+fn field_kept(work: &[u32], lim: Limits, st: Counts, env: Env, r: Row) -> bool
+    requires { ⌜ Standing lim (now work) st ⌝ }
+    requires { ⌜ EnvAt (now work) (st .charges) env ⌝ }
+    ensures { λ k. ⌜ k ≡ fieldKept (now (work .entry)) env r ⌝ }
+{
+    if r.b != 1 {
+        return true;
+    }
+    if !env.body {
+        return true;
+    }
+    let journal::Found::At(_) = refine::value_of(work, env.values, r.c) else {
+        return false;
+    };
+    true
+}
+
+fn statement_kept(r: Row) -> bool
+    ensures { λ k. ⌜ k ≡ keptStatement (statementOf (r ∷ [])) ⌝ }
+{
+    if r.a == 2 {
+        return true;
+    }
+    r.a == 3
+}
+
+// What a mark takes: whether it is kept, and the rows from which fields and statements are not taken yet.
+struct Taken {
+    kept: bool,
+    field: usize,
+    statement: usize,
+}
+
+fn take(sheet: &[u32], work: &[u32], lim: Limits, st: Counts, env: Env, mark: u32, field: usize, statement: usize) -> Taken
+    requires { ⌜ Standing lim (now work) st ⌝ }
+    requires { ⌜ EnvAt (now work) (st .charges) env ⌝ }
+    ensures { λ x. ⌜ Takes (envOf (now (work .entry)) env .isValues) (rows (now (sheet .entry))) mark field statement x ⌝ }
+{
+    if mark == 1 {
+        return Taken {
+            kept: true,
+            field,
+            statement,
+        };
+    }
+    if mark == 0 {
+        let Found::At(f) = walk::seek(sheet, Part::Fields, field) else {
+            return Taken {
+                kept: false,
+                field,
+                statement,
+            };
+        };
+        return Taken {
+            kept: field_kept(work, lim, st, env, row::row_at(sheet, f)),
+            field: f + 1,
+            statement,
+        };
+    }
+    let Found::At(s) = walk::seek(sheet, Part::Statements, statement) else {
+        return Taken {
+            kept: false,
+            field,
+            statement,
+        };
+    };
+    Taken {
+        kept: statement_kept(row::row_at(sheet, s)),
+        field,
+        statement: s + 1,
+    }
+}
+
+// The body order of the node at a row, without what was dropped.
+pub fn order<'a>(
+    root: &'a [u32],
+    library: &'a [u32],
+    dir: &[u32],
+    work: &mut [u32],
+    lim: Limits,
+    st: Counts,
+    env: Env,
+    row: usize,
+) -> Answer
+    requires { ⌜ Standing lim (now work) st ⌝ }
+    requires { ⌜ Lent lim (now root) (now library) (now dir) (now work) ⌝ }
+    requires { ⌜ Slot (now dir) (env .slot) ⌝ }
+    requires { ⌜ EnvAt (now work) (st .charges) env ⌝ }
+    requires { ⌜ row < length (rows (sheetOf (now root) (now library) (numberOf (now dir) (env .slot)))) ⌝ }
+    ensures { λ a. ⌜ Ordering lim (now (root .entry)) (now (library .entry)) (now (dir .entry)) (now (work .entry)) st env row (now (work .exit)) a ⌝ }
+{
+    let mut cur = st;
+    let mut h: u32 = 0;
+    let mut at = row + 1;
+    let mut field = row + 1;
+    let mut statement = row + 1;
+    loop {
+        let sheet = rows::select(root, library, directory::number(dir, env.slot));
+        let Found::At(q) = walk::seek(sheet, Part::BodyOrder, at) else {
+            return Answer::Done {
+                st: cur,
+                value: h,
+                place: 0,
+            };
+        };
+        at = q + 1;
+        let mark = row::row_at(sheet, q).a;
+        let x = take(sheet, work, lim, cur, env, mark, field, statement);
+        field = x.field;
+        statement = x.statement;
+        if x.kept {
+            let a = refine::keep(
+                work,
+                lim,
+                cur,
+                Record {
+                    tag: 8,
+                    a: mark,
+                    b: 0,
+                    c: 0,
+                    d: 0,
+                    e: 0,
+                    f: 0,
+                    g: 0,
+                    h,
+                    i: 0,
+                    j: 0,
+                    k: 0,
+                },
+            );
+            let Answer::Done {
+                st: s,
+                value: n,
+                place: _,
+            } = a else {
+                return a;
+            };
+            cur = s;
+            h = n;
+        }
     }
 }
