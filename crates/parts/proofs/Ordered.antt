@@ -1,6 +1,6 @@
 -- Body order: what a mark takes, and all marks of a node.
 use mathlib.Core.Path.{_≡_, refl, sym, ap, subst, _∙_}
-use mathlib.Core.Bool.{Bool, true, false}
+use mathlib.Core.Bool.{Bool, true, false, not}
 use mathlib.Core.List.{List, [], _∷_, _++_, map, append-nil, append-assoc}
 use mathlib.Core.Option.{Option, none, some}
 use Prim.Native.Nat.{ℕ, zero, suc, _+_, _*_, _-_, _≤_, _<_}
@@ -55,27 +55,32 @@ stored-walk {L} {w} {t} {e} st x = record {
   linked = λ r l q. rw q at (st .sound .fair .each r (omega (arith, x .values .low, x .place)) .linked (rw q));
 }
 
-module _ (w : List ℕ) (e : code.Env) (r : Row) where
-  abbrev vs : Option Values
-  vs = envOf w e .isValues
+off : (b : Bool) → not b ≡ true → b ≡ false
+off true e = sym e
+off false e = refl
 
+on : (b : Bool) → not b ≡ false → b ≡ true
+on true e = refl
+on false e = sym e
+
+module _ (w : List ℕ) (e : code.Env) (r : Row) where
   pub kept-value : (r .b ≡ 1 → ⊥) → true ≡ fieldKept w e r
   unfolding fieldOf
   kept-value ne = rw (ne-eqb (r .b) 1 ne)
 
   module _ (is : r .b ≡ 1) where
-    pub kept-outside : e .body ≡ false → true ≡ fieldKept w e r
+    pub kept-outside : not (e .body) ≡ true → true ≡ fieldKept w e r
     unfolding fieldOf
-    kept-outside q = rw (eq-eqb (r .b) 1 is, q)
+    kept-outside q = rw (eq-eqb (r .b) 1 is, off (e .body) q)
 
-    module _ (body : e .body ≡ true) {f : Found} (x : Valued w (e .values) (r .c) f) where
+    module _ (body : not (e .body) ≡ false) {f : Found} (x : Valued w (e .values) (r .c) f) where
       pub kept-none : f ≡ Nothing → false ≡ fieldKept w e r
       unfolding fieldOf
-      kept-none q = rw (eq-eqb (r .b) 1 is, body, x .same, q)
+      kept-none q = rw (eq-eqb (r .b) 1 is, on (e .body) body, x .same, q)
 
       pub kept-some : {n : ℕ} → f ≡ At n → true ≡ fieldKept w e r
       unfolding fieldOf
-      kept-some q = rw (eq-eqb (r .b) 1 is, body, x .same, q)
+      kept-some q = rw (eq-eqb (r .b) 1 is, on (e .body) body, x .same, q)
 
 -- of a field from its row on
 kept-front : (vs : Option Values) (l : List Row) → keptField vs (fieldOf l) ≡ keptField vs (fieldOf (front l ∷ []))
@@ -177,6 +182,12 @@ module _ (vs : Option Values) (R : List Row) (mark field statement : ℕ) where
     }
 
 -- ---- all marks of a node
+choose-yes : {A : Type 0} (b : Bool) → b ≡ true → (x y : A) → choose b x y ≡ x
+choose-yes b e x y = rw e
+
+choose-no : {A : Type 0} (b : Bool) → b ≡ false → (x y : A) → choose b x y ≡ y
+choose-no b e x y = rw e
+
 marks-at : {R : List Row} {p q : ℕ} {r : Row} → Stands BodyOrder R p q → r ≡ getD R q blank → map bodyElementOf (elements BodyOrder (drop p R)) ≡ bodyElementOf (row 6 (r .a) 0 0 0 0 0 0 ∷ []) ∷ map bodyElementOf (elements BodyOrder (drop (q + 1) R))
 unfolding bodyElementOf
 marks-at {R} {p} {q} {r} s is = each-at bodyElementOf s ∙ rw (front-drop R q, is)
@@ -270,10 +281,10 @@ module _ (L : Limits) (root library dir w₀ : List ℕ) (t₀ : Counts) (e : co
 
       -- the mark is dropped
       pub order-skip : y .kept ≡ false → OrderSoFar w t h (q + 1) (y .field) (y .statement)
-      order-skip no = record {
+      order-skip nk = record {
         left = λ S young fs ss ef es.
             let k = took S young fs ss ef es in
-            let g = rw no at (turned S young fs ss ef es) in
+            let g = turned S young fs ss ef es ∙ choose-no (y .kept) nk _ _ in
             record {
               fields = k .fields;
               statements = k .statements;
@@ -290,10 +301,10 @@ module _ (L : Limits) (root library dir w₀ : List ℕ) (t₀ : Counts) (e : co
       }
 
       -- the mark is kept
-      module _ (yes : y .kept ≡ true) {w′ : List ℕ} {a : Answer} (kp : Kept L w t (orderRecord (r .a) h) w′ a) where
+      module _ (yk : y .kept ≡ true) {w′ : List ℕ} {a : Answer} (kp : Kept L w t (orderRecord (r .a) h) w′ a) where
         module _ (S : Source) (young : ℕ) (fs : List (Option Field)) (ss : List (Option Statement)) (ef : map isSome fs ≡ map (keptField given) (nodeIn root library dir (e .slot) node .fields)) (es : map isSome ss ≡ map keptStatement (nodeIn root library dir (e .slot) node .statements)) where
           longer : keptOrder (was S young fs ss ef es .fields) (was S young fs ss ef es .statements) (marks place) ≡ m ∷ keptOrder (took S young fs ss ef es .fields) (took S young fs ss ef es .statements) (marks (q + 1))
-          longer = rw yes at (turned S young fs ss ef es)
+          longer = turned S young fs ss ef es ∙ choose-yes (y .kept) yk _ _
 
           paying : Doing S L young (whole S fs ss) w₀ t₀ (charge (inputOf S L) >>= (λ u. chargeEach (inputOf S L) (keptOrder (took S young fs ss ef es .fields) (took S young fs ss ef es .statements) (marks (q + 1))) >>= (λ v. ret (all fs ss)))) w t
           unfolding chargeEach
