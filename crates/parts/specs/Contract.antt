@@ -169,6 +169,6 @@ pub record Ordering (L : Limits) (root library dir w : List ℕ) (t : Counts) (e
       → map isSome fs ≡ map (keptField (envOf w e .isValues)) (nodeIn root library dir (e .slot) row .fields)
       → map isSome ss ≡ map keptStatement (nodeIn root library dir (e .slot) row .statements)
       → Does S L young (λ u v p. orderAt u v)
-        (chargeEach (inputOf S L) (keptOrder fs ss (nodeIn root library dir (e .slot) row .bodyOrder)) >> ret (keptOrder fs ss (nodeIn root library dir (e .slot) row .bodyOrder)))
-        w t w′ a
+      (chargeEach (inputOf S L) (keptOrder fs ss (nodeIn root library dir (e .slot) row .bodyOrder)) >> ret (keptOrder fs ss (nodeIn root library dir (e .slot) row .bodyOrder)))
+      w t w′ a
   pub done : IfDone (λ t′ v p. HandleAt w′ (t′ .charges) tagOrder v) a

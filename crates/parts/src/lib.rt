@@ -83,14 +83,23 @@ pub fn extern_proto<'a>(
 {
     let document = directory::number(dir, slot);
     let c = st.charges;
-    if let journal::Found::At(r) = journal::find(work, lim.rows * 12, lim.slots, c, 2, document, id) {
+    if let journal::Found::At(r) = journal::find(
+        work,
+        lim.rows * 12,
+        lim.slots,
+        c,
+        2,
+        document,
+        id,
+    ) {
         return Answer::Done {
             st,
             value: journal::word(work, r, 3),
             place: 0,
         };
     }
-    let Found::At(at) = source::extern_proto(root, library, dir, work, slot, ExternProtoId(id)) else {
+    let Found::At(at) = source::extern_proto(root, library, dir, work, slot, ExternProtoId(id))
+    else {
         return Answer::Refused {
             number: 4,
             first: document,
@@ -149,7 +158,15 @@ pub fn remap(work: &[u32], lim: Limits, st: Counts, scope: u32, id: u32) -> u32
     if id == NONE {
         return NONE;
     }
-    let journal::Found::At(r) = journal::find(work, lim.rows * 12, lim.slots, st.charges, 1, scope, id) else {
+    let journal::Found::At(r) = journal::find(
+        work,
+        lim.rows * 12,
+        lim.slots,
+        st.charges,
+        1,
+        scope,
+        id,
+    ) else {
         return NONE;
     };
     journal::word(work, r, 3)
@@ -207,7 +224,8 @@ pub fn extern_statement<'a>(
         st: s,
         value: n,
         place: _,
-    } = a else {
+    } = a
+    else {
         return a;
     };
     refine::keep(
@@ -292,12 +310,23 @@ pub fn statements<'a>(
             };
         };
         at = q + 1;
-        let a = statement(root, library, dir, work, lim, cur, env, row::row_at(sheet, q), h);
+        let a = statement(
+            root,
+            library,
+            dir,
+            work,
+            lim,
+            cur,
+            env,
+            row::row_at(sheet, q),
+            h,
+        );
         let Answer::Done {
             st: s,
             value: n,
             place: _,
-        } = a else {
+        } = a
+        else {
             return a;
         };
         cur = s;
@@ -339,7 +368,16 @@ struct Taken {
     statement: usize,
 }
 
-fn take(sheet: &[u32], work: &[u32], lim: Limits, st: Counts, env: Env, mark: u32, field: usize, statement: usize) -> Taken
+fn take(
+    sheet: &[u32],
+    work: &[u32],
+    lim: Limits,
+    st: Counts,
+    env: Env,
+    mark: u32,
+    field: usize,
+    statement: usize,
+) -> Taken
     requires { ⌜ Standing lim (now work) st ⌝ }
     requires { ⌜ EnvAt (now work) (st .charges) env ⌝ }
     ensures { λ x. ⌜ Takes (envOf (now (work .entry)) env .isValues) (rows (now (sheet .entry))) mark field statement x ⌝ }
@@ -440,7 +478,8 @@ pub fn order<'a>(
                 st: s,
                 value: n,
                 place: _,
-            } = a else {
+            } = a
+            else {
                 return a;
             };
             cur = s;
