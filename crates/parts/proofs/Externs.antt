@@ -42,6 +42,7 @@ use Rattle.reading.proofs.States.{more, state-extern, externs-length}
 use Rattle.source.specs.Directory.{numberOf}
 use Rattle.refine.specs.declared.Limits.{Limits}
 use Rattle.refine.specs.declared.Counts.{Counts}
+use Rattle.refine.specs.declared.Answer.{Answer}
 use Rattle.refine.specs.declared.Answer.the-variants.{Done, Refused}
 use Rattle.refine.specs.Sound.{Source, inputOf, Sound, Standing, OfBody, Later}
 use Rattle.refine.specs.Does.{at, number, Does}
@@ -193,9 +194,9 @@ module _ (L : Limits) (root library dir w : List ℕ) (t : Counts) (slot id doc 
           unfolding externProtoOf
           urls = length-map (elements Urls (rest (drop row (rows (sheetOf root library doc))))) urlOf ∙ rw (rest-drop (rows (sheetOf root library doc)) row) (sym (rw isSheet at (cb .is)))
 
-          pub extern-full : L .rows - t .charges ≤ a + b → Declared L root library dir w t slot id w (Refused 10 0 0)
+          pub extern-full : L .rows - t .charges ≤ a + b → {r : Answer} → r ≡ Refused 10 0 0 → Declared L root library dir w t slot id w r
           unfolding declare
-          extern-full h = record { does = λ D young e here. record { same = same D e here; later = tt } }
+          extern-full h is = rw is (record { does = λ D young e here. record { same = same D e here; later = tt } })
             where
               same : (D : ℕ) (e : Env) → src e ≡ numberOf dir slot → refusal 10 0 0 ≡ externProto (inputOf (S D) L) e id (at (S D) w t)
               same D e here =

@@ -20,17 +20,15 @@ use Rattle.expansion.specs.PlainCopy.{remapRoute, copyRoute}
 use Rattle.journal.specs.declared.Record.{Record}
 use Rattle.journal.specs.declared.Found.{Found}
 use Rattle.journal.specs.declared.Found.the-variants.{At, Nothing}
-use Rattle.journal.specs.Records.{tagMap, tagNode, tagStatement, cell, Pushed}
-use Rattle.journal.specs.Index.{hit, newest, foundOf}
+use Rattle.journal.specs.Records.{tagNode, tagStatement, cell, Pushed}
+use Rattle.journal.specs.Index.{foundOf}
 use Rattle.journal.specs.Owned.{tagged}
 use Rattle.journal.proofs.Frame.{same-fixed}
-use Rattle.journal.proofs.Keys.{hit-is}
-use Rattle.journal.proofs.Lists.{newest-is, count-low}
+use Rattle.journal.proofs.Lists.{count-low}
 use Rattle.reading.specs.Reading.{mapOf, kept, statementRec, statementNew, statementsAt}
-use Rattle.reading.specs.Fair.{HandleAt, NodeAt}
+use Rattle.reading.specs.Fair.{HandleAt}
 use Rattle.reading.proofs.Words.{kept-is}
 use Rattle.reading.proofs.Fair.{handle-new}
-use Rattle.reading.proofs.Lookups.{map-lookup}
 use Rattle.reading.proofs.Chains.{statements-new}
 use Rattle.refine.specs.declared.Limits.{Limits}
 use Rattle.refine.specs.declared.Counts.{Counts}
@@ -38,7 +36,7 @@ use Rattle.refine.specs.declared.Answer.{Answer}
 use Rattle.refine.specs.declared.Answer.the-variants.{Done, Refused}
 use Rattle.refine.specs.Sound.{Source, inputOf, Sound, Standing}
 use Rattle.refine.specs.Does.{Decode, nothing, at, resultOf, IfDone, Does}
-use Rattle.refine.specs.Contract.{Keepable, KeptAt, Kept}
+use Rattle.refine.specs.Contract.{Looked, Keepable, KeptAt, Kept}
 use Rattle.parts.specs.Contract.{Remapped, statementAt, Stated, Routed}
 
 -- ---- an end
@@ -49,28 +47,16 @@ module _ (L : Limits) (w : List ℕ) (t : Counts) (st : Standing L w t) (scope i
   there : (id ≡ 4294967295 → ⊥) → {o : Option ℕ} → lookup (mapOf w (t .charges)) scope id ≡ o → andThen (optional id) (lookup (mapOf w (t .charges)) scope) ≡ o
   there ne e = rw (ne-eqb id 4294967295 ne) e
 
-  module _ (some-id : id ≡ 4294967295 → ⊥) {f : Found} (find : foundOf f ≡ newest w tagMap scope id (t .charges)) where
+  module _ (some-id : id ≡ 4294967295 → ⊥) {f : Found} (x : Looked w (t .charges) scope id f) where
     pub end-unmapped : f ≡ Nothing → Remapped (mapOf w (t .charges)) scope id 4294967295
-    end-unmapped q = sym (there some-id (map-lookup w (t .charges) scope id ∙ rw (← find, q)))
+    end-unmapped q = sym (there some-id (x .same ∙ rw q))
 
-    module _ {r : ℕ} (q : f ≡ At r) where
-      here : (r < t .charges) × (hit w tagMap scope id r ≡ true)
-      here = newest-is (hit w tagMap scope id) (t .charges) r (sym find ∙ rw q)
-
-      -- the record is below, and its copy is a node
-      pub end-room : r < t .charges
-      end-room = here .0
-
-      node : NodeAt w r (cell w r 3) (cell w r 4)
-      node = st .sound .fair .each r (here .0) .mapped (hit-is w tagMap scope id r (here .1) .tag)
-
-      small : cell w r 3 < 4294967295
-      small = omega (arith, node .number, node .low, node .some, here .0, st .sound .charges, st .ready .rows, count-low (tagged w tagNode) (cell w r 4 - 1))
-
-      pub end-mapped : (v : ℕ) → v ≡ cell w r 3 → Remapped (mapOf w (t .charges)) scope id v
-      end-mapped v e =
-          let ne : v ≡ 4294967295 → ⊥ = λ z. omega (arith, small) in
-          rw (ne-eqb v 4294967295 ne) (sym (there some-id (map-lookup w (t .charges) scope id ∙ rw (← find, q, e))))
+    -- its copy is a node, and nodes are few
+    pub end-mapped : {r : ℕ} → f ≡ At r → (v : ℕ) → v ≡ cell w r 3 → Remapped (mapOf w (t .charges)) scope id v
+    end-mapped {r} q v e =
+        let n = x .node r q in
+        let ne : v ≡ 4294967295 → ⊥ = λ z. omega (arith, n .number, n .low, n .some, st .sound .charges, st .ready .rows, count-low (tagged w tagNode) (cell w r 4 - 1)) in
+        rw (ne-eqb v 4294967295 ne) (sym (there some-id (x .same ∙ rw (q, e))))
 
 -- ---- a statement's record, behind those of its handle
 module _ (w w′ : List ℕ) (t : Counts) (r : Record) (is : r .tag ≡ tagStatement) (p : Pushed w w′ (t .charges) r) where

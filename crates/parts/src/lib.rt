@@ -109,11 +109,7 @@ pub fn extern_proto<'a>(
     let sheet = rows::select(root, library, document);
     let n = count(sheet, Part::Interfaces, at + 1) + count(sheet, Part::Urls, at + 1);
     if lim.rows - c <= n {
-        return Answer::Refused {
-            number: 10,
-            first: 0,
-            second: 0,
-        };
+        return refine::too_many();
     }
     let out = st.externs;
     journal::enter(
@@ -158,15 +154,7 @@ pub fn remap(work: &[u32], lim: Limits, st: Counts, scope: u32, id: u32) -> u32
     if id == NONE {
         return NONE;
     }
-    let journal::Found::At(r) = journal::find(
-        work,
-        lim.rows * 12,
-        lim.slots,
-        st.charges,
-        1,
-        scope,
-        id,
-    ) else {
+    let journal::Found::At(r) = refine::look(work, lim, st, scope, id) else {
         return NONE;
     };
     journal::word(work, r, 3)

@@ -10,6 +10,7 @@ use Rattle.journal.proofs.paid.Reads as paid-reads
 use Rattle.journal.proofs.word.Reads as word-reads
 use Rattle.lookup.proofs.rows.select.Reads as select-reads
 use Rattle.parts.proofs.count.Reads as count-reads
+use Rattle.refine.proofs.too_many.Reads as too-many-reads
 use Rattle.source.proofs.directory.number.Reads as number-reads
 use Rattle.source.proofs.extern_proto.Reads as extern-proto-reads
 use mathlib.Core.Path.{_≡_, refl}
@@ -81,11 +82,14 @@ add-n c = omega (arith, rows-few (c .before .before .before .before .before .bef
 sub-if1 : tie.Need-sub-if1
 sub-if1 c = omega (arith, c .before .before .before .before .before .before .before .before .before .before .before .before .before .before .before .before .before .before .before .pre .0 .sound .charges)
 
+too-many-requires : tie.Need-too-many-requires
+too-many-requires c κs = search needs
+
 same-length-3 : tie.Need-same-length-3
 same-length-3 c = search needs
 
 returns-3 : tie.Need-returns-3
-returns-3 c = extern-full _ _ _ _ _ _ _ _ _ (c .before .before .before .before .before .before .before .before .before .before .before .before .before .before .before .number .ensures) (c .before .before .before .before .before .before .before .before .before .before .before .before .before .before .before .before .before .before .before .before .pre .0 .sound) (c .before .before .before .before .before .before .before .before .before .before .before .before .find .ensures) (c .before .before .before .before .before .before .before .before .before .before .enum-told .given .1) (c .before .before .before .before .before .before .before .before .extern-proto .ensures) (c .before .before .before .before .before .before .at .given .1) (c .before .before .before .before .select .ensures) (c .before .before .before .count .ensures) (c .before .before .count2 .ensures) (c .if1 .taken)
+returns-3 c = extern-full _ _ _ _ _ _ _ _ _ (c .before .before .before .before .before .before .before .before .before .before .before .before .before .before .before .before .number .ensures) (c .before .before .before .before .before .before .before .before .before .before .before .before .before .before .before .before .before .before .before .before .before .pre .0 .sound) (c .before .before .before .before .before .before .before .before .before .before .before .before .before .find .ensures) (c .before .before .before .before .before .before .before .before .before .before .before .enum-told .given .1) (c .before .before .before .before .before .before .before .before .before .extern-proto .ensures) (c .before .before .before .before .before .before .before .at .given .1) (c .before .before .before .before .before .select .ensures) (c .before .before .before .before .count .ensures) (c .before .before .before .count2 .ensures) (c .before .if1 .taken) (c .too-many .ensures)
 
 mul-enter : tie.Need-mul-enter
 mul-enter c = omega (arith, c .before .before .before .before .before .before .before .before .before .before .before .before .before .before .before .before .before .before .before .before .before .before .pre .0 .ready .rows)
@@ -141,6 +145,7 @@ extern-proto-spec =
     count-requires-2
     add-n
     sub-if1
+    too-many-requires
     same-length-3
     returns-3
     mul-enter
