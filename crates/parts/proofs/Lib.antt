@@ -1,0 +1,6 @@
+pub mod Fields
+pub mod Lending
+pub mod Externs
+pub mod Routes
+pub mod Said
+pub mod Ordered

@@ -1,0 +1,124 @@
+-- Routes: an end is its copy in the scope, or none.
+use mathlib.Core.Path.{_≡_, refl, sym, ap, _∙_}
+use mathlib.Core.Bool.{Bool, true, false}
+use mathlib.Core.List.{List, [], _∷_, _++_}
+use mathlib.Core.Option.{Option, none, some}
+use Prim.Native.Nat.{ℕ, _+_, _-_, _≤_, _<_}
+use native.Mathlib.Omega.{arith}
+use lib.ListN.{length}
+use lib.Dec.{eqb}
+use borrow.Author.Tests.{eq-eqb, ne-eqb}
+use Rattle.ast.specs.Ast.{Route, Statement}
+use Rattle.ast.specs.Choice.{choose, andThen, mapO}
+use Rattle.sheet.specs.declared.row.Row.{Row}
+use Rattle.sheet.specs.Parse.{optional, routeOf, statementOf}
+use Rattle.sheet.specs.Print.{row}
+use Rattle.expansion.specs.State.{State, Result, refusal, ok, Comp, bindR, _>>=_, _>>_, ret, lookup}
+use Rattle.expansion.specs.Charges.{charge, paid}
+use Rattle.expansion.specs.Values.{Env}
+use Rattle.expansion.specs.PlainCopy.{remapRoute, copyRoute}
+use Rattle.journal.specs.declared.Record.{Record}
+use Rattle.journal.specs.declared.Found.{Found}
+use Rattle.journal.specs.declared.Found.the-variants.{At, Nothing}
+use Rattle.journal.specs.Records.{tagNode, tagStatement, cell, Pushed}
+use Rattle.journal.specs.Index.{foundOf}
+use Rattle.journal.specs.Owned.{tagged}
+use Rattle.journal.proofs.Frame.{same-fixed}
+use Rattle.journal.proofs.Lists.{count-low}
+use Rattle.reading.specs.Reading.{mapOf, kept, statementRec, statementNew, statementsAt}
+use Rattle.reading.specs.Fair.{HandleAt}
+use Rattle.reading.proofs.Words.{kept-is}
+use Rattle.reading.proofs.Fair.{handle-new}
+use Rattle.reading.proofs.Chains.{statements-new}
+use Rattle.refine.specs.declared.Limits.{Limits}
+use Rattle.refine.specs.declared.Counts.{Counts}
+use Rattle.refine.specs.declared.Answer.{Answer}
+use Rattle.refine.specs.declared.Answer.the-variants.{Done, Refused}
+use Rattle.refine.specs.Sound.{Source, inputOf, Sound, Standing}
+use Rattle.refine.specs.Does.{Decode, nothing, at, resultOf, IfDone, Does}
+use Rattle.refine.specs.Contract.{Looked, Keepable, KeptAt, Kept}
+use Rattle.parts.specs.Contract.{Remapped, statementAt, Stated, Routed}
+
+-- ---- an end
+module _ (L : Limits) (w : List ℕ) (t : Counts) (st : Standing L w t) (scope id : ℕ) where
+  pub end-none : id ≡ 4294967295 → Remapped (mapOf w (t .charges)) scope id 4294967295
+  end-none e = rw e
+
+  there : (id ≡ 4294967295 → ⊥) → {o : Option ℕ} → lookup (mapOf w (t .charges)) scope id ≡ o → andThen (optional id) (lookup (mapOf w (t .charges)) scope) ≡ o
+  there ne e = rw (ne-eqb id 4294967295 ne) e
+
+  module _ (some-id : id ≡ 4294967295 → ⊥) {f : Found} (x : Looked w (t .charges) scope id f) where
+    pub end-unmapped : f ≡ Nothing → Remapped (mapOf w (t .charges)) scope id 4294967295
+    end-unmapped q = sym (there some-id (x .same ∙ rw q))
+
+    -- its copy is a node, and nodes are few
+    pub end-mapped : {r : ℕ} → f ≡ At r → (v : ℕ) → v ≡ cell w r 3 → Remapped (mapOf w (t .charges)) scope id v
+    end-mapped {r} q v e =
+        let n = x .node r q in
+        let ne : v ≡ 4294967295 → ⊥ = λ z. omega (arith, n .number, n .low, n .some, st .sound .charges, st .ready .rows, count-low (tagged w tagNode) (cell w r 4 - 1)) in
+        rw (ne-eqb v 4294967295 ne) (sym (there some-id (x .same ∙ rw (q, e))))
+
+-- ---- a statement's record, behind those of its handle
+module _ (w w′ : List ℕ) (t : Counts) (r : Record) (is : r .tag ≡ tagStatement) (p : Pushed w w′ (t .charges) r) where
+  abbrev c : ℕ
+  c = t .charges
+
+  put : (j v : ℕ) → j < 12 → cell w′ c j ≡ v → kept w′ c j ≡ v
+  put j v l e = kept-is w′ c tagStatement j v (p .holds .at0 ∙ is) l e
+
+  -- it reads as the statement of its words
+  pub stated-new : statementRec w′ c ≡ statementNew r
+  stated-new =
+      rw (
+        put 1 (r .a) (omega arith) (p .holds .at1),
+        put 2 (r .b) (omega arith) (p .holds .at2),
+        put 3 (r .c) (omega arith) (p .holds .at3),
+        put 4 (r .d) (omega arith) (p .holds .at4),
+        put 5 (r .e) (omega arith) (p .holds .at5),
+        put 6 (r .f) (omega arith) (p .holds .at6),
+        put 7 (r .g) (omega arith) (p .holds .at7),
+      )
+
+  pub stated : HandleAt w c tagStatement (r .h) → (t′ : Counts) → t′ .charges ≡ c + 1 → Stated w (r .h) w′ t′ (c + 1)
+  stated h t′ e =
+      let z : c + 1 - 1 ≡ c = omega arith in
+      record {
+        handle = rw e (handle-new w′ c tagStatement (p .holds .at0 ∙ is));
+        list = rw z (statements-new (same-fixed (p .same)) r (p .holds) (rw is) (h .low) ∙ rw stated-new);
+      }
+
+-- ---- a Route
+abbrev routeRecord : Row → ℕ → ℕ → ℕ → Record
+routeRecord r from to h = record { tag = 7; a = 3; b = r .b; c = r .c; d = r .d; e = r .e; f = from; g = to; h = h; i = 0; j = 0; k = 0 }
+
+pub route-keepable : (w : List ℕ) (c : ℕ) (r : Row) (from to h : ℕ) → HandleAt w c tagStatement h → Keepable w c (routeRecord r from to h)
+route-keepable w c r from to h x = record { least = omega arith; most = omega arith; before = x; value = λ e. absurd (never e) }
+  where
+    never : false ≡ true → ⊥
+    never y = let k : _≡_ {A = ℕ} 0 1 = cc in omega arith
+
+module _ (L : Limits) (w : List ℕ) (t : Counts) (scope : ℕ) (r : Row) (h : ℕ) (x : HandleAt w (t .charges) tagStatement h) (from to : ℕ) (f : Remapped (mapOf w (t .charges)) scope (r .f) from) (g : Remapped (mapOf w (t .charges)) scope (r .g) to) where
+  -- the definition's statement is the record's
+  same-route : (e : Env) → e .scope ≡ scope → (S : Source) → Statement.Route (remapRoute (at S w t .world) (e .scope) (routeOf (r ∷ []))) ≡ statementNew (routeRecord r from to h)
+  unfolding routeOf statementOf
+  same-route e q S = rw q (ap (λ (o : Option ℕ). made o (andThen (optional (r .g)) (lookup (mapOf w (t .charges)) scope))) (sym f) ∙ ap (made (optional from)) (sym g))
+    where
+      made : Option ℕ → Option ℕ → Statement
+      made a b = Statement.Route (record { fromNode = r .b; fromField = r .c; toNode = r .d; toField = r .e; fromId = a; toId = b })
+
+  pub route-law : {w′ : List ℕ} (a : Answer) → Kept L w t (routeRecord r from to h) w′ a → Routed L w t scope r h w′ a
+  unfolding copyRoute paid bindR
+  route-law {w′} (Refused n i j) k = record { does = λ S young e q. let z = k .does S young .same in record { same = rw (← z); later = tt }; done = tt }
+  route-law {w′} (Done t′ v p) k =
+      let d = k .done in
+      let y : t′ .charges ≡ t .charges + 1 = rw (d .counts) in
+      let u : t .charges + 1 - 1 ≡ t .charges = omega arith in
+      record {
+        does = λ S young e q.
+            let z = k .does S young .same in
+            record {
+              same = rw (← z, d .handle, u, stated-new w w′ t (routeRecord r from to h) refl (d .pushed), same-route e q S);
+              later = k .does S young .later;
+            };
+        done = rw (d .handle) (stated w w′ t (routeRecord r from to h) refl (d .pushed) x t′ y);
+      }
