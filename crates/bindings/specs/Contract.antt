@@ -3,7 +3,7 @@ use mathlib.Core.Path.{_≡_}
 use mathlib.Core.List.{List, [], _∷_, _++_}
 use mathlib.Core.Option.{Option, none, some}
 use Prim.Native.Nat.{ℕ, _*_, _≤_, _<_}
-use lib.ListN.{getD}
+use lib.Dec.{eqb}
 use Rattle.ast.specs.Ast.{FieldValue, FieldBinding, Field, InterfaceDecl, Association}
 use Rattle.ast.specs.Choice.{andThen}
 use Rattle.sheet.specs.declared.row.Row.{Row}
@@ -36,6 +36,11 @@ pub record Associated (L : Limits) (w : List ℕ) (t : Counts) (e : code.Env) (i
 pub record NotGiven (w : List ℕ) (e : code.Env) (target : ℕ) (x : Option (Option FieldValue)) (w′ : List ℕ) : Type 0 where
   pub words : w′ ≡ w
   pub value : isValue (envOf w e) target ≡ x
+
+-- r is x as a class that is not 0
+pub record Classed (x r : ℕ) : Type 0 where
+  pub same : eqb r 2 ≡ eqb x 2
+  pub some : r ≡ 0 → ⊥
 
 -- it is v, and v is cloned
 pub record Cloning (L : Limits) (w : List ℕ) (t : Counts) (e : code.Env) (target : ℕ) (v : FieldValue) (w′ : List ℕ) (a : Answer) : Type 0 where

@@ -14,7 +14,7 @@ ghost use Rattle.journal.specs.Records.{tagField, tagInterface, tagStored, Wide
 ghost use Rattle.reading.specs.Fair.{HandleAt, NodeAt};
 ghost use Rattle.refine.specs.Sound.{Standing, EnvAt};
 ghost use Rattle.refine.specs.Contract.{Keepable, Kept};
-ghost use Rattle.bindings.specs.Contract.{interfaceRecord, Associated, Giving, FieldDone, InterfaceDone, GivenDone, EndOf, Remappable, Remapped, Recordable, Recorded};
+ghost use Rattle.bindings.specs.Contract.{Classed, interfaceRecord, Associated, Giving, FieldDone, InterfaceDone, GivenDone, EndOf, Remappable, Remapped, Recordable, Recorded};
 
 const NONE: u32 = 4294967295;
 
@@ -25,7 +25,15 @@ fn wide(x: u32) -> usize
 }
 
 // An IS adds an association to its scope.
-pub fn associate(work: &mut [u32], lim: Limits, st: Counts, env: Env, interface: u32, node: u32, field: u32) -> Answer
+pub fn associate(
+    work: &mut [u32],
+    lim: Limits,
+    st: Counts,
+    env: Env,
+    interface: u32,
+    node: u32,
+    field: u32,
+) -> Answer
     requires { ⌜ Standing lim (now work) st ⌝ }
     requires { ⌜ EnvAt (now work) (st .charges) env ⌝ }
     ensures { λ a. ⌜ Associated lim (now (work .entry)) st env interface node field (now (work .exit)) a ⌝ }
@@ -53,8 +61,14 @@ pub fn associate(work: &mut [u32], lim: Limits, st: Counts, env: Env, interface:
     )
 }
 
-// What an IS target has in a scope: nothing outside a body; in a body no value, or one, cloned: its charges are made, its
-// class is 1 or 2.
+// The class of a value: 1 or 2.
+fn class_of(x: u32) -> u32
+    ensures { λ r. ⌜ Classed x r ⌝ }
+{
+    if x == 2 { 2 } else { 1 }
+}
+
+// What an IS target has in a scope: nothing outside a body; in a body no value, or one, cloned: its charges are made.
 pub enum Given {
     Outside,
     Without,
@@ -71,7 +85,7 @@ pub enum Given {
     },
 }
 
-pub fn given(work: &mut [u32], lim: Limits, st: Counts, env: Env, target: u32) -> Given
+fn target_value(work: &mut [u32], lim: Limits, st: Counts, env: Env, target: u32) -> Given
     requires { ⌜ Standing lim (now work) st ⌝ }
     requires { ⌜ EnvAt (now work) (st .charges) env ⌝ }
     ensures { λ g. ⌜ Giving lim (now (work .entry)) st env target (now (work .exit)) g ⌝ }
@@ -83,7 +97,7 @@ pub fn given(work: &mut [u32], lim: Limits, st: Counts, env: Env, target: u32) -
         return Given::Without;
     };
     let ty = journal::word(work, v, 5);
-    let class = if journal::word(work, v, 6) == 2 { 2 } else { 1 };
+    let class = class_of(journal::word(work, v, 6));
     let payload = journal::word(work, v, 7);
     match refine::clone(work, lim, st, class, payload) {
         Answer::Done {
@@ -109,7 +123,15 @@ pub fn given(work: &mut [u32], lim: Limits, st: Counts, env: Env, target: u32) -
 }
 
 // A field with an IS, behind the fields of h; the handle of the fields after it.
-pub fn is_field(work: &mut [u32], lim: Limits, st: Counts, env: Env, new: u32, r: Row, h: u32) -> Answer
+pub fn is_field(
+    work: &mut [u32],
+    lim: Limits,
+    st: Counts,
+    env: Env,
+    new: u32,
+    r: Row,
+    h: u32,
+) -> Answer
     requires { ⌜ Standing lim (now work) st ⌝ }
     requires { ⌜ EnvAt (now work) (st .charges) env ⌝ }
     requires { ⌜ HandleAt (now work) (st .charges) tagField h ⌝ }
@@ -120,10 +142,11 @@ pub fn is_field(work: &mut [u32], lim: Limits, st: Counts, env: Env, new: u32, r
         st: s,
         value: _,
         place: _,
-    } = a else {
+    } = a
+    else {
         return a;
     };
-    match given(work, lim, s, env, r.c) {
+    match target_value(work, lim, s, env, r.c) {
         Given::Outside => refine::keep(
             work,
             lim,
@@ -185,7 +208,17 @@ pub fn is_field(work: &mut [u32], lim: Limits, st: Counts, env: Env, new: u32, r
 }
 
 // An interface of a row with another target and value, behind the interfaces of h.
-fn interface(work: &mut [u32], lim: Limits, st: Counts, r: Row, target: u32, ty: u32, class: u32, payload: u32, h: u32) -> Answer
+fn interface(
+    work: &mut [u32],
+    lim: Limits,
+    st: Counts,
+    r: Row,
+    target: u32,
+    ty: u32,
+    class: u32,
+    payload: u32,
+    h: u32,
+) -> Answer
     requires { ⌜ Standing lim (now work) st ⌝ }
     requires { ⌜ Keepable (now work) (st .charges) (interfaceRecord r target ty class payload h) ⌝ }
     ensures { λ a. ⌜ Kept lim (now (work .entry)) st (interfaceRecord r target ty class payload h) (now (work .exit)) a ⌝ }
@@ -212,7 +245,15 @@ fn interface(work: &mut [u32], lim: Limits, st: Counts, r: Row, target: u32, ty:
 }
 
 // An interface with an IS, behind the interfaces of h.
-pub fn is_interface(work: &mut [u32], lim: Limits, st: Counts, env: Env, new: u32, r: Row, h: u32) -> Answer
+pub fn is_interface(
+    work: &mut [u32],
+    lim: Limits,
+    st: Counts,
+    env: Env,
+    new: u32,
+    r: Row,
+    h: u32,
+) -> Answer
     requires { ⌜ Standing lim (now work) st ⌝ }
     requires { ⌜ EnvAt (now work) (st .charges) env ⌝ }
     requires { ⌜ HandleAt (now work) (st .charges) tagInterface h ⌝ }
@@ -224,10 +265,11 @@ pub fn is_interface(work: &mut [u32], lim: Limits, st: Counts, env: Env, new: u3
         st: s,
         value: _,
         place: _,
-    } = a else {
+    } = a
+    else {
         return a;
     };
-    match given(work, lim, s, env, r.d) {
+    match target_value(work, lim, s, env, r.d) {
         Given::Outside => interface(work, lim, s, r, r.d, 0, 0, 0, h),
         Given::Without => interface(work, lim, s, r, NONE, 0, 0, 0, h),
         Given::With {
@@ -249,13 +291,21 @@ pub fn is_interface(work: &mut [u32], lim: Limits, st: Counts, env: Env, new: u3
 }
 
 // The value that an IS target has in the instance's scope, stored under an interface's name.
-pub fn is_given(work: &mut [u32], lim: Limits, st: Counts, env: Env, target: u32, name: u32, h: u32) -> Answer
+pub fn is_given(
+    work: &mut [u32],
+    lim: Limits,
+    st: Counts,
+    env: Env,
+    target: u32,
+    name: u32,
+    h: u32,
+) -> Answer
     requires { ⌜ Standing lim (now work) st ⌝ }
     requires { ⌜ EnvAt (now work) (st .charges) env ⌝ }
     requires { ⌜ HandleAt (now work) (st .charges) tagStored h ⌝ }
     ensures { λ a. ⌜ GivenDone lim (now (work .entry)) st env target name h (now (work .exit)) a ⌝ }
 {
-    match given(work, lim, st, env, target) {
+    match target_value(work, lim, st, env, target) {
         Given::Outside => Answer::Done {
             st,
             value: h,
@@ -336,7 +386,16 @@ fn remap_routes(work: &mut [u32], lim: Limits, st: Counts, env: Env)
 
 // The record of an instance on its root, whose record is before `place`: name and associations are its own, a nested
 // one's roots and routes follow.
-pub fn record_instance(work: &mut [u32], lim: Limits, st: Counts, inner: Env, name: u32, def: u32, out: u32, place: u32) -> Answer
+pub fn record_instance(
+    work: &mut [u32],
+    lim: Limits,
+    st: Counts,
+    inner: Env,
+    name: u32,
+    def: u32,
+    out: u32,
+    place: u32,
+) -> Answer
     requires { ⌜ Standing lim (now work) st ⌝ }
     requires { ⌜ Recordable (now work) (st .charges) inner out place ⌝ }
     ensures { λ a. ⌜ Recorded lim (now (work .entry)) st inner name def out place (now (work .exit)) a ⌝ }
