@@ -57,11 +57,14 @@ pub record GivenRefused (L : Limits) (w : List ℕ) (t : Counts) (e : code.Env) 
   pub found : FieldValue
   pub cloning : Cloning L w t e target found w′ (Answer.Refused n i j)
 
-abbrev pub Giving : Limits → List ℕ → Counts → code.Env → ℕ → List ℕ → Given → Type 0
-Giving L w t e target w′ Given.Outside = NotGiven w e target none w′
-Giving L w t e target w′ Given.Without = NotGiven w e target (some none) w′
-Giving L w t e target w′ (Given.With t′ ty class payload) = GivenValue L w t e target w′ t′ ty class payload
-Giving L w t e target w′ (Given.Refused n i j) = GivenRefused L w t e target w′ n i j
+abbrev pub GivenCase : Limits → List ℕ → Counts → code.Env → ℕ → List ℕ → Given → Type 0
+GivenCase L w t e target w′ Given.Outside = NotGiven w e target none w′
+GivenCase L w t e target w′ Given.Without = NotGiven w e target (some none) w′
+GivenCase L w t e target w′ (Given.With t′ ty class payload) = GivenValue L w t e target w′ t′ ty class payload
+GivenCase L w t e target w′ (Given.Refused n i j) = GivenRefused L w t e target w′ n i j
+
+pub record Giving (L : Limits) (w : List ℕ) (t : Counts) (e : code.Env) (target : ℕ) (w′ : List ℕ) (g : Given) : Type 0 where
+  pub case : GivenCase L w t e target w′ g
 
 -- ---- a field with an IS
 -- the field of a row that has one
