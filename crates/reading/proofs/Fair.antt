@@ -5,7 +5,7 @@ use mathlib.Core.List.{List}
 use Prim.Native.Nat.{ℕ, suc, _+_, _-_, _<_, _≤_}
 use native.Mathlib.Omega.{arith}
 use lib.Dec.{eqb, ltb}
-use borrow.Author.Tests.{eqb-true, eqb-false}
+use borrow.Author.Tests.{ne-eqb, eqb-true, lt-ltb, le-ltb}
 use Rattle.ast.specs.Choice.{choose}
 use Rattle.journal.specs.Records.{tagMap, tagNode, tagId, tagField, tagInterface, tagStored, tagScope, tagRoot, tagRoute, tagAssociation, tagInstance, cell, stays, Fixed}
 use Rattle.journal.specs.Owned.{ownedBy, lastOwned}
@@ -22,6 +22,9 @@ handle-none w c t = record { low = omega arith; tag = λ l. absurd (omega arith)
 -- the last record
 pub handle-new : (w : List ℕ) (c t : ℕ) → cell w c 0 ≡ t → HandleAt w (c + 1) t (c + 1)
 handle-new w c t e = record { low = omega arith; tag = λ l. let z : c + 1 - 1 ≡ c = omega arith in rw z e }
+
+pub node-at-more : {w : List ℕ} {c k o p : ℕ} → c ≤ k → NodeAt w c o p → NodeAt w k o p
+node-at-more le x = record { some = x .some; low = omega (arith, x .low); tag = x .tag; number = x .number }
 
 module _ {c : ℕ} {w w′ : List ℕ} (f : Fixed c w w′) where
   tag-kept : (r t : ℕ) → r < c → cell w r 0 ≡ t → cell w′ r 0 ≡ t
@@ -64,11 +67,11 @@ module _ {c : ℕ} {w w′ : List ℕ} (f : Fixed c w w′) where
   }
 
 -- ---- words that stay, of listed records and of those with a value
+never : false ≡ true → ⊥
+never z = let k : _≡_ {A = ℕ} 0 1 = cc in omega arith
+
 pub listed-stays : (t : ℕ) → listed t ≡ true → stays t ≡ 12
 listed-stays t e = stays-all t (λ q. never (rw q at e)) (λ q. never (rw q at e)) (λ q. never (rw q at e))
-  where
-    never : false ≡ true → ⊥
-    never z = let k : _≡_ {A = ℕ} 0 1 = cc in omega arith
 
 pub valued-listed : (t : ℕ) → valued t ≡ true → listed t ≡ true
 valued-listed t e = by (eqb t tagField) refl (eqb t tagInterface) refl e
@@ -77,6 +80,23 @@ valued-listed t e = by (eqb t tagField) refl (eqb t tagInterface) refl e
     by true p y q z = rw (eqb-true t tagField p)
     by false p true q z = rw (eqb-true t tagInterface q)
     by false p false q z = rw (eqb-true t tagStored z)
+
+-- the tags of other records
+pub unlisted-low : (t : ℕ) → t < tagId → listed t ≡ false
+unlisted-low t l = rw (lt-ltb t tagId l)
+
+pub unlisted-own : (t : ℕ) → tagScope ≤ t → t ≤ tagAssociation → listed t ≡ false
+unlisted-own t lo hi = rw (le-ltb t tagId (omega arith), lt-ltb tagStored t (omega arith), ne-eqb t tagInstance (λ e. omega arith))
+
+-- a record that is in no such list is fair
+pub fair-plain : (w : List ℕ) (c r : ℕ) → listed (cell w r 0) ≡ false → (cell w r 0 ≡ tagMap → NodeAt w r (cell w r 3) (cell w r 4)) → (cell w r 0 ≡ tagNode → NodeClosed w c r) → Fair w c r
+fair-plain w c r e m n = record {
+  mapped = m;
+  node = n;
+  instance = λ z. absurd (never (sym e ∙ rw z));
+  linked = λ z. absurd (never (sym e ∙ z));
+  value = λ z q. absurd (never (sym e ∙ valued-listed (cell w r 0) z));
+}
 
 -- a record below stays fair; what a node has is shown apart
 pub fair-fixed : {c : ℕ} {w w′ : List ℕ} → Fixed c w w′ → (k r : ℕ) → r < c → (cell w r 0 ≡ tagNode → NodeClosed w′ k r) → Fair w c r → Fair w′ k r

@@ -5,3 +5,4 @@ pub mod Fair
 pub mod Nodes
 pub mod States
 pub mod Lookups
+pub mod Walks

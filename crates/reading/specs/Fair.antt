@@ -2,7 +2,8 @@
 use mathlib.Core.Path.{_≡_}
 use mathlib.Core.Bool.{Bool, true, false}
 use mathlib.Core.List.{List}
-use Prim.Native.Nat.{ℕ, _-_, _≤_, _<_}
+use Prim.Native.Nat.{ℕ, _*_, _-_, _≤_, _<_}
+use lib.ListN.{length}
 use lib.Dec.{eqb, ltb}
 use Rattle.ast.specs.Choice.{choose}
 use Rattle.journal.specs.Records.{tagMap, tagNode, tagId, tagField, tagInterface, tagStatement, tagOrder, tagStored, tagScope, tagRoot, tagRoute, tagAssociation, tagInstance, cell}
@@ -54,3 +55,9 @@ pub record Fair (w : List ℕ) (c r : ℕ) : Type 0 where
 -- so it is for each record below c
 pub record AllFair (w : List ℕ) (c : ℕ) : Type 0 where
   pub each : (r : ℕ) → r < c → Fair w c r
+
+-- what a walk of a list of records of tag t asks, from its handle on
+pub record Walkable (w : List ℕ) (t h : ℕ) : Type 0 where
+  pub room : h * 12 ≤ length w
+  pub tag : 0 < h → cell w (h - 1) 0 ≡ t
+  pub linked : (r : ℕ) → r < h → cell w r 0 ≡ t → HandleAt w r t (cell w r 8)

@@ -135,6 +135,9 @@ bodyRouteRec w r = routeBy w r (kept w r 6) (kept w r 7)
 abbrev pub routeRec : List ℕ → ℕ → Route
 routeRec w r = routeBy w r (cell w r 10) (cell w r 11)
 
+abbrev pub routeNew : Record → Route
+routeNew r = record { fromNode = r .b; fromField = r .c; toNode = r .d; toField = r .e; fromId = optional (r .f); toId = optional (r .g) }
+
 abbrev pub associationRec : List ℕ → ℕ → Association
 associationRec w r = record { interface = kept w r 2; node = kept w r 3; field = kept w r 4 }
 

@@ -8,7 +8,7 @@ use native.Mathlib.Omega.{arith}
 use lib.ListN.{length, getD}
 use Rattle.expansion.specs.Charges.{oneMore}
 use Rattle.journal.specs.declared.Record.{Record}
-use Rattle.journal.specs.Records.{tagMap, tagExtern, tagNode, tagId, tagField, tagInterface, tagStatement, tagOrder, tagStored, tagScope, tagAssociation, cell, stays, Pushed}
+use Rattle.journal.specs.Records.{tagMap, tagExtern, tagNode, tagId, tagField, tagInterface, tagStatement, tagOrder, tagStored, tagScope, tagAssociation, cell, stays, Fixed, Pushed}
 use Rattle.journal.proofs.Frame.{same-fixed, stays-all}
 use Rattle.journal.proofs.Keys.{unkeyed}
 use Rattle.journal.proofs.Index.{index-push}
@@ -21,6 +21,7 @@ use Rattle.reading.proofs.Nodes.{Calm, calm-same}
 use Rattle.reading.proofs.States.{Silent, state-one}
 use Rattle.refine.specs.declared.Limits.{Limits}
 use Rattle.refine.specs.declared.Counts.{Counts}
+use Rattle.refine.specs.declared.Answer.{Answer}
 use Rattle.refine.specs.declared.Answer.the-variants.{Done, Refused}
 use Rattle.refine.specs.Sound.{Source, headsAt, Sound, Ready, Standing, OfBody, Later}
 use Rattle.refine.specs.Does.{at}
@@ -32,8 +33,8 @@ use Rattle.refine.proofs.Charges.{charge-refused, charge-done}
 pub not-of-body : (t : ℕ) → t ≤ tagScope → OfBody t → ⊥
 not-of-body t l o = ⊎-elim (λ e. omega arith) (λ x. ⊎-elim (λ e. omega arith) (λ e. omega arith) x) o
 
-pub keep-full : (L : Limits) (w : List ℕ) (t : Counts) (r : Record) → L .rows ≤ t .charges → Kept L w t r w (Refused 10 0 0)
-keep-full L w t r h = record { does = λ S young. charge-refused S young h; done = tt }
+pub keep-full : (L : Limits) (w : List ℕ) (t : Counts) (r : Record) → L .rows ≤ t .charges → (a : Answer) → a ≡ Refused 10 0 0 → Kept L w t r w a
+keep-full L w t r h a e = rw e (record { does = λ S young. charge-refused S young h; done = tt })
 
 module _ (L : Limits) (w : List ℕ) (t : Counts) (r : Record) (st : Standing L w t) (k : Keepable w (t .charges) r) (room : t .charges < L .rows) (w′ : List ℕ) (long : length w′ ≡ length w) (p : Pushed w w′ (t .charges) r) where
   abbrev c : ℕ
@@ -79,8 +80,42 @@ module _ (L : Limits) (w : List ℕ) (t : Counts) (r : Record) (st : Standing L 
       (alone c (λ n. OfBody (cell w′ n 0) → young ≤ cell w′ n 1) (λ o. absurd (not-of-body (cell w′ c 0) (omega (arith, p .holds .at0, k .most)) o)))
       sound
 
-  pub keep-done : Kept L w t r w′ (Done (charged t 1) (t .charges + 1) 0)
-  keep-done = record {
+  pub keep-done : (t′ : Counts) → t′ ≡ charged t 1 → Kept L w t r w′ (Done t′ (t .charges + 1) 0)
+  keep-done t′ e = rw e (record {
     does = λ S young. charge-done S young room (state-one (S .root) (S .library) calm (so .fair) r (p .holds) silent) (later young) (t .charges + 1) 0;
     done = record { counts = refl; handle = refl; pushed = p };
-  }
+  })
+
+-- ---- the list whose handle it is
+module _ {w : List ℕ} {t : Counts} {r : Record} {w′ : List ℕ} {t′ : Counts} {v : ℕ} (x : KeptAt w t r w′ t′ v) (k : Keepable w (t .charges) r) where
+  pub kept-handle : HandleAt w′ (t′ .charges) (r .tag) v
+  kept-handle = rw (x .counts, x .handle) (handle-new w′ (t .charges) (r .tag) (x .pushed .holds .at0))
+
+  whole : stays (r .tag) ≡ 12
+  whole = stays-all (r .tag) (λ e. omega (arith, k .least)) (λ e. omega (arith, k .most)) (λ e. omega (arith, k .most))
+
+  fx : Fixed (t .charges) w w′
+  fx = same-fixed (x .pushed .same)
+
+  payload : valued (r .tag) ≡ true → r .f ≡ 2 → r .g ≤ t .charges
+  payload e q = k .value e q .low
+
+  pub kept-ids : idsAt w′ v ≡ idsAt w (r .h) ++ (r .a ∷ [])
+  kept-ids = rw (x .handle) (ids-new fx r (x .pushed .holds) whole (k .before .low))
+
+  pub kept-statements : statementsAt w′ v ≡ statementsAt w (r .h) ++ (statementNew r ∷ [])
+  kept-statements = rw (x .handle) (statements-new fx r (x .pushed .holds) whole (k .before .low))
+
+  pub kept-order : orderAt w′ v ≡ orderAt w (r .h) ++ (orderNew r ∷ [])
+  kept-order = rw (x .handle) (order-new fx r (x .pushed .holds) whole (k .before .low))
+
+  -- a record with a value
+  module _ (e : valued (r .tag) ≡ true) where
+    pub kept-fields : fieldsAt w′ v ≡ fieldsAt w (r .h) ++ (fieldNew w r ∷ [])
+    kept-fields = rw (x .handle) (fields-new fx r (x .pushed .holds) whole (k .before .low) (payload e))
+
+    pub kept-interfaces : interfacesAt w′ v ≡ interfacesAt w (r .h) ++ (interfaceNew w r ∷ [])
+    kept-interfaces = rw (x .handle) (interfaces-new fx r (x .pushed .holds) whole (k .before .low) (payload e))
+
+    pub kept-values : valuesAt w′ v ≡ storedNew w r ∷ valuesAt w (r .h)
+    kept-values = rw (x .handle) (values-new fx r (x .pushed .holds) whole (k .before .low) (payload e))

@@ -3,3 +3,11 @@ pub mod Calculus
 pub mod Grow
 pub mod Charges
 pub mod Keeping
+pub mod Owning
+pub mod Mapping
+pub mod Opening
+pub mod Reserving
+pub mod Looking
+pub mod Filling
+pub mod Walking
+pub mod Cloning

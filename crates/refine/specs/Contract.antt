@@ -18,7 +18,7 @@ use Rattle.journal.specs.declared.Found.the-variants.{At, Nothing}
 use Rattle.journal.specs.Records.{tagMap, tagNode, tagId, tagStored, tagScope, tagAssociation, cell, Pushed}
 use Rattle.journal.specs.Index.{foundOf}
 use Rattle.journal.specs.Owned.{OwnedTag, Appended}
-use Rattle.reading.specs.Reading.{valueAt, valueRec, valuesAt, scopeBy, scopeRec, idsAt, mapOf}
+use Rattle.reading.specs.Reading.{valueAt, valueRec, valuesAt, scopeBy, scopeRec, mapOf}
 use Rattle.reading.specs.Fair.{HandleAt, NodeAt, valued}
 use Rattle.refine.specs.declared.Limits.{Limits}
 use Rattle.refine.specs.declared.Counts.{Counts}
@@ -48,3 +48,90 @@ pub record KeptAt (w : List ℕ) (t : Counts) (r : Record) (w′ : List ℕ) (t�
 pub record Kept (L : Limits) (w : List ℕ) (t : Counts) (r : Record) (w′ : List ℕ) (a : Answer) : Type 0 where
   pub does : (S : Source) (young : ℕ) → Does S L young nothing (charge (inputOf S L)) w t w′ a
   pub done : IfDone (λ t′ v p. KeptAt w t r w′ t′ v) a
+
+-- ---- a record of a scope's own lists
+pub record Ownership (w : List ℕ) (c : ℕ) (e : code.Env) (r : Record) : Type 0 where
+  pub env : EnvAt w c e
+  pub tag : OwnedTag (r .tag)
+  pub scope : r .a ≡ e .scope
+
+pub record OwnedAt (w : List ℕ) (t : Counts) (e : code.Env) (r : Record) (w′ : List ℕ) (t′ : Counts) : Type 0 where
+  pub counts : t′ ≡ charged t 1
+  pub appended : Appended w w′ (e .place) (t .charges) r
+
+-- a charge, and its record: an extra root, a route; an association
+pub record Owning (L : Limits) (w : List ℕ) (t : Counts) (e : code.Env) (r : Record) (w′ : List ℕ) (a : Answer) : Type 0 where
+  pub body : (r .tag ≡ tagAssociation → ⊥) → (S : Source) (young : ℕ) → young ≤ e .scope → Does S L young nothing (charge (inputOf S L)) w t w′ a
+  pub association : r .tag ≡ tagAssociation → (S : Source) (young : ℕ) → Does S L young nothing (associate (inputOf S L) (envOf w e) (record { interface = r .b; node = r .c; field = r .d })) w t w′ a
+  pub done : IfDone (λ t′ v p. OwnedAt w t e r w′ t′) a
+
+-- ---- a map entry: the copy of a source id, a node
+abbrev pub entryOf : ℕ → ℕ → ℕ → ℕ → Record
+entryOf scope id out place = record { tag = tagMap; a = scope; b = id; c = out; d = place; e = 0; f = 0; g = 0; h = 0; i = 0; j = 0; k = 0 }
+
+pub record MappedAt (t : Counts) (out place : ℕ) (t′ : Counts) (v p : ℕ) : Type 0 where
+  pub counts : t′ ≡ charged t 1
+  pub value : v ≡ out
+  pub node : p ≡ place
+
+pub record Mapped (L : Limits) (w : List ℕ) (t : Counts) (scope id out place : ℕ) (w′ : List ℕ) (a : Answer) : Type 0 where
+  pub does : (S : Source) (young : ℕ) → Does S L young nothing (charge (inputOf S L) >> (λ st. ok tt (addEntry scope id out st))) w t w′ a
+  pub done : IfDone (λ t′ v p. MappedAt t out place t′ v p) a
+
+-- ---- a new node and its map entry
+abbrev pub blankOf : ℕ → ℕ → Record
+blankOf scope id = record { tag = tagNode; a = scope; b = id; c = 0; d = 4294967295; e = 0; f = 0; g = 0; h = 0; i = 0; j = 0; k = 0 }
+
+pub record ReservedAt (w : List ℕ) (t : Counts) (w′ : List ℕ) (t′ : Counts) (v p : ℕ) : Type 0 where
+  pub counts : t′ ≡ record { nodes = t .nodes + 1; scopes = t .scopes; externs = t .externs; charges = t .charges + 2 }
+  pub value : v ≡ t .nodes
+  pub place : p ≡ t .charges + 1
+  pub node : NodeAt w′ (t′ .charges) v p
+
+pub record Reserved (L : Limits) (w : List ℕ) (t : Counts) (e : code.Env) (id : ℕ) (w′ : List ℕ) (a : Answer) : Type 0 where
+  pub does : (S : Source) (young : ℕ) → Does S L young number (reserve (inputOf S L) (envOf w e) id) w t w′ a
+  pub done : IfDone (λ t′ v p. ReservedAt w t w′ t′ v p) a
+
+-- ---- a new scope: its number, and the place of its record
+abbrev pub scopeOf : ℕ → ℕ → ℕ → ℕ → ℕ → ℕ → Record
+scopeOf kind document proto index opener n = record { tag = tagScope; a = kind; b = document; c = proto; d = index; e = opener; f = n; g = 0; h = 0; i = 0; j = 0; k = 0 }
+
+pub record OpenedAt (w : List ℕ) (t : Counts) (kind document proto index opener : ℕ) (w′ : List ℕ) (t′ : Counts) (v p : ℕ) : Type 0 where
+  pub counts : t′ ≡ record { nodes = t .nodes; scopes = t .scopes + 1; externs = t .externs; charges = t .charges + 1 }
+  pub value : v ≡ t .scopes
+  pub place : p ≡ t .charges
+  pub tag : cell w′ p 0 ≡ tagScope
+  pub number : cell w′ p 6 ≡ v
+  pub entry : scopeRec w′ p ≡ scopeBy kind document proto index opener
+
+pub record Opened (L : Limits) (w : List ℕ) (t : Counts) (kind document proto index opener : ℕ) (w′ : List ℕ) (a : Answer) : Type 0 where
+  pub does : (S : Source) (young : ℕ) → Does S L young number (openScope (inputOf S L) (scopeBy kind document proto index opener)) w t w′ a
+  pub done : IfDone (λ t′ v p. OpenedAt w t kind document proto index opener w′ t′ v p) a
+
+-- ---- the copy of a source id
+pub record Looked (w : List ℕ) (c scope id : ℕ) (f : Found) : Type 0 where
+  pub same : lookup (mapOf w c) scope id ≡ mapO (λ r. cell w r 3) (foundOf f)
+  pub node : (r : ℕ) → f ≡ At r → NodeAt w c (cell w r 3) (cell w r 4)
+  pub low : (r : ℕ) → f ≡ At r → r < c
+
+-- ---- a node gets its contents: its record is written again
+abbrev pub contentsOf : List ℕ → ℕ → ℕ → ℕ → ℕ → ℕ → ℕ → ℕ → ℕ → ℕ → Record
+contentsOf w n ty def kind id fields interface statements order =
+    record { tag = tagNode; a = cell w n 1; b = cell w n 2; c = ty; d = def; e = kind; f = id; g = fields; h = interface; i = statements; j = order; k = 0 }
+
+pub record Fillable (w : List ℕ) (place : ℕ) : Type 0 where
+  pub some : 0 < place
+  pub room : place * 12 ≤ length w
+
+-- ---- values
+
+-- the stored value of a name
+pub record Valued (w : List ℕ) (h name : ℕ) (f : Found) : Type 0 where
+  pub same : valueOf name (valuesAt w h) ≡ mapO (valueRec w) (foundOf f)
+  pub stored : (r : ℕ) → f ≡ At r → cell w r 0 ≡ tagStored
+  pub low : (r : ℕ) → f ≡ At r → r < h
+
+-- ---- the charges of a value that is cloned
+pub record Cloned (L : Limits) (w : List ℕ) (t : Counts) (class payload : ℕ) (w′ : List ℕ) (a : Answer) : Type 0 where
+  pub does : (S : Source) (young ty : ℕ) → Does S L young (λ u v p. valueAt u ty class v) (clone (inputOf S L) (valueAt w ty class payload)) w t w′ a
+  pub done : IfDone (λ t′ v p. v ≡ payload) a

@@ -1,9 +1,17 @@
 // What an expansion keeps by value, and the steps that write one record of the journal.
 use journal;
+use journal::Found;
 use journal::Record;
-ghost use Prim.Native.Nat.{_+_};
+ghost use mathlib.Core.Path.{_≡_};
+ghost use Prim.Native.Nat.{_+_, _-_, _≤_};
+ghost use lib.ListN.{length};
+ghost use Rattle.journal.specs.Records.{tagId, tagStored, Wide, Pushed};
+ghost use Rattle.reading.specs.Reading.{idsAt};
+ghost use Rattle.reading.specs.Fair.{HandleAt, NodeAt, Walkable};
 ghost use Rattle.refine.specs.Sound.{Standing};
-ghost use Rattle.refine.specs.Contract.{charged, Keepable, Kept};
+ghost use Rattle.refine.specs.Contract.{charged as counted, Keepable, Kept, Ownership, Owning, Mapped, Reserved, Opened, Looked, contentsOf, Fillable, Valued, Cloned};
+
+const NONE: u32 = 4294967295;
 
 // N, K, the heads of the journal's index; the index starts behind K records.
 pub struct Limits {
@@ -45,6 +53,36 @@ pub enum Answer {
     },
 }
 
+fn wide(x: u32) -> usize
+    ensures { λ r. ⌜ Wide x r ⌝ }
+{
+    x as usize
+}
+
+// The charge that would make more than K.
+pub fn too_many() -> Answer
+    ensures { λ a. ⌜ a ≡ Answer.Refused 10 0 0 ⌝ }
+{
+    Answer::Refused {
+        number: 10,
+        first: 0,
+        second: 0,
+    }
+}
+
+// n charges more.
+pub fn charged(st: Counts, n: usize) -> Counts
+    requires { ⌜ st .charges + n ≤ 16777216 ⌝ }
+    ensures { λ t. ⌜ t ≡ counted st n ⌝ }
+{
+    Counts {
+        nodes: st.nodes,
+        scopes: st.scopes,
+        externs: st.externs,
+        charges: st.charges + n,
+    }
+}
+
 // A charge and its record; the value is the record's handle.
 pub fn keep(work: &mut [u32], lim: Limits, st: Counts, r: Record) -> Answer
     requires { ⌜ Standing lim (now work) st ⌝ }
@@ -53,22 +91,301 @@ pub fn keep(work: &mut [u32], lim: Limits, st: Counts, r: Record) -> Answer
 {
     let c = st.charges;
     if lim.rows <= c {
+        return too_many();
+    }
+    journal::push(work, c, r);
+    Answer::Done {
+        st: charged(st, 1),
+        value: (c + 1) as u32,
+        place: 0,
+    }
+}
+
+// A charge and a record of a scope's own lists: an extra root, a route, an association.
+pub fn own(work: &mut [u32], lim: Limits, st: Counts, env: Env, r: Record) -> Answer
+    requires { ⌜ Standing lim (now work) st ⌝ }
+    requires { ⌜ Ownership (now work) (st .charges) env r ⌝ }
+    ensures { λ a. ⌜ Owning lim (now (work .entry)) st env r (now (work .exit)) a ⌝ }
+{
+    let c = st.charges;
+    if lim.rows <= c {
+        return too_many();
+    }
+    let s = env.place;
+    journal::append(work, s, c, r);
+    Answer::Done {
+        st: charged(st, 1),
+        value: 0,
+        place: 0,
+    }
+}
+
+// A charge and a map entry: the node whose record is before `place`.
+pub fn map(
+    work: &mut [u32],
+    lim: Limits,
+    st: Counts,
+    scope: u32,
+    id: u32,
+    out: u32,
+    place: u32,
+) -> Answer
+    requires { ⌜ Standing lim (now work) st ⌝ }
+    requires { ⌜ NodeAt (now work) (st .charges) out place ⌝ }
+    ensures { λ a. ⌜ Mapped lim (now (work .entry)) st scope id out place (now (work .exit)) a ⌝ }
+{
+    let c = st.charges;
+    if lim.rows <= c {
+        return too_many();
+    }
+    journal::enter(
+        work,
+        lim.rows * 12,
+        lim.slots,
+        c,
+        Record {
+            tag: 1,
+            a: scope,
+            b: id,
+            c: out,
+            d: place,
+            e: 0,
+            f: 0,
+            g: 0,
+            h: 0,
+            i: 0,
+            j: 0,
+            k: 0,
+        },
+    );
+    Answer::Done {
+        st: charged(st, 1),
+        value: out,
+        place,
+    }
+}
+
+// A new node, blank, and its map entry: its id, and its record's place with one added.
+pub fn reserve(work: &mut [u32], lim: Limits, st: Counts, env: Env, id: u32) -> Answer
+    requires { ⌜ Standing lim (now work) st ⌝ }
+    ensures { λ a. ⌜ Reserved lim (now (work .entry)) st env id (now (work .exit)) a ⌝ }
+{
+    let c = st.charges;
+    let new = st.nodes;
+    if lim.nodes <= wide(new) {
         return Answer::Refused {
-            number: 10,
+            number: 8,
             first: 0,
             second: 0,
         };
     }
-    journal::push(work, c, r);
+    if lim.rows - c < 2 {
+        return too_many();
+    }
+    let scope = env.scope;
+    journal::push(
+        work,
+        c,
+        Record {
+            tag: 3,
+            a: scope,
+            b: id,
+            c: 0,
+            d: NONE,
+            e: 0,
+            f: 0,
+            g: 0,
+            h: 0,
+            i: 0,
+            j: 0,
+            k: 0,
+        },
+    );
+    let place = (c + 1) as u32;
+    journal::enter(
+        work,
+        lim.rows * 12,
+        lim.slots,
+        c + 1,
+        Record {
+            tag: 1,
+            a: scope,
+            b: id,
+            c: new,
+            d: place,
+            e: 0,
+            f: 0,
+            g: 0,
+            h: 0,
+            i: 0,
+            j: 0,
+            k: 0,
+        },
+    );
+    let t = Counts {
+        nodes: new + 1,
+        scopes: st.scopes,
+        externs: st.externs,
+        charges: c + 2,
+    };
+    Answer::Done {
+        st: t,
+        value: new,
+        place,
+    }
+}
+
+// A charge and a scope: its number, and the place of its record.
+pub fn open(
+    work: &mut [u32],
+    lim: Limits,
+    st: Counts,
+    kind: u32,
+    document: u32,
+    proto: u32,
+    index: u32,
+    opener: u32,
+) -> Answer
+    requires { ⌜ Standing lim (now work) st ⌝ }
+    ensures { λ a. ⌜ Opened lim (now (work .entry)) st kind document proto index opener (now (work .exit)) a ⌝ }
+{
+    let c = st.charges;
+    if lim.rows <= c {
+        return too_many();
+    }
+    let n = st.scopes;
+    journal::push(
+        work,
+        c,
+        Record {
+            tag: 10,
+            a: kind,
+            b: document,
+            c: proto,
+            d: index,
+            e: opener,
+            f: n,
+            g: 0,
+            h: 0,
+            i: 0,
+            j: 0,
+            k: 0,
+        },
+    );
     let t = Counts {
         nodes: st.nodes,
-        scopes: st.scopes,
+        scopes: n + 1,
         externs: st.externs,
         charges: c + 1,
     };
     Answer::Done {
         st: t,
-        value: (c + 1) as u32,
+        value: n,
+        place: c as u32,
+    }
+}
+
+// The map entry of a source id in a scope: word 3 is its copy, word 4 the copy's place.
+pub fn look(work: &[u32], lim: Limits, st: Counts, scope: u32, id: u32) -> Found
+    requires { ⌜ Standing lim (now work) st ⌝ }
+    ensures { λ f. ⌜ Looked (now (work .entry)) (st .charges) scope id f ⌝ }
+{
+    journal::find(work, lim.rows * 12, lim.slots, st.charges, 1, scope, id)
+}
+
+// The contents of the node whose record is before `place`.
+pub fn fill(
+    work: &mut [u32],
+    place: u32,
+    ty: u32,
+    def: u32,
+    kind: u32,
+    id: u32,
+    fields: u32,
+    interface: u32,
+    statements: u32,
+    order: u32,
+)
+    requires { ⌜ Fillable (now work) place ⌝ }
+    ensures { λ _.
+        ⌜ Pushed (now (work .entry)) (now (work .exit)) (place - 1)
+        (contentsOf (now (work .entry)) (place - 1) ty def kind id fields interface statements order) ⌝ }
+{
+    let n = wide(place) - 1;
+    let scope = journal::word(work, n, 1);
+    let source = journal::word(work, n, 2);
+    journal::push(
+        work,
+        n,
+        Record {
+            tag: 3,
+            a: scope,
+            b: source,
+            c: ty,
+            d: def,
+            e: kind,
+            f: id,
+            g: fields,
+            h: interface,
+            i: statements,
+            j: order,
+            k: 0,
+        },
+    );
+}
+
+// The stored value of a name, newest first.
+pub fn value_of(work: &[u32], values: u32, name: u32) -> Found
+    requires { ⌜ Walkable (now work) tagStored values ⌝ }
+    ensures { λ f. ⌜ Valued (now (work .entry)) values name f ⌝ }
+{
+    let mut cur = wide(values);
+    while 0 < cur {
+        let r = cur - 1;
+        if journal::word(work, r, 1) == name {
+            return Found::At(r);
+        }
+        cur = wide(journal::word(work, r, 8));
+    }
+    Found::Nothing
+}
+
+// How many ids a list has.
+fn count(work: &[u32], ids: u32) -> usize
+    requires { ⌜ Walkable (now work) tagId ids ⌝ }
+    ensures { λ n. ⌜ n ≡ length (idsAt (now (work .entry)) ids) ⌝ }
+{
+    let mut n = 0;
+    let mut cur = wide(ids);
+    while 0 < cur {
+        n += 1;
+        cur = wide(journal::word(work, cur - 1, 8));
+    }
+    n
+}
+
+// The charges of a value that is cloned: one for each id.
+pub fn clone(work: &mut [u32], lim: Limits, st: Counts, class: u32, payload: u32) -> Answer
+    requires { ⌜ Standing lim (now work) st ⌝ }
+    requires { ⌜ (class ≡ 2 → HandleAt (now work) (st .charges) tagId payload) ⌝ }
+    ensures { λ a. ⌜ Cloned lim (now (work .entry)) st class payload (now (work .exit)) a ⌝ }
+{
+    if class != 2 {
+        return Answer::Done {
+            st,
+            value: payload,
+            place: 0,
+        };
+    }
+    let n = count(work, payload);
+    let c = st.charges;
+    if lim.rows - c < n {
+        return too_many();
+    }
+    journal::paid(work, c, n);
+    Answer::Done {
+        st: charged(st, n),
+        value: payload,
         place: 0,
     }
 }

@@ -1,0 +1,151 @@
+-- `open`: a charge and a scope; what its Env is, and that its lists are empty.
+use mathlib.Core.Path.{_≡_, refl, sym, ap, _∙_}
+use mathlib.Core.Bool.{Bool, true, false}
+use mathlib.Core.List.{List, [], _∷_, _++_}
+use mathlib.Core.Option.{none, some}
+use Prim.Native.Nat.{ℕ, zero, suc, _+_, _*_, _-_, _≤_, _<_}
+use native.Mathlib.Omega.{arith}
+use lib.ListN.{length, getD}
+use lib.Dec.{ltb}
+use borrow.Author.Tests.{lt-ltb}
+use Rattle.ast.specs.Choice.{choose}
+use Rattle.expansion.specs.Input.{Input}
+use Rattle.expansion.specs.State.{State, ok, Comp, bindR, _>>=_, _>>_, withWorld}
+use Rattle.expansion.specs.Scopes.{Scope}
+use Rattle.expansion.specs.Values.{Env}
+use Rattle.expansion.specs.Charges.{oneMore, charge}
+use Rattle.expansion.specs.Instances.{pushScope, openScope}
+use Rattle.journal.specs.declared.Record.{Record}
+use Rattle.journal.specs.Records.{tagMap, tagExtern, tagNode, tagStored, tagScope, tagRoot, tagRoute, tagInstance, cell, stays, Pushed}
+use Rattle.journal.specs.Logs.{logUp, only}
+use Rattle.journal.specs.Owned.{tagged, OwnedTag, ownedBy, ownedLog, Owned}
+use Rattle.journal.proofs.Frame.{steady-tag, steady-first, steady-is}
+use Rattle.journal.proofs.Lists.{count-low, count-more, up-span, up-zero, only-other}
+use Rattle.journal.proofs.Index.{index-push}
+use Rattle.journal.proofs.Owned.{owned-scope, owned-is}
+use Rattle.reading.specs.Reading.{kept, scopeBy, scopeRec, scopesOf, valuesAt, rootRec, bodyRouteRec, bodyOf, below}
+use Rattle.reading.specs.Fair.{HandleAt, Fair}
+use Rattle.reading.proofs.Words.{kept-is}
+use Rattle.reading.proofs.Chains.{values-fixed}
+use Rattle.reading.proofs.Fair.{fair-plain, handle-fixed}
+use Rattle.reading.proofs.Logs.{below-fixed}
+use Rattle.reading.proofs.Nodes.{Calm, calm-same, Unrecorded}
+use Rattle.reading.proofs.States.{withScopes, scopes-length, state-scope}
+use Rattle.refine.specs.declared.Limits.{Limits}
+use Rattle.refine.specs.declared.Counts.{Counts}
+use Rattle.refine.specs.declared.Env as code
+use Rattle.refine.specs.declared.Answer.{Answer}
+use Rattle.refine.specs.declared.Answer.the-variants.{Done, Refused}
+use Rattle.refine.specs.Sound.{Source, inputOf, headsAt, Sound, OfBody, Later, EnvAt, envOf}
+use Rattle.refine.specs.Does.{number, at}
+use Rattle.refine.specs.Contract.{scopeOf, OpenedAt, Opened}
+use Rattle.refine.proofs.Grow.{grown, sound-more, later-more, alone, count-other, count-new}
+use Rattle.refine.proofs.Charges.{change-refused, change-done}
+use Rattle.refine.proofs.Keeping.{not-of-body}
+
+-- what `openScope` does after its charge
+abbrev opening : Input → Scope → Comp ℕ
+opening I e st = pushScope (ltb (length (st .world .scopes)) (I .limits .maxRows)) e st
+
+-- there are no more scopes than charges
+pub few-scopes : {L : Limits} {w : List ℕ} {t : Counts} → Sound L w t → t .scopes ≤ t .charges
+few-scopes {L} {w} {t} so = omega (arith, so .scopes, count-low (tagged w tagScope) (t .charges))
+
+pub open-full : (L : Limits) (w : List ℕ) (t : Counts) (kind document proto index opener : ℕ) → L .rows ≤ t .charges → (a : Answer) → a ≡ Refused 10 0 0 → Opened L w t kind document proto index opener w a
+unfolding openScope
+open-full L w t kind document proto index opener h a e = rw e (record { does = λ S young. change-refused S young number (opening (inputOf S L) (scopeBy kind document proto index opener)) h; done = tt })
+
+module _ {L : Limits} {w : List ℕ} {t : Counts} (so : Sound L w t) (kind document proto index opener : ℕ) (room : t .charges < L .rows) {w′ : List ℕ} (long : length w′ ≡ length w)
+    (p : Pushed w w′ (t .charges) (scopeOf kind document proto index opener (t .scopes))) where
+  abbrev c : ℕ
+  c = t .charges
+
+  abbrev put : Record
+  put = scopeOf kind document proto index opener (t .scopes)
+
+  abbrev t1 : Counts
+  t1 = grown t 1 (t .nodes) (t .scopes + 1) (t .externs)
+
+  calm : Calm c w w′
+  calm = calm-same (p .same)
+
+  fair : Fair w′ (c + 1) c
+  fair = fair-plain w′ (c + 1) c (rw (p .holds .at0)) (λ z. absurd (omega (arith, p .holds .at0))) (λ z. absurd (omega (arith, p .holds .at0)))
+
+  sound : Sound L w′ t1
+  sound =
+      sound-more so calm 1 (t .nodes) (t .scopes + 1) (t .externs) (omega arith)
+      (count-other (calm .fixed) put (p .holds) tagNode (so .nodes) (λ z. omega arith))
+      (count-new (calm .fixed) put (p .holds) tagScope (so .scopes) refl)
+      (count-other (calm .fixed) put (p .holds) tagExtern (so .externs) (λ z. omega arith))
+      (alone c (Fair w′ (c + 1)) fair) (index-push p (omega arith) refl (so .index)) (owned-scope p refl (so .scopes) refl refl refl (so .owned))
+
+  later : (young : ℕ) → Later L young w t w′ t1
+  later young =
+      later-more so calm 1 (t .nodes) (t .scopes + 1) (t .externs) young (omega arith) (λ m l. p .above m (omega arith)) long
+      (alone c (λ n. OfBody (cell w′ n 0) → young ≤ cell w′ n 1) (λ o. absurd (not-of-body (cell w′ c 0) (omega (arith, p .holds .at0)) o)))
+      sound
+
+  entry : scopeRec w′ c ≡ scopeBy kind document proto index opener
+  entry =
+      rw (
+        kept-is w′ c tagScope 1 kind (p .holds .at0) (omega arith) (p .holds .at1),
+        kept-is w′ c tagScope 2 document (p .holds .at0) (omega arith) (p .holds .at2),
+        kept-is w′ c tagScope 3 proto (p .holds .at0) (omega arith) (p .holds .at3),
+        kept-is w′ c tagScope 4 index (p .holds .at0) (omega arith) (p .holds .at4),
+        kept-is w′ c tagScope 5 opener (p .holds .at0) (omega arith) (p .holds .at5),
+      )
+
+  pushed : (S : Source) → ok (t .scopes) (at S w′ t1) ≡ opening (inputOf S L) (scopeBy kind document proto index opener) (oneMore (at S w t))
+  unfolding pushScope
+  pushed S =
+      let n : length (scopesOf w c) ≡ t .scopes = scopes-length w c ∙ sym (so .scopes) in
+      rw (lt-ltb (length (scopesOf w c)) (L .rows) (omega (arith, few-scopes so)), n)
+      (ap (ok (t .scopes)) (state-scope (S .root) (S .library) calm (so .fair) put (p .holds) refl))
+
+  pub open-done : Opened L w t kind document proto index opener w′ (Done t1 (t .scopes) (t .charges))
+  unfolding openScope
+  open-done = record {
+    does = λ S young. change-done S young number (opening (inputOf S L) (scopeBy kind document proto index opener)) room (later young) (t .scopes) c (pushed S);
+    done = record { counts = refl; value = refl; place = refl; tag = p .holds .at0; number = p .holds .at6; entry = entry };
+  }
+
+-- ---- the Env of the scope
+module _ {L : Limits} {young : ℕ} {w : List ℕ} {t : Counts} {kind document proto index opener : ℕ} {w′ : List ℕ} {t′ : Counts} {v p : ℕ} (x : OpenedAt w t kind document proto index opener w′ t′ v p) (so : Sound L w t) (y : Later L young w t w′ t′) (e : code.Env) (scope : e .scope ≡ v) (place : e .place ≡ p) (values : HandleAt w (t .charges) tagStored (e .values)) where
+  pub open-env : EnvAt w′ (t′ .charges) e
+  open-env = record {
+    place = rw (x .counts) (omega (arith, x .place));
+    tag = rw place (x .tag);
+    number = rw (place, scope) (x .number);
+    values = rw (place, x .place) (handle-fixed (y .kept) (omega arith) (omega arith) values);
+  }
+
+  pub env-open : envOf w′ e ≡ record { scope = v; entry = scopeBy kind document proto index opener; isValues = choose (e .body) (some (valuesAt w (e .values))) none }
+  env-open = rw (scope, place, x .entry, values-fixed (y .kept) (e .values) (values .low))
+
+  -- the scopes before it are those before the step
+  older : (r : ℕ) → r < t′ .charges → below w′ tagScope r ≤ v
+  older r l =
+      let u : t′ .charges ≡ t .charges + 1 = rw (x .counts) in
+      let z : r + (t .charges - r) ≡ t .charges = omega arith in
+      let m : below w′ tagScope r ≤ below w′ tagScope (t .charges) = rw z at (count-more (tagged w′ tagScope) r (t .charges - r)) in
+      omega (arith, below-fixed tagScope (y .kept) (t .charges) (omega arith), so .scopes, x .value)
+
+  -- no record is of a scope that is not there yet
+  unowned : (g : ℕ) → OwnedTag g → (r : ℕ) → r < t′ .charges → ownedBy w′ g v r ≡ false
+  unowned g o r l = by (ownedBy w′ g v r) refl
+    where
+      by : (b : Bool) → ownedBy w′ g v r ≡ b → ownedBy w′ g v r ≡ false
+      by false q = q
+      by true q = let i = owned-is w′ g v r q in absurd (omega (arith, y .sound .owned .known r g l (i .0) o, older r l, i .1))
+
+  empty : {A : Type 0} (g : ℕ) → OwnedTag g → (d : ℕ → A) → ownedLog d w′ g v (t′ .charges) ≡ []
+  empty g o d =
+      let z : 0 + t′ .charges ≡ t′ .charges = omega arith in
+      (rw z at (up-span (only (ownedBy w′ g v) d) 0 (t′ .charges) (λ r l h. only-other (ownedBy w′ g v) d r (unowned g o r (omega arith))))) ∙ up-zero (only (ownedBy w′ g v) d)
+
+  pub body-open : bodyOf w′ (t′ .charges) v 0 0 ≡ record { root = none; extraRoots = []; routes = [] }
+  body-open = rw (empty tagRoot (record { low = omega arith; high = omega arith }) (rootRec w′), empty tagRoute (record { low = omega arith; high = omega arith }) (bodyRouteRec w′))
+
+  pub unrecorded-open : Unrecorded w′ (t′ .charges) v
+  unrecorded-open = record { apart = λ q l e s. omega (arith, y .sound .fair .each q l .instance e .known, older q l) }

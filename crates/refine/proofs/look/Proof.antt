@@ -1,0 +1,20 @@
+-- Written by `needs write`, from answers.txt: edit that. The proof.
+use borrow.Author.Needs.{needs}
+use Rattle.refine.proofs.look.Statement.{statement}
+use Rattle.refine.proofs.look.Tie as tie
+use Rattle.refine.proofs.look.Reads as reads
+use Rattle.refine.proofs.look.Lts as lts
+use Rattle.journal.proofs.find.Reads as find-reads
+use Rattle.refine.proofs.Looking.{look-law}
+
+mul-find : tie.Need-mul-find
+mul-find c = search needs
+
+find-requires : tie.Need-find-requires
+find-requires c κs = search needs
+
+returns : tie.Need-returns
+returns c = look-law _ _ _ _ (c .before .before .before .pre .sound .fair) _ (c .find .ensures)
+
+pub look-spec : {M : Type 1} → statement M
+look-spec = tie.close (tie.spec mul-find find-requires returns)
