@@ -5,3 +5,4 @@ pub mod Fields
 pub mod Interfaces
 pub mod Stored
 pub mod Ends
+pub mod Routes

@@ -19,7 +19,7 @@ use Rattle.journal.specs.Records.{tagId, tagStored, cell}
 use Rattle.journal.specs.Index.{foundOf}
 use Rattle.journal.proofs.Lists.{scan-low}
 use Rattle.reading.specs.Reading.{kept, idsIn, idsAt, valueAt, valueRec, valuesAt}
-use Rattle.reading.specs.Fair.{HandleAt, Fair}
+use Rattle.reading.specs.Fair.{HandleAt, Fair, Walkable}
 use Rattle.reading.proofs.Words.{kept-is}
 use Rattle.reading.proofs.Chains.{value-fixed}
 use Rattle.reading.proofs.Fair.{handle-fixed}
@@ -31,7 +31,7 @@ use Rattle.refine.specs.declared.Answer.{Answer}
 use Rattle.refine.specs.declared.Answer.the-variants.{Done, Refused}
 use Rattle.refine.specs.Sound.{Source, inputOf, Standing, EnvAt, envOf, Later}
 use Rattle.refine.specs.Does.{at, IfDone, Does}
-use Rattle.refine.specs.Contract.{Walkable, Valued, Cloned}
+use Rattle.refine.specs.Contract.{Valued, Cloned}
 use Rattle.refine.proofs.Later.{later-handle}
 use Rattle.bindings.specs.Contract.{Classed, NotGiven, Cloning, GivenValue, GivenRefused}
 use Rattle.bindings.proofs.Steps.{anySource, done-later}

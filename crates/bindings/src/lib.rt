@@ -10,6 +10,8 @@ use refine::Limits;
 use sheet::row::Row;
 ghost use mathlib.Core.Path.{_≡_};
 ghost use Prim.Native.Nat.{_≤_};
+ghost use Rattle.ast.specs.Choice.{orElse};
+ghost use Rattle.sheet.specs.Parse.{optional};
 ghost use Rattle.journal.specs.Records.{tagField, tagInterface, tagStored, Wide};
 ghost use Rattle.reading.specs.Fair.{HandleAt, NodeAt};
 ghost use Rattle.refine.specs.Sound.{Standing, EnvAt};
@@ -384,6 +386,13 @@ fn remap_routes(work: &mut [u32], lim: Limits, st: Counts, env: Env)
     }
 }
 
+// A DEF name, or where there is none the old one.
+fn named(def: u32, old: u32) -> u32
+    ensures { λ r. ⌜ optional r ≡ orElse (optional def) (optional old) ⌝ }
+{
+    if def == NONE { old } else { def }
+}
+
 // The record of an instance on its root, whose record is before `place`: name and associations are its own, a nested
 // one's roots and routes follow.
 pub fn record_instance(
@@ -431,8 +440,7 @@ pub fn record_instance(
             k: 0,
         },
     );
-    let named = if def == NONE { old } else { def };
-    journal::set(work, n, 4, named);
+    journal::set(work, n, 4, named(def, old));
     journal::set(work, n, 11, (c + 1) as u32);
     Answer::Done {
         st: refine::charged(st, 1),
