@@ -6,3 +6,4 @@ pub mod Interfaces
 pub mod Stored
 pub mod Ends
 pub mod Routes
+pub mod Instances
