@@ -1,40 +1,23 @@
 -- An association, and what holds after it.
 use mathlib.Core.Path.{_≡_, refl, sym, ap, _∙_}
-use mathlib.Core.Bool.{Bool, true, false}
-use mathlib.Core.List.{List, [], _∷_, _++_, append-nil}
-use mathlib.Core.Option.{Option, none, some}
-use Prim.Native.Nat.{ℕ, _+_, _≤_, _<_}
+use mathlib.Core.List.{List}
+use mathlib.Core.Option.{Option}
+use Prim.Native.Nat.{ℕ}
 use native.Mathlib.Omega.{arith}
-use lib.Dec.{eqb}
-use borrow.Author.Tests.{ne-eqb}
-use Rattle.ast.specs.Ast.{FieldValue, FieldBinding, Field, InterfaceDecl}
-use Rattle.ast.specs.Choice.{choose, andThen, mapO}
-use Rattle.sheet.specs.declared.row.Row.{Row}
-use Rattle.sheet.specs.Parse.{optional}
-use Rattle.expansion.specs.State.{Comp, bindR, _>>=_, _>>_, ret}
-use Rattle.expansion.specs.Charges.{charge, paid}
-use Rattle.expansion.specs.Values.{Env, Values, Copier, valueOf, clone}
-use Rattle.expansion.specs.PlainCopy.{associate, isValue, withValue, isField, copyBinding, copyField, interfaceWith, isInterface, copyTarget, copyInterface, somes}
-use Rattle.expansion.specs.Instances.{cloneOption, store}
+use Rattle.ast.specs.Ast.{FieldValue}
+use Rattle.expansion.specs.Values.{Env}
+use Rattle.expansion.specs.PlainCopy.{isValue}
 use Rattle.journal.specs.declared.Record.{Record}
-use Rattle.journal.specs.Records.{tagId, tagField, tagInterface, tagStored, tagAssociation}
-use Rattle.journal.proofs.Frame.{same-fixed}
-use Rattle.reading.specs.Reading.{valueAt, fieldsAt, fieldNew, interfacesAt, interfaceNew, valuesAt, storedNew}
-use Rattle.reading.specs.Fair.{HandleAt}
-use Rattle.reading.proofs.Chains.{fields-fixed, fields-new, interfaces-fixed, interfaces-new, values-fixed, values-new}
-use Rattle.reading.proofs.Fair.{handle-new}
+use Rattle.journal.specs.Records.{tagAssociation}
 use Rattle.refine.specs.declared.Limits.{Limits}
 use Rattle.refine.specs.declared.Counts.{Counts}
 use Rattle.refine.specs.declared.Env as code
 use Rattle.refine.specs.declared.Answer.{Answer}
-use Rattle.refine.specs.declared.Answer.the-variants.{Done, Refused}
-use Rattle.refine.specs.Sound.{Source, inputOf, Standing, Later, EnvAt, envOf}
-use Rattle.refine.specs.Does.{Decode, nothing, at, IfDone, Does, Doing}
-use Rattle.refine.specs.Contract.{Keepable, KeptAt, Kept, Ownership, Owning}
-use Rattle.refine.proofs.Later.{later-trans, later-standing, later-handle, later-env, env-later}
-use Rattle.refine.proofs.Calculus.{start, turn, finish, step, stop, inner, there, paying}
-use Rattle.bindings.specs.declared.Given.{Given}
-use Rattle.bindings.specs.Contract.{Associated, NotGiven, GivenValue, GivenRefused, Giving}
+use Rattle.refine.specs.declared.Answer.the-variants.{Done}
+use Rattle.refine.specs.Sound.{Standing, Later, EnvAt, envOf}
+use Rattle.refine.specs.Contract.{Ownership, Owning}
+use Rattle.refine.proofs.Later.{later-standing, later-env, env-later}
+use Rattle.bindings.specs.Contract.{Associated}
 use Rattle.bindings.proofs.Steps.{anySource, done-later}
 
 abbrev pub associationRecord : ℕ → ℕ → ℕ → ℕ → Record

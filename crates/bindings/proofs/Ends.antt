@@ -1,13 +1,11 @@
 -- The ends of routes: the copy of an end is the newest entry of the map.
-use mathlib.Core.Path.{_≡_, refl, sym, ap, _∙_}
+use mathlib.Core.Path.{_≡_, sym, _∙_}
 use mathlib.Core.List.{List}
-use mathlib.Core.Option.{Option, none, some}
-use Prim.Native.Nat.{ℕ, _+_, _*_, _-_, _≤_, _<_}
+use Prim.Native.Nat.{ℕ, _+_, _*_, _-_, _≤_}
 use native.Mathlib.Omega.{arith}
 use lib.ListN.{length}
-use lib.Dec.{eqb}
 use borrow.Author.Tests.{ne-eqb}
-use Rattle.ast.specs.Choice.{choose, andThen, mapO}
+use Rattle.ast.specs.Choice.{andThen}
 use Rattle.sheet.specs.Parse.{optional}
 use Rattle.expansion.specs.State.{lookup}
 use Rattle.journal.specs.declared.Found.{Found}

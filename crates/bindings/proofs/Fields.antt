@@ -1,27 +1,21 @@
 -- A field with an IS.
 use mathlib.Core.Path.{_≡_, refl, sym, ap, _∙_}
-use mathlib.Core.Bool.{Bool, true, false}
-use mathlib.Core.List.{List, [], _∷_, _++_, append-nil}
+use mathlib.Core.List.{List, append-nil}
 use mathlib.Core.Option.{Option, none, some}
-use Prim.Native.Nat.{ℕ, _+_, _≤_, _<_}
+use Prim.Native.Nat.{ℕ, _≤_}
 use native.Mathlib.Omega.{arith}
-use lib.Dec.{eqb}
-use borrow.Author.Tests.{ne-eqb}
-use Rattle.ast.specs.Ast.{FieldValue, FieldBinding, Field, InterfaceDecl}
-use Rattle.ast.specs.Choice.{choose, andThen, mapO}
+use Rattle.ast.specs.Ast.{FieldValue, Field}
 use Rattle.sheet.specs.declared.row.Row.{Row}
-use Rattle.sheet.specs.Parse.{optional}
-use Rattle.expansion.specs.State.{Comp, bindR, _>>=_, _>>_, ret}
-use Rattle.expansion.specs.Charges.{charge, paid}
-use Rattle.expansion.specs.Values.{Env, Values, Copier, valueOf, clone}
-use Rattle.expansion.specs.PlainCopy.{associate, isValue, withValue, isField, copyBinding, copyField, interfaceWith, isInterface, copyTarget, copyInterface, somes}
-use Rattle.expansion.specs.Instances.{cloneOption, store}
+use Rattle.expansion.specs.State.{Comp, _>>=_, _>>_, ret}
+use Rattle.expansion.specs.Charges.{charge}
+use Rattle.expansion.specs.Values.{Env, Copier, clone}
+use Rattle.expansion.specs.PlainCopy.{associate, isValue, withValue, isField, copyBinding, copyField, somes}
 use Rattle.journal.specs.declared.Record.{Record}
-use Rattle.journal.specs.Records.{tagId, tagField, tagInterface, tagStored, tagAssociation}
+use Rattle.journal.specs.Records.{tagId, tagField}
 use Rattle.journal.proofs.Frame.{same-fixed}
-use Rattle.reading.specs.Reading.{valueAt, fieldsAt, fieldNew, interfacesAt, interfaceNew, valuesAt, storedNew}
+use Rattle.reading.specs.Reading.{valueAt, fieldsAt, fieldNew}
 use Rattle.reading.specs.Fair.{HandleAt}
-use Rattle.reading.proofs.Chains.{fields-fixed, fields-new, interfaces-fixed, interfaces-new, values-fixed, values-new}
+use Rattle.reading.proofs.Chains.{fields-fixed, fields-new}
 use Rattle.reading.proofs.Fair.{handle-new}
 use Rattle.refine.specs.declared.Limits.{Limits}
 use Rattle.refine.specs.declared.Counts.{Counts}
@@ -29,13 +23,13 @@ use Rattle.refine.specs.declared.Env as code
 use Rattle.refine.specs.declared.Answer.{Answer}
 use Rattle.refine.specs.declared.Answer.the-variants.{Done, Refused}
 use Rattle.refine.specs.Sound.{Source, inputOf, Standing, Later, EnvAt, envOf}
-use Rattle.refine.specs.Does.{Decode, nothing, at, IfDone, Does, Doing}
-use Rattle.refine.specs.Contract.{Keepable, KeptAt, Kept, Ownership, Owning}
-use Rattle.refine.proofs.Later.{later-trans, later-standing, later-handle, later-env, env-later}
-use Rattle.refine.proofs.Calculus.{start, turn, finish, step, stop, inner, there, paying}
+use Rattle.refine.specs.Does.{at, Doing}
+use Rattle.refine.specs.Contract.{Keepable, KeptAt, Kept}
+use Rattle.refine.proofs.Later.{later-trans, later-standing, later-handle}
+use Rattle.refine.proofs.Calculus.{start, turn, finish, step, stop, paying}
 use Rattle.bindings.specs.declared.Given.{Given}
 use Rattle.bindings.specs.Contract.{Associated, NotGiven, GivenValue, GivenRefused, Giving, isFieldOf, boundField, FieldsAfter, FieldDone}
-use Rattle.bindings.proofs.Steps.{anySource, done-later, always, if-map, pays, paid-there, paid-last}
+use Rattle.bindings.proofs.Steps.{anySource, done-later, always, if-map, pays, paid-there}
 use Rattle.bindings.proofs.Associations.{then-later, then-standing, then-value}
 
 abbrev pub fieldRecord : ℕ → ℕ → ℕ → ℕ → ℕ → ℕ → ℕ → ℕ → Record
@@ -133,9 +127,7 @@ module _ (L : Limits) (w : List ℕ) (t : Counts) (e : code.Env) (new : ℕ) (r 
         pub field-value : {w3 : List ℕ} {b : Answer} → Kept L w2 s2 (fieldRecord (r .a) 0 0 (r .d) ty class payload h) w3 b → FieldDone L w t e new r h w3 b
         unfolding isField
         field-value {w3} {b} k =
-            let v1 : FieldValue = valueAt w1 ty class payload in
             let z : is ≡ some (some (valueAt w1 ty class payload)) = same (gw .cloning .value) in
-            let y : Field = withValue (isFieldOf r) (valueAt w1 ty class payload) in
             record {
               does = λ S young c.
                   pays (some (withValue (isFieldOf r) (valueAt w1 ty class payload))) (λ u v p. boundField (isFieldOf r) is)

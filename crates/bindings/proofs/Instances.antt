@@ -1,26 +1,24 @@
 -- The record of an instance on its root.
 use mathlib.Core.Path.{_≡_, refl, sym, ap, _∙_}
 use mathlib.Core.Bool.{Bool, true, false}
-use mathlib.Core.List.{List, [], _∷_, _++_, map}
-use mathlib.Core.Option.{Option, none, some}
-use Prim.Native.Nat.{ℕ, zero, suc, _+_, _*_, _-_, _≤_, _<_}
+use mathlib.Core.List.{List, [], _∷_, map}
+use mathlib.Core.Option.{some}
+use Prim.Native.Nat.{ℕ, _+_, _*_, _-_, _≤_, _<_}
 use native.Mathlib.Omega.{arith}
 use lib.ListN.{length, getD, getElem?, set}
-use lib.Dec.{eqb}
 use borrow.Author.Tests.{ne-eqb}
-use Rattle.ast.specs.Ast.{Route, Association, ProtoInstance, Node}
+use Rattle.ast.specs.Ast.{Route, ProtoInstance, Node}
 use Rattle.ast.specs.Choice.{choose, andThen, orElse}
 use Rattle.sheet.specs.Parse.{optional}
 use Rattle.expansion.specs.State.{State, ok, withNodes, lookup}
-use Rattle.expansion.specs.Charges.{oneMore, charge}
-use Rattle.expansion.specs.PlainCopy.{remapRoute}
-use Rattle.expansion.specs.Instances.{associationsOf, nestedRoots, nestedRoutes, withInstance, update, recordInstance}
+use Rattle.expansion.specs.Charges.{oneMore}
+use Rattle.expansion.specs.Instances.{associationsOf, nestedRoots, nestedRoutes, withInstance, recordInstance}
 use Rattle.journal.specs.declared.Record.{Record}
-use Rattle.journal.specs.Records.{tagNode, tagScope, tagExtern, tagField, tagInterface, tagStatement, tagOrder, tagRoot, tagRoute, tagAssociation, tagInstance, cell, Fixed, SetWord, Pushed}
-use Rattle.journal.specs.Logs.{scan, logUp, only}
+use Rattle.journal.specs.Records.{tagNode, tagScope, tagExtern, tagRoot, tagRoute, tagAssociation, tagInstance, cell, Fixed, SetWord, Pushed}
+use Rattle.journal.specs.Logs.{logUp, only}
 use Rattle.journal.specs.Owned.{OwnedTag, headWord, tagged, ownedBy, ownedLog, lastOwned}
 use Rattle.journal.proofs.Cells.{set-cell}
-use Rattle.journal.proofs.Frame.{same-fixed, fixed-trans, fixed-less, last-fixed, steady-tag}
+use Rattle.journal.proofs.Frame.{fixed-trans, last-fixed, steady-tag}
 use Rattle.journal.proofs.Lists.{count-above, up-get, up-count, up-same, only-here, scan-push, scan-low}
 use Rattle.journal.proofs.Index.{index-push}
 use Rattle.journal.proofs.Keys.{unkeyed}
@@ -29,24 +27,24 @@ use Rattle.reading.specs.Reading.{kept, below, rootRec, bodyRouteRec, routeRec,
 use Rattle.reading.specs.Fair.{HandleAt, NodeAt, NodeClosed, InstanceClosed, Fair}
 use Rattle.reading.proofs.Words.{kept-is, kept-fixed}
 use Rattle.reading.proofs.Chains.{root-lasting, association-lasting, fields-fixed, interfaces-fixed, statements-fixed, order-fixed}
-use Rattle.reading.proofs.Fair.{handle-fixed, handle-new, node-at-fixed}
+use Rattle.reading.proofs.Fair.{handle-fixed, handle-new}
 use Rattle.reading.proofs.Logs.{up-fixed, up-map, below-fixed}
 use Rattle.reading.proofs.Lookups.{associations-owned}
-use Rattle.reading.proofs.Nodes.{Calm, EndsKept, calm-same, instances-same}
+use Rattle.reading.proofs.Nodes.{Calm, calm-same, instances-same}
 use Rattle.reading.proofs.States.{Silent, state-one, state-fixed}
 use Rattle.refine.specs.declared.Limits.{Limits}
 use Rattle.refine.specs.declared.Counts.{Counts}
 use Rattle.refine.specs.declared.Env as code
 use Rattle.refine.specs.declared.Answer.{Answer}
 use Rattle.refine.specs.declared.Answer.the-variants.{Done, Refused}
-use Rattle.refine.specs.Sound.{Source, inputOf, headsAt, Sound, Standing, OfBody, Later, EnvAt, envOf}
-use Rattle.refine.specs.Does.{number, at, IfDone, Does}
-use Rattle.refine.specs.Contract.{charged, MappedAt}
-use Rattle.refine.proofs.Later.{later-trans, later-standing, later-node, later-env}
+use Rattle.refine.specs.Sound.{Source, headsAt, Sound, Standing, OfBody, Later, EnvAt}
+use Rattle.refine.specs.Does.{number, at}
+use Rattle.refine.specs.Contract.{charged}
+use Rattle.refine.proofs.Later.{later-trans, later-node, later-env}
 use Rattle.refine.proofs.Grow.{sound-more, later-more, alone, count-other}
 use Rattle.refine.proofs.Charges.{change-refused, change-done}
-use Rattle.refine.proofs.Filling.{OnlyNode, node-fixed, node-ends, node-sound, node-later, node-state}
-use Rattle.bindings.specs.Contract.{EndOf, Remapped, Recordable, Recorded}
+use Rattle.refine.proofs.Filling.{OnlyNode, node-fixed, node-ends, node-later, node-state}
+use Rattle.bindings.specs.Contract.{Remapped, Recordable, Recorded}
 
 -- ---- a DEF name
 pub named-old : (def old : ℕ) → def ≡ 4294967295 → optional old ≡ orElse (optional def) (optional old)
@@ -214,7 +212,6 @@ module _ (L : Limits) (w : List ℕ) (t : Counts) (e : code.Env) (name def out p
   root : getElem? (nodesOf w c) out ≡ some (nodeRec w n)
   unfolding nodesOf
   root =
-      let g : ℕ → List Node = only (tagged w tagNode) (nodeRec w) in
       let z : length (logUp (only (tagged w tagNode) (nodeRec w)) n) ≡ out = up-count (tagged w tagNode) (nodeRec w) n ∙ node .number in
       rw z at (up-get (only (tagged w tagNode) (nodeRec w)) n (nodeRec w n) (only-here (tagged w tagNode) (nodeRec w) n (tagged-here w tagNode n (node .tag))) c low .0)
 

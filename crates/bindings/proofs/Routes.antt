@@ -2,33 +2,29 @@
 use mathlib.Core.Path.{_≡_, refl, sym, ap, _∙_}
 use mathlib.Core.Bool.{Bool, true, false}
 use mathlib.Core.List.{List}
-use mathlib.Core.Option.{Option, none, some}
 use Prim.Native.Nat.{ℕ, zero, suc, _+_, _*_, _-_, _≤_, _<_}
 use native.Mathlib.Omega.{arith}
-use lib.ListN.{length, getD}
+use lib.ListN.{length}
 use lib.Dec.{eqb, ltb}
 use borrow.Author.Tests.{eqb-true, eqb-false, ltb-true, ltb-false}
-use Rattle.ast.specs.Choice.{choose, andThen}
-use Rattle.sheet.specs.Parse.{optional}
-use Rattle.expansion.specs.State.{lookup}
-use Rattle.journal.specs.Records.{tagMap, tagNode, tagScope, tagExtern, tagRoute, tagInstance, cell, SetWord}
+use Rattle.ast.specs.Choice.{choose}
+use Rattle.journal.specs.Records.{tagNode, tagScope, tagExtern, tagRoute, cell, SetWord}
 use Rattle.journal.specs.Logs.{lastOf}
-use Rattle.journal.specs.Owned.{OwnedTag, headWord, ownedBy, lastOwned}
+use Rattle.journal.specs.Owned.{OwnedTag, ownedBy, lastOwned}
 use Rattle.journal.proofs.Cells.{set-cell}
 use Rattle.journal.proofs.Frame.{set-fixed}
 use Rattle.journal.proofs.Lists.{last-low, last-is}
 use Rattle.journal.proofs.Index.{index-set}
 use Rattle.journal.proofs.Owned.{owned-here, owned-is, owned-set}
 use Rattle.reading.specs.Reading.{mapOf}
-use Rattle.reading.specs.Fair.{NodeClosed, Fair}
 use Rattle.reading.proofs.Fair.{fair-fixed, closed-fixed}
 use Rattle.reading.proofs.Logs.{below-fixed}
-use Rattle.reading.proofs.Nodes.{Calm, Unrecorded}
+use Rattle.reading.proofs.Nodes.{Unrecorded}
 use Rattle.reading.proofs.States.{map-stays}
 use Rattle.refine.specs.declared.Limits.{Limits}
 use Rattle.refine.specs.declared.Counts.{Counts}
 use Rattle.refine.specs.declared.Env as code
-use Rattle.refine.specs.Sound.{headsAt, Sound, Standing, Later, EnvAt}
+use Rattle.refine.specs.Sound.{Sound, Standing, Later}
 use Rattle.refine.proofs.Later.{later-refl, later-trans, later-standing}
 use Rattle.bindings.specs.Contract.{EndOf, Remappable, Remapped}
 
@@ -144,9 +140,13 @@ module _ (L : Limits) (w₀ : List ℕ) (t : Counts) (st : Standing L w₀ t) wh
         unset : (m j : ℕ) → j < 12 → (m ≡ r → 10 ≤ j → ⊥) → cell w2 m j ≡ cell w m j
         unset m j lj ne = set-cell w1 w2 r 11 to (omega arith) s2 m j lj (λ a b. ne a (omega arith)) ∙ set-cell w w1 r 10 from (omega arith) s1 m j lj (λ a b. ne a (omega arith))
 
+        -- the one before it
+        link : (h cur′ : ℕ) → h ≡ cell w2 r 8 → cur′ ≡ h → cur′ ≡ lastOwned w₀ tagRoute n r
+        link h cur′ eh ec = ec ∙ eh ∙ unset r 8 (omega arith) (λ a b. omega arith) ∙ x .other r 8 (omega arith) (λ a b c. omega arith) ∙ st .sound .owned .links r tagRoute low tag route-tag ∙ rw scope
+
         pub remapping-next : (h cur′ : ℕ) → h ≡ cell w2 r 8 → cur′ ≡ h → Remapping L w₀ t n w2 cur′
         remapping-next h cur′ eh ec =
-            let z : cur′ ≡ lastOwned w₀ tagRoute n r = ec ∙ eh ∙ unset r 8 (omega arith) (λ a b. omega arith) ∙ x .other r 8 (omega arith) (λ a b c. omega arith) ∙ st .sound .owned .links r tagRoute low tag route-tag ∙ rw scope in
+            let z : cur′ ≡ lastOwned w₀ tagRoute n r = link h cur′ eh ec in
             record {
               later = later-trans (x .later) (later-trans l1 l2);
               other = λ m j lj ne. unset m j lj (λ a b. ne (rw a tag) (rw a scope) b) ∙ x .other m j lj ne;
@@ -163,23 +163,20 @@ module _ (L : Limits) (w₀ : List ℕ) (t : Counts) (st : Standing L w₀ t) wh
                 by true q = absurd (last-gap (ownedBy w₀ tagRoute n) r m (ltb-true m r q) a (owned-here w₀ tagRoute n m e o))
                 by false q = omega (arith, ltb-false m r q, ne)
 
-            link : cur′ ≡ lastOwned w₀ tagRoute n r
-            link = ec ∙ eh ∙ unset r 8 (omega arith) (λ a b. omega arith) ∙ x .other r 8 (omega arith) (λ a b c. omega arith) ∙ st .sound .owned .links r tagRoute low tag route-tag ∙ rw scope
-
             at : (m : ℕ) → cur′ ≤ m → m < t .charges → cell w₀ m 0 ≡ tagRoute → cell w₀ m 1 ≡ n → (b : Bool) → eqb m r ≡ b → EndOf w₀ (t .charges) n (cell w₀ m 6) (cell w2 m 10)
             at m a l e o true q =
                 let z : m ≡ r = eqb-true m r q in
                 let s : cell w2 r 10 ≡ from = set-cell w1 w2 r 11 to (omega arith) s2 r 10 (omega arith) (λ a b. omega arith) ∙ s1 .here in
                 rw (z, s) (end-then 6 id6 from (omega arith) e6 yf)
-            at m a l e o false q = rw (unset m 10 (omega arith) (λ z k. eqb-false m r q z)) (x .from m (far m (omega (arith, link)) (eqb-false m r q) e o) l e o)
+            at m a l e o false q = rw (unset m 10 (omega arith) (λ z k. eqb-false m r q z)) (x .from m (far m (omega (arith, link h cur′ eh ec)) (eqb-false m r q) e o) l e o)
 
             at′ : (m : ℕ) → cur′ ≤ m → m < t .charges → cell w₀ m 0 ≡ tagRoute → cell w₀ m 1 ≡ n → (b : Bool) → eqb m r ≡ b → EndOf w₀ (t .charges) n (cell w₀ m 7) (cell w2 m 11)
             at′ m a l e o true q = let z : m ≡ r = eqb-true m r q in rw (z, s2 .here) (end-then 7 id7 to (omega arith) e7 yt)
-            at′ m a l e o false q = rw (unset m 11 (omega arith) (λ z k. eqb-false m r q z)) (x .to m (far m (omega (arith, link)) (eqb-false m r q) e o) l e o)
+            at′ m a l e o false q = rw (unset m 11 (omega arith) (λ z k. eqb-false m r q z)) (x .to m (far m (omega (arith, link h cur′ eh ec)) (eqb-false m r q) e o) l e o)
 
         pub remapping-less : (h cur′ : ℕ) → h ≡ cell w2 r 8 → cur′ ≡ h → cur′ < cur
         remapping-less h cur′ eh ec =
-            let z : cur′ ≡ lastOwned w₀ tagRoute n r = ec ∙ eh ∙ unset r 8 (omega arith) (λ a b. omega arith) ∙ x .other r 8 (omega arith) (λ a b c. omega arith) ∙ st .sound .owned .links r tagRoute low tag route-tag ∙ rw scope in
+            let z : cur′ ≡ lastOwned w₀ tagRoute n r = link h cur′ eh ec in
             omega (arith, last-low (ownedBy w₀ tagRoute n) r)
 
     -- the first is done

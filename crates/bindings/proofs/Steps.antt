@@ -1,5 +1,5 @@
 -- What a step leaves: the later journal, and a charge at the end of a piece.
-use mathlib.Core.Path.{_≡_, refl, sym, ap, _∙_}
+use mathlib.Core.Path.{_≡_, refl}
 use mathlib.Core.List.{List, []}
 use Prim.Native.Nat.{ℕ}
 use Rattle.expansion.specs.State.{Comp, bindR, _>>=_, _>>_, ret}
@@ -10,7 +10,7 @@ use Rattle.refine.specs.declared.Answer.{Answer}
 use Rattle.refine.specs.declared.Answer.the-variants.{Done, Refused}
 use Rattle.refine.specs.Sound.{Source, inputOf, Later}
 use Rattle.refine.specs.Does.{Decode, nothing, IfDone, Does, Doing}
-use Rattle.refine.proofs.Calculus.{finish, step, stop, tail, last, paying}
+use Rattle.refine.proofs.Calculus.{finish, step, stop, last, paying}
 
 -- a source, where any will do
 abbrev pub anySource : Source

@@ -1,20 +1,19 @@
 -- The value of an IS target, stored under a name.
 use mathlib.Core.Path.{_≡_, refl, sym, ap, _∙_}
-use mathlib.Core.List.{List, [], _∷_, _++_}
+use mathlib.Core.List.{List, _∷_}
 use mathlib.Core.Option.{Option, none, some}
-use Prim.Native.Nat.{ℕ, _+_, _≤_, _<_}
+use Prim.Native.Nat.{ℕ}
 use native.Mathlib.Omega.{arith}
 use Rattle.ast.specs.Ast.{FieldValue}
-use Rattle.ast.specs.Choice.{choose, andThen, mapO}
-use Rattle.expansion.specs.State.{Comp, bindR, _>>=_, _>>_, ret}
-use Rattle.expansion.specs.Charges.{charge, paid}
+use Rattle.ast.specs.Choice.{andThen, mapO}
+use Rattle.expansion.specs.State.{Comp, bindR, _>>=_, ret}
 use Rattle.expansion.specs.Values.{Values, valueOf, clone}
 use Rattle.expansion.specs.PlainCopy.{isValue}
 use Rattle.expansion.specs.Instances.{cloneOption, store}
 use Rattle.journal.specs.declared.Record.{Record}
-use Rattle.journal.specs.Records.{tagId, tagStored}
+use Rattle.journal.specs.Records.{tagStored}
 use Rattle.journal.proofs.Frame.{same-fixed}
-use Rattle.reading.specs.Reading.{valueAt, valuesAt, storedNew}
+use Rattle.reading.specs.Reading.{valueAt, valuesAt}
 use Rattle.reading.specs.Fair.{HandleAt}
 use Rattle.reading.proofs.Chains.{values-fixed, values-new}
 use Rattle.reading.proofs.Fair.{handle-new}
@@ -23,11 +22,11 @@ use Rattle.refine.specs.declared.Counts.{Counts}
 use Rattle.refine.specs.declared.Env as code
 use Rattle.refine.specs.declared.Answer.{Answer}
 use Rattle.refine.specs.declared.Answer.the-variants.{Done, Refused}
-use Rattle.refine.specs.Sound.{Source, inputOf, Standing, Later, EnvAt, envOf}
-use Rattle.refine.specs.Does.{Decode, nothing, at, IfDone, Does, Doing}
+use Rattle.refine.specs.Sound.{Source, inputOf, Standing, Later, envOf}
+use Rattle.refine.specs.Does.{at, Doing}
 use Rattle.refine.specs.Contract.{Keepable, KeptAt, Kept}
 use Rattle.refine.proofs.Later.{later-standing, later-handle}
-use Rattle.refine.proofs.Calculus.{start, turn, finish, step, stop, inner, there}
+use Rattle.refine.proofs.Calculus.{start, turn, finish, step, stop, inner}
 use Rattle.bindings.specs.declared.Given.{Given}
 use Rattle.bindings.specs.Contract.{NotGiven, GivenValue, GivenRefused, Giving, GivenDone}
 use Rattle.bindings.proofs.Steps.{anySource, done-later, if-map, pays, paid-there}

@@ -1,24 +1,23 @@
 -- The value that an IS target has: in a body the stored value of its name, read from its record.
 use mathlib.Core.Path.{_≡_, refl, sym, ap, _∙_}
 use mathlib.Core.Bool.{Bool, true, false, not}
-use mathlib.Core.List.{List, [], _∷_}
-use mathlib.Core.Option.{Option, none, some}
-use Prim.Native.Nat.{ℕ, zero, suc, _+_, _*_, _-_, _≤_, _<_}
+use mathlib.Core.List.{List}
+use mathlib.Core.Option.{none, some}
+use Prim.Native.Nat.{ℕ, _+_, _*_, _≤_, _<_}
 use native.Mathlib.Omega.{arith}
 use lib.ListN.{length}
 use lib.Dec.{eqb}
 use borrow.Author.Tests.{eqb-true, ne-eqb}
 use Rattle.ast.specs.Ast.{FieldData, FieldValue}
-use Rattle.ast.specs.Choice.{choose, mapO}
+use Rattle.ast.specs.Choice.{choose}
 use Rattle.expansion.specs.State.{ok}
-use Rattle.expansion.specs.Values.{valueOf, clone}
+use Rattle.expansion.specs.Values.{clone}
 use Rattle.expansion.specs.PlainCopy.{isValue}
 use Rattle.journal.specs.declared.Found.{Found}
 use Rattle.journal.specs.declared.Found.the-variants.{At, Nothing}
 use Rattle.journal.specs.Records.{tagId, tagStored, cell}
-use Rattle.journal.specs.Index.{foundOf}
 use Rattle.journal.proofs.Lists.{scan-low}
-use Rattle.reading.specs.Reading.{kept, idsIn, idsAt, valueAt, valueRec, valuesAt}
+use Rattle.reading.specs.Reading.{kept, idsIn, idsAt, valueAt, valueRec}
 use Rattle.reading.specs.Fair.{HandleAt, Fair, Walkable}
 use Rattle.reading.proofs.Words.{kept-is}
 use Rattle.reading.proofs.Chains.{value-fixed}
@@ -29,11 +28,11 @@ use Rattle.refine.specs.declared.Counts.{Counts}
 use Rattle.refine.specs.declared.Env as code
 use Rattle.refine.specs.declared.Answer.{Answer}
 use Rattle.refine.specs.declared.Answer.the-variants.{Done, Refused}
-use Rattle.refine.specs.Sound.{Source, inputOf, Standing, EnvAt, envOf, Later}
-use Rattle.refine.specs.Does.{at, IfDone, Does}
+use Rattle.refine.specs.Sound.{Source, inputOf, Standing, EnvAt, envOf}
+use Rattle.refine.specs.Does.{at, Does}
 use Rattle.refine.specs.Contract.{Valued, Cloned}
 use Rattle.refine.proofs.Later.{later-handle}
-use Rattle.bindings.specs.Contract.{Classed, NotGiven, Cloning, GivenValue, GivenRefused}
+use Rattle.bindings.specs.Contract.{Classed, NotGiven, GivenValue, GivenRefused}
 use Rattle.bindings.proofs.Steps.{anySource, done-later}
 
 not-true : (b : Bool) → not b ≡ true → b ≡ false
