@@ -1,0 +1,112 @@
+-- The value of an IS target, stored under a name.
+use mathlib.Core.Path.{_≡_, refl, sym, ap, _∙_}
+use mathlib.Core.List.{List, _∷_}
+use mathlib.Core.Option.{Option, none, some}
+use Prim.Native.Nat.{ℕ}
+use native.Mathlib.Omega.{arith}
+use Rattle.ast.specs.Ast.{FieldValue}
+use Rattle.ast.specs.Choice.{andThen, mapO}
+use Rattle.expansion.specs.State.{Comp, bindR, _>>=_, ret}
+use Rattle.expansion.specs.Values.{Values, valueOf, clone}
+use Rattle.expansion.specs.PlainCopy.{isValue}
+use Rattle.expansion.specs.Instances.{cloneOption, store}
+use Rattle.journal.specs.declared.Record.{Record}
+use Rattle.journal.specs.Records.{tagStored}
+use Rattle.journal.proofs.Frame.{same-fixed}
+use Rattle.reading.specs.Reading.{valueAt, valuesAt}
+use Rattle.reading.specs.Fair.{HandleAt}
+use Rattle.reading.proofs.Chains.{values-fixed, values-new}
+use Rattle.reading.proofs.Fair.{handle-new}
+use Rattle.refine.specs.declared.Limits.{Limits}
+use Rattle.refine.specs.declared.Counts.{Counts}
+use Rattle.refine.specs.declared.Env as code
+use Rattle.refine.specs.declared.Answer.{Answer}
+use Rattle.refine.specs.declared.Answer.the-variants.{Done, Refused}
+use Rattle.refine.specs.Sound.{Source, inputOf, Standing, Later, envOf}
+use Rattle.refine.specs.Does.{at, Doing}
+use Rattle.refine.specs.Contract.{Keepable, KeptAt, Kept}
+use Rattle.refine.proofs.Later.{later-standing, later-handle}
+use Rattle.refine.proofs.Calculus.{start, turn, finish, step, stop, inner}
+use Rattle.bindings.specs.declared.Given.{Given}
+use Rattle.bindings.specs.Contract.{NotGiven, GivenValue, GivenRefused, Giving, GivenDone}
+use Rattle.bindings.proofs.Steps.{anySource, done-later, if-map, pays, paid-there}
+
+-- what a target has, in a body or not
+joined : (target : ℕ) (o : Option Values) → andThen o (valueOf target) ≡ andThen (mapO (valueOf target) o) (λ y. y)
+joined target none = refl
+joined target (some vs) = refl
+
+abbrev pub storedRecord : ℕ → ℕ → ℕ → ℕ → ℕ → Record
+storedRecord name ty class payload h =
+    record { tag = tagStored; a = name; b = 0; c = 0; d = 0; e = ty; f = class; g = payload; h = h; i = 0; j = 0; k = 0 }
+
+module _ (L : Limits) (w : List ℕ) (t : Counts) (e : code.Env) (target name h : ℕ) (st : Standing L w t) (hd : HandleAt w (t .charges) tagStored h) {w2 : List ℕ} {g : Given} (gv : Giving L w t e target w2 g) where
+  abbrev put : Source → Option FieldValue → Comp Values
+  put S x = store (inputOf S L) name (valuesAt w h) x
+
+  abbrev rest : Source → Option FieldValue → Comp Values
+  rest S x = cloneOption (inputOf S L) x >>= put S
+
+  abbrev whole : Source → Comp Values
+  whole S = rest S (andThen (envOf w e .isValues) (valueOf target))
+
+  next : (S : Source) (young : ℕ) (x : Option (Option FieldValue)) → isValue (envOf w e) target ≡ x → Doing S L young (whole S) w t (rest S (andThen x (λ y. y))) w t
+  next S young x z =
+      turn (start S young (whole S) (st .sound)) (rest S (andThen x (λ y. y)))
+      (ap (λ (o : Option FieldValue). rest S o (at S w t)) (joined target (envOf w e .isValues) ∙ ap (λ (o : Option (Option FieldValue)). andThen o (λ y. y)) z))
+
+  -- there is none
+  none-given : (x : Option (Option FieldValue)) → andThen x (λ y. y) ≡ none → NotGiven w e target x w2 → GivenDone L w t e target name h w2 (Done t h 0)
+  unfolding cloneOption store bindR
+  none-given x nil n =
+      rw (n .words)
+      (record {
+        does = λ S young.
+            finish (turn (next S young x (n .value)) (ret (valuesAt w h)) (ap (λ (o : Option FieldValue). rest S o (at S w t)) nil)) (λ u v p. valuesAt u v) h 0 refl;
+        done = hd;
+      })
+
+  pub given-outside : g ≡ Given.Outside → GivenDone L w t e target name h w2 (Done t h 0)
+  given-outside o = none-given none refl (rw o at (gv .case))
+
+  pub given-without : g ≡ Given.Without → GivenDone L w t e target name h w2 (Done t h 0)
+  given-without o = none-given (some none) refl (rw o at (gv .case))
+
+  -- a value
+  module _ {s2 : Counts} {ty class payload : ℕ} (o : g ≡ Given.With s2 ty class payload) where
+    gw : GivenValue L w t e target w2 s2 ty class payload
+    gw = rw o at (gv .case)
+
+    l2 : Later L 0 w t w2 s2
+    l2 = done-later (gw .cloning .does anySource 0) refl
+
+    pub stored-keepable : Standing L w2 s2 × Keepable w2 (s2 .charges) (storedRecord name ty class payload h)
+    stored-keepable = (later-standing l2 st, record { least = omega arith; most = omega arith; before = later-handle l2 hd; value = λ z. gw .ids })
+
+    pub given-stored : {w3 : List ℕ} {b : Answer} → Kept L w2 s2 (storedRecord name ty class payload h) w3 b → GivenDone L w t e target name h w3 b
+    unfolding cloneOption store bindR
+    given-stored {w3} {b} k = record {
+      does = λ S young.
+          pays ((name, valueAt w ty class payload) ∷ valuesAt w h) (λ u v p. valuesAt u v)
+          (paid-there ((name, valueAt w ty class payload) ∷ valuesAt w h)
+          (step (λ v′. put S (some v′)) (inner (clone (inputOf S L) (valueAt w ty class payload)) (λ v′. ret (some v′)) (put S) (next S young (some (some (valueAt w ty class payload))) (gw .cloning .value))) (gw .cloning .does S young) refl))
+          (k .does S young)
+          (if-map (λ t′ v p. KeptAt w2 s2 (storedRecord name ty class payload h) w3 t′ v) (λ t′ v p. (name, valueAt w ty class payload) ∷ valuesAt w h ≡ valuesAt w3 v) (λ t′ v p x. list t′ v x) b (k .done));
+      done = if-map (λ t′ v p. KeptAt w2 s2 (storedRecord name ty class payload h) w3 t′ v) (λ t′ v p. HandleAt w3 (t′ .charges) tagStored v) (λ t′ v p x. rw (x .counts, x .handle) (handle-new w3 (s2 .charges) tagStored (x .pushed .holds .at0))) b (k .done);
+    }
+      where
+        list : (t′ : Counts) (v : ℕ) → KeptAt w2 s2 (storedRecord name ty class payload h) w3 t′ v → (name, valueAt w ty class payload) ∷ valuesAt w h ≡ valuesAt w3 v
+        list t′ v x =
+            rw (x .handle)
+            (sym
+            (values-new (same-fixed (x .pushed .same)) (storedRecord name ty class payload h) (x .pushed .holds) refl (omega (arith, l2 .grew, hd .low)) (λ q. gw .ids q .low)
+            ∙ rw (gw .same, values-fixed (l2 .kept) h (hd .low))))
+
+  pub given-full : {n i j : ℕ} → g ≡ Given.Refused n i j → GivenDone L w t e target name h w2 (Refused n i j)
+  unfolding cloneOption
+  given-full {n} {i} {j} o =
+      let gr : GivenRefused L w t e target w2 n i j = rw o at (gv .case) in
+      record {
+        does = λ S young. stop (λ v′. ret (some v′) >>= put S) (inner (clone (inputOf S L) (gr .found)) (λ v′. ret (some v′)) (put S) (next S young (some (some (gr .found))) (gr .cloning .value))) (gr .cloning .does S young) refl (λ u v p. valuesAt u v);
+        done = tt;
+      }
