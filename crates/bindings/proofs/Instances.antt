@@ -19,7 +19,7 @@ use Rattle.journal.specs.Logs.{logUp, only}
 use Rattle.journal.specs.Owned.{OwnedTag, headWord, tagged, ownedBy, ownedLog, lastOwned}
 use Rattle.journal.proofs.Cells.{set-cell}
 use Rattle.journal.proofs.Frame.{fixed-trans, last-fixed, steady-tag}
-use Rattle.journal.proofs.Lists.{count-above, up-get, up-count, up-same, only-here, scan-push, scan-low}
+use Rattle.journal.proofs.Lists.{up-get, up-count, up-same, only-here, scan-push, scan-low}
 use Rattle.journal.proofs.Index.{index-push}
 use Rattle.journal.proofs.Keys.{unkeyed}
 use Rattle.journal.proofs.Owned.{tagged-here, owned-push, owned-is, owned-stable}
@@ -30,7 +30,8 @@ use Rattle.reading.proofs.Chains.{root-lasting, association-lasting, fields-fix
 use Rattle.reading.proofs.Fair.{handle-fixed, handle-new}
 use Rattle.reading.proofs.Logs.{up-fixed, up-map, below-fixed}
 use Rattle.reading.proofs.Lookups.{associations-owned}
-use Rattle.reading.proofs.Nodes.{Calm, calm-same, instances-same}
+use Rattle.reading.proofs.Nodes.{calm-same, instances-same}
+use Rattle.reading.specs.Calm.{Calm}
 use Rattle.reading.proofs.States.{Silent, state-one, state-fixed}
 use Rattle.refine.specs.declared.Limits.{Limits}
 use Rattle.refine.specs.declared.Counts.{Counts}
@@ -40,7 +41,7 @@ use Rattle.refine.specs.declared.Answer.the-variants.{Done, Refused}
 use Rattle.refine.specs.Sound.{Source, headsAt, Sound, Standing, OfBody, Later, EnvAt}
 use Rattle.refine.specs.Does.{number, at}
 use Rattle.refine.specs.Contract.{charged}
-use Rattle.refine.proofs.Later.{later-trans, later-node, later-env}
+use Rattle.refine.proofs.Later.{env-known, later-trans, later-node, later-env}
 use Rattle.refine.proofs.Grow.{sound-more, later-more, alone, count-other}
 use Rattle.refine.proofs.Charges.{change-refused, change-done}
 use Rattle.refine.proofs.Filling.{OnlyNode, node-fixed, node-ends, node-later, node-state}
@@ -130,7 +131,7 @@ module _ (L : Limits) (w : List ℕ) (t : Counts) (e : code.Env) (name def out p
 
   closed2 : InstanceClosed w2 c
   closed2 = record {
-    known = rw (pu .holds .at1, below-fixed tagScope (calm2 .fixed) c (omega arith), ← env1 .number, so1 .owned .numbers (e .place) (env1 .place) (env1 .tag)) (count-above (tagged w1 tagScope) (e .place) c (env1 .place) (tagged-here w1 tagScope (e .place) (env1 .tag)));
+    known = rw (pu .holds .at1, below-fixed tagScope (calm2 .fixed) c (omega arith)) (env-known (so1 .owned) env1);
     roots = rw (pu .holds .at1, pu .holds .at3) (e9 ∙ last tagRoot (record { low = omega arith; high = omega arith }));
     routes = rw (pu .holds .at1, pu .holds .at4) (e10 ∙ last tagRoute (record { low = omega arith; high = omega arith }));
     isMap = rw (pu .holds .at1, pu .holds .at5) (e11 ∙ last tagAssociation (record { low = omega arith; high = omega arith }));
@@ -143,6 +144,7 @@ module _ (L : Limits) (w : List ℕ) (t : Counts) (e : code.Env) (name def out p
   fair2 = record {
     mapped = λ z. absurd (omega (arith, pu .holds .at0));
     node = λ z. absurd (omega (arith, pu .holds .at0));
+    scoped = λ z. absurd (omega (arith, pu .holds .at0));
     instance = λ z. closed2;
     linked = λ z. rw (pu .holds .at0, pu .holds .at8) (handle-fixed (calm2 .fixed) (omega arith) (omega arith) nested1);
     value = λ z q. absurd (let y : _≡_ {A = Bool} false true = rw (pu .holds .at0) at z in omega (arith, ap {B = ℕ} (λ (b : Bool). choose b 1 0) y));

@@ -4,6 +4,5 @@ pub mod Associations
 pub mod Fields
 pub mod Interfaces
 pub mod Stored
-pub mod Ends
 pub mod Routes
 pub mod Instances

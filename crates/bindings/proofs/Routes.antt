@@ -19,14 +19,15 @@ use Rattle.journal.proofs.Owned.{owned-here, owned-is, owned-set}
 use Rattle.reading.specs.Reading.{mapOf}
 use Rattle.reading.proofs.Fair.{fair-fixed, closed-fixed}
 use Rattle.reading.proofs.Logs.{below-fixed}
-use Rattle.reading.proofs.Nodes.{Unrecorded}
+use Rattle.reading.specs.Calm.{Unrecorded}
 use Rattle.reading.proofs.States.{map-stays}
 use Rattle.refine.specs.declared.Limits.{Limits}
 use Rattle.refine.specs.declared.Counts.{Counts}
 use Rattle.refine.specs.declared.Env as code
 use Rattle.refine.specs.Sound.{Sound, Standing, Later}
 use Rattle.refine.proofs.Later.{later-refl, later-trans, later-standing}
-use Rattle.bindings.specs.Contract.{EndOf, Remappable, Remapped}
+use Rattle.refine.specs.Contract.{EndOf}
+use Rattle.bindings.specs.Contract.{Remappable, Remapped}
 
 -- nothing above the last that passes a test passes it
 last-gap : (p : ℕ → Bool) (c r : ℕ) → r < c → lastOf p c ≤ r → p r ≡ true → ⊥

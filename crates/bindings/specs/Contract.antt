@@ -17,14 +17,14 @@ use Rattle.journal.specs.declared.Record.{Record}
 use Rattle.journal.specs.Records.{tagId, tagField, tagInterface, tagStored, tagRoute, cell}
 use Rattle.reading.specs.Reading.{valueAt, fieldsAt, interfacesAt, valuesAt, mapOf, bodyOf}
 use Rattle.reading.specs.Fair.{HandleAt, NodeAt}
-use Rattle.reading.proofs.Nodes.{Calm, Unrecorded}
+use Rattle.reading.specs.Calm.{Calm, Unrecorded}
 use Rattle.refine.specs.declared.Limits.{Limits}
 use Rattle.refine.specs.declared.Counts.{Counts}
 use Rattle.refine.specs.declared.Env as code
 use Rattle.refine.specs.declared.Answer.{Answer}
 use Rattle.refine.specs.Sound.{Source, inputOf, Later, EnvAt, envOf}
 use Rattle.refine.specs.Does.{nothing, number, IfDone, Does}
-use Rattle.refine.specs.Contract.{MappedAt}
+use Rattle.refine.specs.Contract.{MappedAt, EndOf}
 use Rattle.bindings.specs.declared.Given.{Given}
 
 -- ---- an association
@@ -115,10 +115,6 @@ pub record GivenDone (L : Limits) (w : List ℕ) (t : Counts) (e : code.Env) (ta
   pub done : IfDone (λ t′ v p. HandleAt w′ (t′ .charges) tagStored v) a
 
 -- ---- routes
--- o is what a route's end is remapped to
-abbrev pub EndOf : List ℕ → ℕ → ℕ → ℕ → ℕ → Type 0
-EndOf w c scope id o = optional o ≡ andThen (optional id) (lookup (mapOf w c) scope)
-
 -- a scope of which no instance is recorded
 pub record Remappable (w : List ℕ) (c : ℕ) (e : code.Env) : Type 0 where
   pub env : EnvAt w c e

@@ -16,7 +16,7 @@ ghost use Rattle.journal.specs.Records.{tagField, tagInterface, tagStored, Wide
 ghost use Rattle.reading.specs.Fair.{HandleAt, NodeAt};
 ghost use Rattle.refine.specs.Sound.{Standing, EnvAt};
 ghost use Rattle.refine.specs.Contract.{Keepable, Kept};
-ghost use Rattle.bindings.specs.Contract.{Classed, interfaceRecord, Associated, Giving, FieldDone, InterfaceDone, GivenDone, EndOf, Remappable, Remapped, Recordable, Recorded};
+ghost use Rattle.bindings.specs.Contract.{Classed, interfaceRecord, Associated, Giving, FieldDone, InterfaceDone, GivenDone, Remappable, Remapped, Recordable, Recorded};
 
 const NONE: u32 = 4294967295;
 
@@ -354,20 +354,6 @@ pub fn is_given(
     }
 }
 
-// A route's end: its copy in the scope, or none.
-pub fn remap(work: &[u32], lim: Limits, st: Counts, scope: u32, id: u32) -> u32
-    requires { ⌜ Standing lim (now work) st ⌝ }
-    ensures { λ o. ⌜ EndOf (now (work .entry)) (st .charges) scope id o ⌝ }
-{
-    if id == NONE {
-        return NONE;
-    }
-    let Found::At(r) = refine::look(work, lim, st, scope, id) else {
-        return NONE;
-    };
-    journal::word(work, r, 3)
-}
-
 // The routes of a scope of which no instance is recorded yet: their ends as they are in the scope's map now.
 fn remap_routes(work: &mut [u32], lim: Limits, st: Counts, env: Env)
     requires { ⌜ Standing lim (now work) st ⌝ }
@@ -378,8 +364,8 @@ fn remap_routes(work: &mut [u32], lim: Limits, st: Counts, env: Env)
     let mut cur = wide(journal::word(work, env.place, 10));
     while 0 < cur {
         let r = cur - 1;
-        let from = remap(work, lim, st, scope, journal::word(work, r, 6));
-        let to = remap(work, lim, st, scope, journal::word(work, r, 7));
+        let from = refine::remap(work, lim, st, scope, journal::word(work, r, 6));
+        let to = refine::remap(work, lim, st, scope, journal::word(work, r, 7));
         journal::set(work, r, 10, from);
         journal::set(work, r, 11, to);
         cur = wide(journal::word(work, r, 8));

@@ -2,7 +2,7 @@
 use mathlib.Core.Path.{_≡_, refl, sym, _∙_}
 use mathlib.Core.List.{List}
 use mathlib.Core.Bool.{Bool, true, false}
-use Prim.Native.Nat.{ℕ, suc, _+_, _*_, _%_, _<_, _≤_}
+use Prim.Native.Nat.{ℕ, suc, _+_, _*_, _/_, _%_, _<_, _≤_}
 use native.Mathlib.Nat.{mod-lt}
 use native.Mathlib.Numerals.{add-one}
 use native.Mathlib.Omega.{arith}
@@ -14,9 +14,13 @@ use Rattle.journal.specs.Records.{tagMap, tagExtern, cell, Steady, Fixed
 use Rattle.journal.specs.Index.{keyed, slotOf, hit, inSlot, headed, Slotted, Headed}
 use Rattle.journal.proofs.Frame.{stays-all, steady-tag, steady-first, Stable}
 
-pub slot-law : (n x y a b : ℕ) → a ≡ x → b ≡ y → 0 < n → Slotted n x y ((a * 61 + b) % n)
+pub slot-first : (n x y b : ℕ) → x ≡ 0 → b ≡ y → 0 < n → Slotted n x y (b % n)
 unfolding slotOf
-slot-law n x y a b ea eb h = record { same = rw (ea, eb); below = mod-lt (a * 61 + b) h }
+slot-first n x y b z eb h = record { same = rw (eb, z); below = mod-lt b h }
+
+pub slot-law : (n x y a b c : ℕ) → (x ≡ 0 → ⊥) → a ≡ x → b ≡ y → c ≡ y → 0 < n → Slotted n x y ((a * 61 + b % 256 + c / 256 * 4000037) % n)
+unfolding slotOf
+slot-law n x y a b c nz ea eb ec h = record { same = rw (ea, eb, ec, ne-eqb x 0 nz); below = mod-lt (a * 61 + b % 256 + c / 256 * 4000037) h }
 
 -- ---- tags
 pub keyed-low : (t : ℕ) → keyed t ≡ true → t ≤ 2

@@ -4,7 +4,7 @@ use mathlib.Core.Path.{_≡_}
 use mathlib.Core.Bool.{Bool, true, false}
 use mathlib.Core.List.{List}
 use mathlib.Core.Option.{Option, none, some}
-use Prim.Native.Nat.{ℕ, suc, _+_, _*_, _%_, _<_, _≤_, _^_}
+use Prim.Native.Nat.{ℕ, suc, _+_, _*_, _/_, _%_, _<_, _≤_, _^_}
 use lib.ListN.{length, getD}
 use lib.Dec.{eqb, ltb}
 use Rattle.ast.specs.Choice.{choose}
@@ -19,7 +19,7 @@ abbrev pub keyed : ℕ → Bool
 keyed t = choose (eqb t tagMap) true (eqb t tagExtern)
 
 unfoldable pub slotOf : ℕ → ℕ → ℕ → ℕ
-slotOf slots x y = (x * 61 + y) % slots
+slotOf slots x y = choose (eqb x 0) y (x * 61 + y % 256 + y / 256 * 4000037) % slots
 
 -- record r has the key
 unfoldable pub hit : List ℕ → ℕ → ℕ → ℕ → ℕ → Bool

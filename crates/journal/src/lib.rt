@@ -79,11 +79,15 @@ pub fn paid(work: &mut [u32], n: usize, count: usize)
     }
 }
 
+// The slot of a key: the ids of scope 0 side by side; else 61 slots on for each scope, and far apart for each 256 ids.
 fn slot(slots: usize, x: u32, y: u32) -> usize
     requires { ⌜ 0 < slots ⌝ }
     ensures { λ r. ⌜ Slotted slots x y r ⌝ }
 {
-    (wide(x) * 61 + wide(y)) % slots
+    if x == 0 {
+        return wide(y) % slots;
+    }
+    (wide(x) * 61 + wide(y) % 256 + wide(y) / 256 * 4000037) % slots
 }
 
 fn is_keyed(tag: u32) -> bool

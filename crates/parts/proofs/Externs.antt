@@ -37,7 +37,8 @@ use Rattle.journal.proofs.Owned.{owned-enter}
 use Rattle.reading.specs.Reading.{externMapOf, externsOf}
 use Rattle.reading.specs.Fair.{Fair}
 use Rattle.reading.proofs.Lookups.{extern-lookup}
-use Rattle.reading.proofs.Nodes.{Calm, calm-same}
+use Rattle.reading.proofs.Nodes.{calm-same}
+use Rattle.reading.specs.Calm.{Calm}
 use Rattle.reading.proofs.States.{more, state-extern, externs-length}
 use Rattle.source.specs.Directory.{numberOf}
 use Rattle.refine.specs.declared.Limits.{Limits}
@@ -99,6 +100,7 @@ module _ (L : Limits) {w w′ : List ℕ} {t : Counts} (so : Sound L w t) (r : R
       record {
         mapped = λ e. absurd (omega arith);
         node = λ e. absurd (omega arith);
+        scoped = λ e. absurd (omega arith);
         instance = λ e. absurd (omega arith);
         linked = λ e. absurd (never (rw z at e));
         value = λ e q. absurd (never (rw z at e));

@@ -1,4 +1,4 @@
-pub mod Fields
+pub mod Counts
 pub mod Lending
 pub mod Externs
 pub mod Routes

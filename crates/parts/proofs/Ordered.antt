@@ -44,7 +44,7 @@ use Rattle.refine.proofs.Later.{later-standing, later-env, env-later}
 use Rattle.refine.proofs.Calculus.{start, turn, finish, step, stop, inner}
 use Rattle.parts.specs.declared.Taken.{Taken}
 use Rattle.parts.specs.Contract.{rowsOf, nodeIn, isSome, keptStatement, keptTarget, keptBinding, keptField, fieldKept, Took, Takes, Ordering}
-use Rattle.parts.proofs.Fields.{fields-at, fields-none}
+use Rattle.source.proofs.NameLaws.{fields-at, fields-none}
 use Rattle.parts.proofs.Said.{statements-at, statements-end}
 
 -- ---- a field that is kept

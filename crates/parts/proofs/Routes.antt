@@ -36,27 +36,8 @@ use Rattle.refine.specs.declared.Answer.{Answer}
 use Rattle.refine.specs.declared.Answer.the-variants.{Done, Refused}
 use Rattle.refine.specs.Sound.{Source, inputOf, Sound, Standing}
 use Rattle.refine.specs.Does.{Decode, nothing, at, resultOf, IfDone, Does}
-use Rattle.refine.specs.Contract.{Looked, Keepable, KeptAt, Kept}
-use Rattle.parts.specs.Contract.{Remapped, statementAt, Stated, Routed}
-
--- ---- an end
-module _ (L : Limits) (w : List ℕ) (t : Counts) (st : Standing L w t) (scope id : ℕ) where
-  pub end-none : id ≡ 4294967295 → Remapped (mapOf w (t .charges)) scope id 4294967295
-  end-none e = rw e
-
-  there : (id ≡ 4294967295 → ⊥) → {o : Option ℕ} → lookup (mapOf w (t .charges)) scope id ≡ o → andThen (optional id) (lookup (mapOf w (t .charges)) scope) ≡ o
-  there ne e = rw (ne-eqb id 4294967295 ne) e
-
-  module _ (some-id : id ≡ 4294967295 → ⊥) {f : Found} (x : Looked w (t .charges) scope id f) where
-    pub end-unmapped : f ≡ Nothing → Remapped (mapOf w (t .charges)) scope id 4294967295
-    end-unmapped q = sym (there some-id (x .same ∙ rw q))
-
-    -- its copy is a node, and nodes are few
-    pub end-mapped : {r : ℕ} → f ≡ At r → (v : ℕ) → v ≡ cell w r 3 → Remapped (mapOf w (t .charges)) scope id v
-    end-mapped {r} q v e =
-        let n = x .node r q in
-        let ne : v ≡ 4294967295 → ⊥ = λ z. omega (arith, n .number, n .low, n .some, st .sound .charges, st .ready .rows, count-low (tagged w tagNode) (cell w r 4 - 1)) in
-        rw (ne-eqb v 4294967295 ne) (sym (there some-id (x .same ∙ rw (q, e))))
+use Rattle.refine.specs.Contract.{EndOf, Keepable, KeptAt, Kept}
+use Rattle.parts.specs.Contract.{statementAt, Stated, Routed}
 
 -- ---- a statement's record, behind those of its handle
 module _ (w w′ : List ℕ) (t : Counts) (r : Record) (is : r .tag ≡ tagStatement) (p : Pushed w w′ (t .charges) r) where
@@ -97,7 +78,7 @@ route-keepable w c r from to h x = record { least = omega arith; most = omega ar
     never : false ≡ true → ⊥
     never y = let k : _≡_ {A = ℕ} 0 1 = cc in omega arith
 
-module _ (L : Limits) (w : List ℕ) (t : Counts) (scope : ℕ) (r : Row) (h : ℕ) (x : HandleAt w (t .charges) tagStatement h) (from to : ℕ) (f : Remapped (mapOf w (t .charges)) scope (r .f) from) (g : Remapped (mapOf w (t .charges)) scope (r .g) to) where
+module _ (L : Limits) (w : List ℕ) (t : Counts) (scope : ℕ) (r : Row) (h : ℕ) (x : HandleAt w (t .charges) tagStatement h) (from to : ℕ) (f : EndOf w (t .charges) scope (r .f) from) (g : EndOf w (t .charges) scope (r .g) to) where
   -- the definition's statement is the record's
   same-route : (e : Env) → e .scope ≡ scope → (S : Source) → Statement.Route (remapRoute (at S w t .world) (e .scope) (routeOf (r ∷ []))) ≡ statementNew (routeRecord r from to h)
   unfolding routeOf statementOf

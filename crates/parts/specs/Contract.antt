@@ -13,10 +13,7 @@ use Rattle.sheet.specs.declared.part.Part.{Part}
 use Rattle.sheet.specs.Rows.{rows}
 use Rattle.sheet.specs.Parse.{elements, optional, fieldOf, fieldsOf, routeOf, statementOf, statementsOf, bodyElementOf, nodeOf}
 use Rattle.sheet.specs.Print.{row}
-use Rattle.lookup.specs.declared.walk.Found.{Found}
-use Rattle.lookup.specs.Walk.{rowsAt, Below}
 use Rattle.lookup.specs.Lookup.{sheetOf}
-use Rattle.expansion.specs.Input.{lastField}
 use Rattle.expansion.specs.State.{Entry, lookup, _>>_, ret, mapM}
 use Rattle.expansion.specs.Charges.{chargeEach}
 use Rattle.expansion.specs.Values.{Env, Values, valueOf, src}
@@ -55,11 +52,6 @@ rowsOf root library dir slot = rows (sheetOf root library (numberOf dir slot))
 abbrev pub nodeIn : List ℕ → List ℕ → List ℕ → ℕ → ℕ → Node
 nodeIn root library dir slot row = nodeOf (drop row (rowsOf root library dir slot))
 
--- ---- the last field of a name, of the node that stands at a row
-pub record LastField (name : ℕ) (R : List Row) (node : ℕ) (x : Found) : Type 0 where
-  pub is : lastField name (nodeOf (drop node R) .fields) ≡ mapO (λ l. fieldOf l .binding) (rowsAt R x)
-  pub below : Below R x
-
 -- ---- how many elements a part has
 pub record Counted (t : Part) (R : List Row) (p n : ℕ) : Type 0 where
   pub is : n ≡ length (elements t (drop p R))
@@ -68,10 +60,6 @@ pub record Counted (t : Part) (R : List Row) (p n : ℕ) : Type 0 where
 -- ---- an extern's id in the output, of any Env of that document
 pub record Declared (L : Limits) (root library dir w : List ℕ) (t : Counts) (slot id : ℕ) (w′ : List ℕ) (a : Answer) : Type 0 where
   pub does : (D young : ℕ) (e : Env) → src e ≡ numberOf dir slot → Does (sourceOf root library D) L young number (externProto (inputOf (sourceOf root library D) L) e id) w t w′ a
-
--- ---- a route's end, as a word
-abbrev pub Remapped : List Entry → ℕ → ℕ → ℕ → Type 0
-Remapped m scope id r = optional r ≡ andThen (optional id) (lookup m scope)
 
 -- ---- one statement, behind those of a handle
 

@@ -27,27 +27,9 @@ ghost use Rattle.reading.specs.Fair.{HandleAt};
 ghost use Rattle.source.specs.Directory.{numberOf, Slot};
 ghost use Rattle.lookup.specs.Lookup.{sheetOf};
 ghost use Rattle.refine.specs.Sound.{Standing, EnvAt, envOf};
-ghost use Rattle.parts.specs.Contract.{Lent, LastField, Counted, Declared, Remapped, Routed, ExternStated, OneStating, Stating, keptStatement, fieldKept, Takes, Ordering};
+ghost use Rattle.parts.specs.Contract.{Lent, Counted, Declared, Routed, ExternStated, OneStating, Stating, keptStatement, fieldKept, Takes, Ordering};
 
 const NONE: u32 = 4294967295;
-
-// The row of the last field of a name, of the node that stands at a row.
-pub fn last_field(sheet: &[u32], node: usize, name: u32) -> Found
-    requires { ⌜ node < length (rows (now sheet)) ⌝ }
-    ensures { λ x. ⌜ LastField name (rows (now (sheet .entry))) node x ⌝ }
-{
-    let mut best = Found::Nothing;
-    let mut at = node + 1;
-    loop {
-        let Found::At(q) = walk::seek(sheet, Part::Fields, at) else {
-            return best;
-        };
-        if row::row_at(sheet, q).a == name {
-            best = Found::At(q);
-        }
-        at = q + 1;
-    }
-}
 
 // How many elements a part has from a row on.
 fn count(sheet: &[u32], part: Part, from: usize) -> usize
@@ -146,28 +128,14 @@ pub fn extern_proto<'a>(
     }
 }
 
-// A route's end: its copy in the scope, or none.
-pub fn remap(work: &[u32], lim: Limits, st: Counts, scope: u32, id: u32) -> u32
-    requires { ⌜ Standing lim (now work) st ⌝ }
-    ensures { λ r. ⌜ Remapped (mapOf (now (work .entry)) (st .charges)) scope id r ⌝ }
-{
-    if id == NONE {
-        return NONE;
-    }
-    let journal::Found::At(r) = refine::look(work, lim, st, scope, id) else {
-        return NONE;
-    };
-    journal::word(work, r, 3)
-}
-
 // The Route statement of a row, its ends remapped, behind those of a handle.
 pub fn route(work: &mut [u32], lim: Limits, st: Counts, scope: u32, r: Row, h: u32) -> Answer
     requires { ⌜ Standing lim (now work) st ⌝ }
     requires { ⌜ HandleAt (now work) (st .charges) tagStatement h ⌝ }
     ensures { λ a. ⌜ Routed lim (now (work .entry)) st scope r h (now (work .exit)) a ⌝ }
 {
-    let from = remap(work, lim, st, scope, r.f);
-    let to = remap(work, lim, st, scope, r.g);
+    let from = refine::remap(work, lim, st, scope, r.f);
+    let to = refine::remap(work, lim, st, scope, r.g);
     refine::keep(
         work,
         lim,

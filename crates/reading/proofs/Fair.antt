@@ -11,6 +11,7 @@ use Rattle.journal.specs.Records.{tagMap, tagNode, tagId, tagField, tagInterfac
 use Rattle.journal.specs.Owned.{ownedBy, lastOwned}
 use Rattle.journal.proofs.Frame.{steady-tag, steady-is, stays-all, fixed-less, last-fixed}
 use Rattle.journal.proofs.Owned.{owned-stable}
+use Rattle.reading.specs.Reading.{below}
 use Rattle.reading.specs.Fair.{HandleAt, NodeAt, listed, valued, NodeClosed, InstanceClosed, Fair}
 use Rattle.reading.proofs.Logs.{below-fixed}
 
@@ -88,10 +89,11 @@ pub unlisted-own : (t : ℕ) → tagScope ≤ t → t ≤ tagAssociation → lis
 unlisted-own t lo hi = rw (le-ltb t tagId (omega arith), lt-ltb tagStored t (omega arith), ne-eqb t tagInstance (λ e. omega arith))
 
 -- a record that is in no such list is fair
-pub fair-plain : (w : List ℕ) (c r : ℕ) → listed (cell w r 0) ≡ false → (cell w r 0 ≡ tagMap → NodeAt w r (cell w r 3) (cell w r 4)) → (cell w r 0 ≡ tagNode → NodeClosed w c r) → Fair w c r
+pub fair-plain : (w : List ℕ) (c r : ℕ) → listed (cell w r 0) ≡ false → (cell w r 0 ≡ tagMap → NodeAt w r (cell w r 3) (cell w r 4)) → (cell w r 0 ≡ tagNode → NodeClosed w c r × (cell w r 1 < below w tagScope r)) → Fair w c r
 fair-plain w c r e m n = record {
   mapped = m;
-  node = n;
+  node = λ z. n z .0;
+  scoped = λ z. n z .1;
   instance = λ z. absurd (never (sym e ∙ rw z));
   linked = λ z. absurd (never (sym e ∙ z));
   value = λ z q. absurd (never (sym e ∙ valued-listed (cell w r 0) z));
@@ -102,6 +104,7 @@ pub fair-fixed : {c : ℕ} {w w′ : List ℕ} → Fixed c w w′ → (k r : ℕ
 fair-fixed {c} {w} {w′} f k r l cl x = record {
   mapped = λ e. let z : cell w r 0 ≡ tagMap = tag-was f r tagMap l e in rw (keep tagMap z 3 (omega arith), keep tagMap z 4 (omega arith)) (node-at-fixed f (omega arith) (omega arith) (x .mapped z));
   node = λ e. cl (tag-was f r tagNode l e);
+  scoped = λ e. let z : cell w r 0 ≡ tagNode = tag-was f r tagNode l e in rw (keep tagNode z 1 (omega arith), below-fixed tagScope f r (omega arith)) (x .scoped z);
   instance = λ e. let z : cell w r 0 ≡ tagInstance = tag-was f r tagInstance l e in instance-fixed f r l z (x .instance z);
   linked = λ e.
       let z : listed (cell w r 0) ≡ true = rw (steady-tag (f .steady r l)) at e in

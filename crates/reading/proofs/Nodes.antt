@@ -18,6 +18,7 @@ use Rattle.journal.proofs.Lists.{up-same, up-span, up-one, only-here, only-othe
 use Rattle.journal.proofs.Owned.{tagged-here, tagged-other, tagged-is, tagged-stable, owned-is, owned-stable, append-fixed}
 use Rattle.reading.specs.Reading.{kept, rootRec, routeRec, associationRec, instanceRec, merged, instancesAt, nodeBy, nodeRec, nodesOf, below}
 use Rattle.reading.specs.Fair.{HandleAt, NodeClosed, AllFair}
+use Rattle.reading.specs.Calm.{EndsKept, NodeKept, Calm, Unrecorded}
 use Rattle.reading.proofs.Words.{kept-is, kept-fixed}
 use Rattle.reading.proofs.Chains.{scan-on, root-lasting, association-lasting, fields-fixed, interfaces-fixed, statements-fixed, order-fixed, fields-none, interfaces-none, statements-none, order-none}
 use Rattle.reading.proofs.Logs.{up-fixed}
@@ -26,22 +27,6 @@ use Rattle.reading.proofs.Logs.{up-fixed}
 pub nodes-length : (w : List ℕ) (c : ℕ) → length (nodesOf w c) ≡ below w tagNode c
 unfolding nodesOf
 nodes-length w c = up-count (tagged w tagNode) (nodeRec w) c
-
--- ---- what may change, besides the words that never do
--- the remapped ends of the routes of recorded instances are the same
-pub record EndsKept (c : ℕ) (w w′ : List ℕ) : Type 0 where
-  pub from : (n q : ℕ) → n < q → q < c → cell w q 0 ≡ tagInstance → cell w n 0 ≡ tagRoute → cell w n 1 ≡ cell w q 1 → cell w′ n 10 ≡ cell w n 10
-  pub to : (n q : ℕ) → n < q → q < c → cell w q 0 ≡ tagInstance → cell w n 0 ≡ tagRoute → cell w n 1 ≡ cell w q 1 → cell w′ n 11 ≡ cell w n 11
-
--- and the words of the node of record r
-pub record NodeKept (r : ℕ) (w w′ : List ℕ) : Type 0 where
-  pub keeps : (j : ℕ) → 3 ≤ j → j < 12 → cell w′ r j ≡ cell w r j
-
--- and those of each node below c
-pub record Calm (c : ℕ) (w w′ : List ℕ) : Type 0 where
-  pub fixed : Fixed c w w′
-  pub ends : EndsKept c w w′
-  pub nodes : (r : ℕ) → r < c → cell w r 0 ≡ tagNode → NodeKept r w w′
 
 -- ---- instances
 module _ {c : ℕ} {w w′ : List ℕ} (f : Fixed c w w′) (fair : AllFair w c) (ends : EndsKept c w w′) where
@@ -165,10 +150,6 @@ calm-append {w} {w′} {s} {c} {r} a = record {
   where
     apart : (n t : ℕ) → (t ≡ 10 → ⊥) → cell w n 0 ≡ t → n ≡ s → ⊥
     apart n t ne e z = ne (sym e ∙ rw z (a .scope))
-
--- no instance of scope s is recorded below c
-pub record Unrecorded (w : List ℕ) (c s : ℕ) : Type 0 where
-  pub apart : (q : ℕ) → q < c → cell w q 0 ≡ tagInstance → cell w q 1 ≡ s → ⊥
 
 -- a remapped end of a route of such a scope
 pub calm-end : {c : ℕ} {w w′ : List ℕ} {n j v : ℕ} → SetWord w w′ n j v → 10 ≤ j → j < 12 → cell w n 0 ≡ tagRoute → Unrecorded w c (cell w n 1) → Calm c w w′

@@ -21,7 +21,8 @@ use Rattle.reading.specs.Fair.{AllFair}
 use Rattle.reading.proofs.Words.{kept-is, kept-fixed, Lasting}
 use Rattle.reading.proofs.Chains.{association-lasting}
 use Rattle.reading.proofs.Logs.{up-stays, down-stays, up-new, down-new}
-use Rattle.reading.proofs.Nodes.{Calm, nodes-stays, nodes-new}
+use Rattle.reading.proofs.Nodes.{nodes-stays, nodes-new}
+use Rattle.reading.specs.Calm.{Calm}
 
 -- ---- what each log reads of a record lasts
 module _ {r : ℕ} {w w′ : List ℕ} (f : Fixed (suc r) w w′) where

@@ -48,6 +48,7 @@ pub record InstanceClosed (w : List ℕ) (r : ℕ) : Type 0 where
 pub record Fair (w : List ℕ) (c r : ℕ) : Type 0 where
   pub mapped : cell w r 0 ≡ tagMap → NodeAt w r (cell w r 3) (cell w r 4)
   pub node : cell w r 0 ≡ tagNode → NodeClosed w c r
+  pub scoped : cell w r 0 ≡ tagNode → cell w r 1 < below w tagScope r
   pub instance : cell w r 0 ≡ tagInstance → InstanceClosed w r
   pub linked : listed (cell w r 0) ≡ true → HandleAt w r (cell w r 0) (cell w r 8)
   pub value : valued (cell w r 0) ≡ true → cell w r 6 ≡ 2 → HandleAt w r tagId (cell w r 7)

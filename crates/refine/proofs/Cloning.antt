@@ -17,7 +17,8 @@ use Rattle.reading.specs.Fair.{HandleAt, Fair, Walkable}
 use Rattle.reading.proofs.Chains.{value-fixed}
 use Rattle.reading.proofs.Fair.{fair-plain}
 use Rattle.reading.proofs.Logs.{below-stays}
-use Rattle.reading.proofs.Nodes.{Calm, calm-same}
+use Rattle.reading.proofs.Nodes.{calm-same}
+use Rattle.reading.specs.Calm.{Calm}
 use Rattle.reading.proofs.States.{Silent, more, state-silent}
 use Rattle.reading.proofs.Walks.{walkable}
 use Rattle.refine.specs.declared.Limits.{Limits}

@@ -17,7 +17,8 @@ use Rattle.reading.specs.Reading.{nodeBy, nodeRec, nodesOf, below}
 use Rattle.reading.specs.Fair.{HandleAt, NodeAt, NodeClosed}
 use Rattle.reading.proofs.Fair.{handle-none, handle-fixed, fair-fixed, closed-fixed}
 use Rattle.reading.proofs.Logs.{below-fixed}
-use Rattle.reading.proofs.Nodes.{EndsKept, node-same, nodes-patch}
+use Rattle.reading.proofs.Nodes.{node-same, nodes-patch}
+use Rattle.reading.specs.Calm.{EndsKept}
 use Rattle.reading.proofs.States.{state-patch}
 use Rattle.refine.specs.declared.Limits.{Limits}
 use Rattle.refine.specs.declared.Counts.{Counts}

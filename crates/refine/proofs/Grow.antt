@@ -15,7 +15,7 @@ use Rattle.reading.specs.Reading.{below}
 use Rattle.reading.specs.Fair.{Fair, AllFair}
 use Rattle.reading.proofs.Fair.{fair-fixed, closed-fixed}
 use Rattle.reading.proofs.Logs.{below-stays, below-new}
-use Rattle.reading.proofs.Nodes.{Calm}
+use Rattle.reading.specs.Calm.{Calm}
 use Rattle.refine.specs.declared.Limits.{Limits}
 use Rattle.refine.specs.declared.Counts.{Counts}
 use Rattle.refine.specs.Sound.{headsAt, Sound, OfBody, Later}

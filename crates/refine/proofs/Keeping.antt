@@ -16,7 +16,8 @@ use Rattle.reading.specs.Reading.{idsAt, fieldsAt, fieldNew, interfacesAt, inte
 use Rattle.reading.specs.Fair.{HandleAt, valued, Fair}
 use Rattle.reading.proofs.Chains.{ids-new, fields-new, interfaces-new, statements-new, order-new, values-new}
 use Rattle.reading.proofs.Fair.{handle-fixed, handle-new}
-use Rattle.reading.proofs.Nodes.{Calm, calm-same}
+use Rattle.reading.proofs.Nodes.{calm-same}
+use Rattle.reading.specs.Calm.{Calm}
 use Rattle.reading.proofs.States.{Silent, state-one}
 use Rattle.refine.specs.declared.Limits.{Limits}
 use Rattle.refine.specs.declared.Counts.{Counts}
@@ -58,6 +59,7 @@ module _ (L : Limits) (w : List ℕ) (t : Counts) (r : Record) (st : Standing L 
   fair = record {
     mapped = λ e. absurd (omega (arith, p .holds .at0, k .least));
     node = λ e. absurd (omega (arith, p .holds .at0, k .least));
+    scoped = λ e. absurd (omega (arith, p .holds .at0, k .least));
     instance = λ e. absurd (omega (arith, p .holds .at0, k .most));
     linked = λ e. rw (p .holds .at0, p .holds .at8) (handle-fixed (calm .fixed) (omega arith) (omega arith) (k .before));
     value = λ e q. rw (p .holds .at7) (handle-fixed (calm .fixed) (omega arith) (omega arith) (k .value (rw (p .holds .at0) at e) (sym (p .holds .at6) ∙ q)));

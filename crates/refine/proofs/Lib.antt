@@ -12,3 +12,4 @@ pub mod Looking
 pub mod Filling
 pub mod Walking
 pub mod Cloning
+pub mod Ends

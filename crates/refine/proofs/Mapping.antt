@@ -14,7 +14,8 @@ use Rattle.journal.specs.Index.{slotOf, inSlot, linked, Entered}
 use Rattle.journal.proofs.Owned.{owned-enter}
 use Rattle.reading.specs.Fair.{NodeAt, Fair}
 use Rattle.reading.proofs.Fair.{fair-plain, node-at-fixed}
-use Rattle.reading.proofs.Nodes.{Calm, calm-same}
+use Rattle.reading.proofs.Nodes.{calm-same}
+use Rattle.reading.specs.Calm.{Calm}
 use Rattle.reading.proofs.States.{state-map}
 use Rattle.refine.specs.declared.Limits.{Limits}
 use Rattle.refine.specs.declared.Counts.{Counts}

@@ -28,7 +28,8 @@ use Rattle.reading.proofs.Words.{kept-is}
 use Rattle.reading.proofs.Chains.{values-fixed}
 use Rattle.reading.proofs.Fair.{fair-plain, handle-fixed}
 use Rattle.reading.proofs.Logs.{below-fixed}
-use Rattle.reading.proofs.Nodes.{Calm, calm-same, Unrecorded}
+use Rattle.reading.proofs.Nodes.{calm-same}
+use Rattle.reading.specs.Calm.{Calm, Unrecorded}
 use Rattle.reading.proofs.States.{scopes-length, state-scope}
 use Rattle.refine.specs.declared.Limits.{Limits}
 use Rattle.refine.specs.declared.Counts.{Counts}

@@ -21,7 +21,8 @@ use Rattle.reading.proofs.Words.{kept-is, Lasting}
 use Rattle.reading.proofs.Chains.{root-lasting, bodyRoute-lasting}
 use Rattle.reading.proofs.Fair.{fair-plain, unlisted-own}
 use Rattle.reading.proofs.Logs.{up-new, up-stays}
-use Rattle.reading.proofs.Nodes.{Calm, calm-append}
+use Rattle.reading.proofs.Nodes.{calm-append}
+use Rattle.reading.specs.Calm.{Calm}
 use Rattle.reading.proofs.States.{state-one, state-association}
 use Rattle.refine.specs.declared.Limits.{Limits}
 use Rattle.refine.specs.declared.Counts.{Counts}

@@ -18,22 +18,23 @@ use Rattle.journal.specs.Records.{tagExtern, tagNode, tagScope, cell, Pushed}
 use Rattle.journal.specs.Index.{Enterable, Entered}
 use Rattle.journal.proofs.Index.{index-push}
 use Rattle.journal.proofs.Owned.{owned-push}
-use Rattle.reading.specs.Reading.{nodeRec, nodesOf, ledgerOf}
+use Rattle.reading.specs.Reading.{nodeRec, nodesOf, ledgerOf, below}
 use Rattle.reading.specs.Fair.{NodeAt, NodeClosed, Fair}
 use Rattle.reading.proofs.Fair.{fair-plain, handle-none}
 use Rattle.reading.proofs.Logs.{below-fixed}
-use Rattle.reading.proofs.Nodes.{Calm, calm-same, nodes-length, node-blank}
+use Rattle.reading.proofs.Nodes.{calm-same, nodes-length, node-blank}
+use Rattle.reading.specs.Calm.{Calm}
 use Rattle.reading.proofs.States.{withLedger, state-node}
 use Rattle.refine.specs.declared.Limits.{Limits}
 use Rattle.refine.specs.declared.Counts.{Counts}
 use Rattle.refine.specs.declared.Env as code
 use Rattle.refine.specs.declared.Answer.{Answer}
 use Rattle.refine.specs.declared.Answer.the-variants.{Done, Refused}
-use Rattle.refine.specs.Sound.{Source, inputOf, headsAt, Sound, Standing, OfBody, Later, envOf}
+use Rattle.refine.specs.Sound.{Source, inputOf, headsAt, Sound, Standing, OfBody, Later, EnvAt, envOf}
 use Rattle.refine.specs.Does.{number, at}
 use Rattle.refine.specs.Contract.{entryOf, blankOf, Reserved}
 use Rattle.refine.proofs.Grow.{grown, sound-more, later-more, alone, count-other, count-new}
-use Rattle.refine.proofs.Later.{later-trans, later-node}
+use Rattle.refine.proofs.Later.{env-known, later-trans, later-node}
 use Rattle.refine.proofs.Charges.{charge-full, charge-some}
 use Rattle.refine.proofs.Keeping.{not-of-body}
 use Rattle.refine.proofs.Mapping.{entry-later, entry-state}
@@ -58,7 +59,7 @@ module _ (I : Input) (env : Env) (i : ℕ) (st : State) where
     reserve-some l = rw (lt-ltb (length (st .nodes)) (I .limits .maxNodes) h, charge-some I st (omega arith), charge-some I (oneMore st) (omega arith))
 
 -- ---- the code
-module _ (L : Limits) (w : List ℕ) (t : Counts) (e : code.Env) (id : ℕ) (st : Standing L w t) where
+module _ (L : Limits) (w : List ℕ) (t : Counts) (e : code.Env) (id : ℕ) (st : Standing L w t) (env : EnvAt w (t .charges) e) where
   abbrev c : ℕ
   c = t .charges
 
@@ -97,13 +98,16 @@ module _ (L : Limits) (w : List ℕ) (t : Counts) (e : code.Env) (id : ℕ) (st 
         instance = rw (p .holds .at11) (handle-none w1 (c + 1) 14);
       }
 
+      known : cell w1 c 1 < below w1 tagScope c
+      known = rw (p .holds .at1, below-fixed tagScope (calm .fixed) c (omega arith)) (env-known (so .owned) env)
+
       sound : Sound L w1 t1
       sound =
           sound-more so calm 1 (t .nodes + 1) (t .scopes) (t .externs) (omega arith)
           (count-new (calm .fixed) put (p .holds) tagNode (so .nodes) refl)
           (count-other (calm .fixed) put (p .holds) tagScope (so .scopes) (λ z. omega arith))
           (count-other (calm .fixed) put (p .holds) tagExtern (so .externs) (λ z. omega arith))
-          (alone c (Fair w1 (c + 1)) (fair-plain w1 (c + 1) c (rw (p .holds .at0)) (λ z. absurd (omega (arith, p .holds .at0))) (λ z. closed)))
+          (alone c (Fair w1 (c + 1)) (fair-plain w1 (c + 1) c (rw (p .holds .at0)) (λ z. absurd (omega (arith, p .holds .at0))) (λ z. (closed, known))))
           (index-push p (omega arith) refl (so .index))
           (owned-push p (λ a b. omega arith) (so .owned))
 

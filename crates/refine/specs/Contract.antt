@@ -4,7 +4,8 @@ use mathlib.Core.Bool.{true}
 use mathlib.Core.List.{List}
 use Prim.Native.Nat.{ℕ, _+_, _*_, _≤_, _<_}
 use lib.ListN.{length}
-use Rattle.ast.specs.Choice.{mapO}
+use Rattle.ast.specs.Choice.{mapO, andThen}
+use Rattle.sheet.specs.Parse.{optional}
 use Rattle.expansion.specs.State.{ok, _>>_, lookup}
 use Rattle.expansion.specs.Charges.{charge}
 use Rattle.expansion.specs.Values.{valueOf, clone}
@@ -111,6 +112,10 @@ pub record Looked (w : List ℕ) (c scope id : ℕ) (f : Found) : Type 0 where
   pub same : lookup (mapOf w c) scope id ≡ mapO (λ r. cell w r 3) (foundOf f)
   pub node : (r : ℕ) → f ≡ At r → NodeAt w c (cell w r 3) (cell w r 4)
   pub low : (r : ℕ) → f ≡ At r → r < c
+
+-- ---- o is what a route's end is remapped to: its copy in the scope, or none
+abbrev pub EndOf : List ℕ → ℕ → ℕ → ℕ → ℕ → Type 0
+EndOf w c scope id o = optional o ≡ andThen (optional id) (lookup (mapOf w c) scope)
 
 -- ---- a node gets its contents: its record is written again
 abbrev pub contentsOf : List ℕ → ℕ → ℕ → ℕ → ℕ → ℕ → ℕ → ℕ → ℕ → ℕ → Record

@@ -8,8 +8,8 @@ ghost use lib.ListN.{length};
 ghost use Rattle.journal.specs.Records.{tagId, tagStored, Wide, Pushed};
 ghost use Rattle.reading.specs.Reading.{idsAt};
 ghost use Rattle.reading.specs.Fair.{HandleAt, NodeAt, Walkable};
-ghost use Rattle.refine.specs.Sound.{Standing};
-ghost use Rattle.refine.specs.Contract.{charged as counted, Keepable, Kept, Ownership, Owning, Mapped, Reserved, Opened, Looked, contentsOf, Fillable, Valued, Cloned};
+ghost use Rattle.refine.specs.Sound.{Standing, EnvAt};
+ghost use Rattle.refine.specs.Contract.{charged as counted, Keepable, Kept, Ownership, Owning, Mapped, Reserved, Opened, Looked, EndOf, contentsOf, Fillable, Valued, Cloned};
 
 const NONE: u32 = 4294967295;
 
@@ -134,15 +134,15 @@ pub fn map(
     requires { ⌜ NodeAt (now work) (st .charges) out place ⌝ }
     ensures { λ a. ⌜ Mapped lim (now (work .entry)) st scope id out place (now (work .exit)) a ⌝ }
 {
-    let c = st.charges;
-    if lim.rows <= c {
+    let at = st.charges;
+    if lim.rows <= at {
         return too_many();
     }
     journal::enter(
         work,
         lim.rows * 12,
         lim.slots,
-        c,
+        at,
         Record {
             tag: 1,
             a: scope,
@@ -168,6 +168,7 @@ pub fn map(
 // A new node, blank, and its map entry: its id, and its record's place with one added.
 pub fn reserve(work: &mut [u32], lim: Limits, st: Counts, env: Env, id: u32) -> Answer
     requires { ⌜ Standing lim (now work) st ⌝ }
+    requires { ⌜ EnvAt (now work) (st .charges) env ⌝ }
     ensures { λ a. ⌜ Reserved lim (now (work .entry)) st env id (now (work .exit)) a ⌝ }
 {
     let c = st.charges;
@@ -291,6 +292,20 @@ pub fn look(work: &[u32], lim: Limits, st: Counts, scope: u32, id: u32) -> Found
     ensures { λ f. ⌜ Looked (now (work .entry)) (st .charges) scope id f ⌝ }
 {
     journal::find(work, lim.rows * 12, lim.slots, st.charges, 1, scope, id)
+}
+
+// A route's end: its copy in the scope, or none.
+pub fn remap(work: &[u32], lim: Limits, st: Counts, scope: u32, id: u32) -> u32
+    requires { ⌜ Standing lim (now work) st ⌝ }
+    ensures { λ o. ⌜ EndOf (now (work .entry)) (st .charges) scope id o ⌝ }
+{
+    if id == NONE {
+        return NONE;
+    }
+    let Found::At(r) = look(work, lim, st, scope, id) else {
+        return NONE;
+    };
+    journal::word(work, r, 3)
 }
 
 // The contents of the node whose record is before `place`.

@@ -1,5 +1,6 @@
 pub mod WordLaws
 pub mod DirectoryLaws
+pub mod NameLaws
 pub mod GroupLaws
 pub mod PickedLaws
 pub mod SourcedLaws

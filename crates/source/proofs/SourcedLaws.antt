@@ -1,5 +1,5 @@
 -- What the lookups rest on: that it stays where the words of the region do, and how the cache of picks grows.
-use mathlib.Core.Path.{_≡_, sym, _∙_}
+use mathlib.Core.Path.{_≡_, sym, ap, _∙_}
 use mathlib.Core.List.{List, _++_}
 use mathlib.Core.Option.{Option}
 use Prim.Native.Nat.{ℕ, _+_, _-_, _*_, _≤_, _<_}
@@ -10,6 +10,7 @@ use lib.Seq.{getD-set-same, getD-set-other}
 use borrow.Author.Tests.{ne-eqb}
 use Rattle.sheet.specs.Rows.{rows}
 use Rattle.sheet.specs.Parse.{documentOf, filesOf}
+use Rattle.lookup.specs.declared.walk.Found.{Found}
 use Rattle.lookup.specs.Index.{Filled}
 use Rattle.lookup.specs.Lookup.{sheetOf}
 use Rattle.picks.specs.declared.table.Table.{Table}
@@ -17,11 +18,13 @@ use Rattle.picks.specs.Picks.{Pick, pickAt}
 use Rattle.source.specs.declared.instance.Target.{Target}
 use Rattle.source.specs.declared.instance.Target.the-variants.{Plain, Of}
 use Rattle.source.specs.Words.{Outside}
-use Rattle.source.specs.Directory.{size, numberOf, rowOf, countOf, strideOf, cacheOf, cachedOf, fromOf, endOf, groupPart, groupOf, placeOf, filledOf, Slot, Copy, Directory, HeldAt}
+use Rattle.source.specs.Directory.{size, numberOf, rowOf, countOf, strideOf, cacheOf, cachedOf, fromOf, endOf, namesOf, spreadOf, groupPart, groupOf, placeOf, filledOf, Slot, Copy, Directory, HeldAt}
 use Rattle.source.specs.Instance.{Targeted, targetAt, Small}
+use Rattle.source.specs.Names.{LastField, NameTable, Tabled}
 use Rattle.source.specs.Sourced.{Sourced, Region, Remembered}
 use Rattle.source.proofs.WordLaws.{stays, stays-front, stays-set, stays-on, stays-wide}
 use Rattle.source.proofs.DirectoryLaws.{slot-on, copy-on, slot-back, directory-kept}
+use Rattle.source.proofs.NameLaws.{listed-on, names-set}
 use Rattle.source.proofs.GroupLaws.{held-filled, held-on, held-dir}
 
 module _ {root library dir w : List ℕ} (s : Sourced root library dir w) where
@@ -41,6 +44,7 @@ module _ {root library dir w : List ℕ} (s : Sourced root library dir w) where
     directory = s .directory;
     within = omega (arith, r .end);
     held = λ u g h x. held-on (s .held u g h x) (omega arith) (omega arith) (λ k a b. same k (omega (arith, r .from)) (omega (arith, r .end, s .cache .upto)));
+    names = record { from = s .names .from; listed = listed-on (s .names .listed) (λ k a b. same k (omega (arith, r .from, s .names .from)) (omega (arith, r .end, s .cache .upto))) };
     cache = record {
       from = s .cache .from;
       upto = s .cache .upto;
@@ -56,6 +60,35 @@ module _ {root library dir w : List ℕ} (s : Sourced root library dir w) where
 
     pub filled-at : Filled (groupPart g) (rows (sheetOf root library (numberOf dir u))) (rowOf dir u + 1) (strideOf dir) (take (length w - placeOf dir u g) (drop (placeOf dir u g) w)) (filledOf dir u g)
     filled-at = held-filled (s .held u g h x) (omega (arith, s .cache .upto, s .within))
+
+-- ---- the last field of a name
+
+module _ {root library dir w : List ℕ} (s : Sourced root library dir w) (slot : ℕ) {doc : ℕ} {sheet : List ℕ} (isSheet : sheet ≡ sheetOf root library doc) (isDoc : doc ≡ numberOf dir slot) where
+  sheet-is : sheet ≡ sheetOf root library (numberOf dir slot)
+  sheet-is = isSheet ∙ ap (sheetOf root library) isDoc
+
+  pub node-below : {n : ℕ} → n < length (rows (sheetOf root library (numberOf dir slot))) → n < length (rows sheet)
+  node-below h = rw sheet-is h
+
+  pub last-of : {n m : ℕ} {x : Found} → LastField m (rows sheet) n x → LastField m (rows (sheetOf root library (numberOf dir slot))) n x
+  last-of l = rw sheet-is at l
+
+  -- of the root, by a node's table
+  module _ (zero : slot ≡ 0) where
+    sheet-root : sheet ≡ root
+    sheet-root = sheet-is ∙ rw (zero, s .directory .number)
+
+    pub table-at : {i p c h : ℕ} → p ≡ namesOf dir → c ≡ spreadOf dir → i < c → h ≡ getD w (p + i) 0 → 0 < h → Tabled (rows sheet) w (namesOf dir + spreadOf dir) (cacheOf dir) h
+    table-at {i} {p} {c} {h} a b g e z =
+        let y : h ≡ getD w (namesOf dir + i) 0 = rw a at e in
+        rw (sheet-root, y) (s .names .listed .table i (omega (arith, b)) (omega (arith, y)))
+
+  module _ {lo h : ℕ} (t : Tabled (rows sheet) w lo (cacheOf dir) h) where
+    pub table-within : h + 2 + getD w (h + 1) 0 ≤ length w
+    table-within = omega (arith, t .upto, s .cache .upto, s .within)
+
+    pub table-tells : {n x span : ℕ} → x ≡ getD w h 0 → x ≡ n → span ≡ getD w (h + 1) 0 → NameTable (rows sheet) n span w (h + 2)
+    table-tells {n = n} a b c = let y : getD w h 0 ≡ n = sym a ∙ b in let z = sym c in rw (y, z) at (t .tells)
 
 -- ---- a target in two words
 
@@ -119,6 +152,7 @@ module _ {root library dir w : List ℕ} (s : Sourced root library dir w) {w₁ 
     directory = directory-kept (s .directory) outside;
     within = omega (arith, one .above 199 (omega arith), s .within, p .long, q .long);
     held = held′;
+    names = names-set (s .names) (one .above 198 (omega arith)) (one .below 196 (omega arith)) (one .above 590 (omega arith)) (one .above 591 (omega arith)) (λ k a b. before k (omega (arith, s .names .from)) (omega arith));
     cache = record {
       from = omega (arith, one .above 198 (omega arith), one .below 196 (omega arith), s .cache .from);
       upto = omega (arith, one .above 199 (omega arith), one .below 196 (omega arith), cached);

@@ -16,7 +16,7 @@ use Rattle.picks.specs.Chosen.{Final}
 
 -- how many words it has at least
 abbrev pub size : ℕ
-size = 590
+size = 592
 
 -- a slot's document: its number, and the row where it begins
 abbrev pub numberOf : List ℕ → ℕ → ℕ
@@ -43,7 +43,14 @@ cacheOf dir = getD dir 196 0
 abbrev pub cachedOf : List ℕ → ℕ
 cachedOf dir = getD dir 197 0
 
--- the region of work that indexes and cache stand in
+-- where the list of the tables of names begins, and how many places it has
+abbrev pub namesOf : List ℕ → ℕ
+namesOf dir = getD dir 590 0
+
+abbrev pub spreadOf : List ℕ → ℕ
+spreadOf dir = getD dir 591 0
+
+-- the region of work that indexes, tables of names and cache stand in
 abbrev pub fromOf : List ℕ → ℕ
 fromOf dir = getD dir 198 0
 

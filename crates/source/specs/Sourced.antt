@@ -1,4 +1,4 @@
--- What the lookups rest on: the directory, the indexes and the cache of picks.
+-- What the lookups rest on: the directory, the indexes, the tables of names and the cache of picks.
 use mathlib.Core.Path.{_≡_}
 use mathlib.Core.List.{List}
 use Prim.Native.Nat.{ℕ, _+_, _*_, _≤_, _<_}
@@ -9,6 +9,7 @@ use Rattle.picks.specs.Picks.{pickAt}
 use Rattle.source.specs.Words.{Outside}
 use Rattle.source.specs.Directory.{size, countOf, fromOf, endOf, cacheOf, cachedOf, groupOf, Slot, Directory, HeldAt}
 use Rattle.source.specs.Instance.{Targeted, targetAt}
+use Rattle.source.specs.Names.{Names}
 
 -- the first picks of the root's externs, in w
 pub record Cached (root library dir w : List ℕ) : Type 0 where
@@ -21,6 +22,7 @@ pub record Sourced (root library dir w : List ℕ) : Type 0 where
   pub directory : Directory root library dir
   pub within : endOf dir ≤ length w
   pub held : (s g : ℕ) → g < 3 → Slot dir s → HeldAt root library dir w (fromOf dir) (cacheOf dir) s g
+  pub names : Names root dir w
   pub cache : Cached root library dir w
 
 -- the words of w that a directory speaks of

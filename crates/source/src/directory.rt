@@ -1,6 +1,7 @@
-// The directory, 590 lent words: 0 the number of each of the 65 slots' documents, 65 the row where it begins, 130 the 64
+// The directory, 592 lent words: 0 the number of each of the 65 slots' documents, 65 the row where it begins, 130 the 64
 // bases and 194 their count, 195 the stride of the indexes, 196 where the cache of picks begins and 197 how many it has,
-// 198 where the region of work begins and 199 where it ends, 200 for each slot and group the place and size of its index.
+// 198 where the region of work begins and 199 where it ends, 200 for each slot and group the place and size of its index,
+// 590 where the list of the tables of names begins and 591 how many places it has.
 use picks::table::Table;
 ghost use mathlib.Core.Path.{_≡_};
 ghost use Prim.Native.Nat.{_*_, _≤_, _<_};

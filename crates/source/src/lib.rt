@@ -4,18 +4,23 @@
 pub mod directory;
 pub mod group;
 pub mod instance;
+pub mod names;
 
 use ast::ExternProtoId;
 use ast::NodeId;
 use ast::ProtoId;
+use directory::wide;
 use instance::Target;
 use lookup::walk::Found;
+ghost use Prim.Native.Nat.{_<_};
+ghost use lib.ListN.{length};
 ghost use Rattle.ast.specs.Lookups.{nodeAt, protoAt, externProtoAt};
 ghost use Rattle.sheet.specs.Rows.{rows};
 ghost use Rattle.sheet.specs.Parse.{nodeOf, protoOf, externProtoOf, documentOf, filesOf};
 ghost use Rattle.lookup.specs.Lookup.{documentsOf, sheetOf, Located};
 ghost use Rattle.source.specs.Directory.{numberOf, Slot};
 ghost use Rattle.source.specs.Instance.{originFrom, instanceIn, Targeted};
+ghost use Rattle.source.specs.Names.{LastField};
 ghost use Rattle.source.specs.Sourced.{Sourced, Fit, Opened, Prepared};
 
 // Writes the directory of the documents: the words before the region are scratch.
@@ -37,8 +42,8 @@ fn write_directory<'a>(
     dir[199] = (at + len) as u32;
 }
 
-// Writes the directory, and to the words [at, at + len) of work the indexes and the cache of picks. The words before them
-// are scratch; those after them stay.
+// Writes the directory, and to the words [at, at + len) of work the indexes, the tables of names and the cache of picks.
+// The words before them are scratch; those after them stay.
 pub fn prepare<'a>(
     root: &'a [u32],
     library: &'a [u32],
@@ -51,7 +56,10 @@ pub fn prepare<'a>(
     ensures { λ _. ⌜ Prepared (now (root .entry)) (now (library .entry)) (now (work .entry)) (now (work .exit)) at len (now (dir .exit)) ⌝ }
 {
     write_directory(root, library, work, at, len, dir);
-    let next = group::index_all(root, library, dir, work, at, at + len);
+    let end = at + len;
+    let indexed = group::index_all(root, library, dir, work, at, end);
+    let half = (end - indexed) / 2;
+    let next = names::list(root, dir, work, indexed, indexed + half);
     dir[196] = next as u32;
     dir[197] = 0;
     instance::remember(root, library, dir, work);
@@ -124,4 +132,32 @@ pub fn target<'a>(
         }
     }
     Target::Plain
+}
+
+// The row of the last field of a name, of the node that stands at a row of a slot's document.
+pub fn last_field<'a>(
+    root: &'a [u32],
+    library: &'a [u32],
+    dir: &[u32],
+    work: &[u32],
+    slot: u32,
+    node: usize,
+    name: u32,
+) -> Found
+    requires { ⌜ Sourced (now root) (now library) (now dir) (now work) × Slot (now dir) slot × (node < length (rows (sheetOf (now root) (now library) (numberOf (now dir) slot)))) ⌝ }
+    ensures { λ x. ⌜ LastField name (rows (sheetOf (now (root .entry)) (now (library .entry)) (numberOf (now (dir .entry)) slot))) node x ⌝ }
+{
+    let sheet = lookup::rows::select(root, library, directory::number(dir, slot));
+    let i = node / 16;
+    if slot == 0 {
+        if i < wide(dir[591]) {
+            let at = wide(work[wide(dir[590]) + i]);
+            if 0 < at {
+                if wide(work[at]) == node {
+                    return names::named(sheet, work, at + 2, wide(work[at + 1]), node, name);
+                }
+            }
+        }
+    }
+    names::walked(sheet, node, name)
 }

@@ -10,7 +10,7 @@ use lib.ListN.{length}
 use Rattle.sheet.specs.Rows.{rows}
 use Rattle.sheet.proofs.RowLaws.{rows-length}
 use Rattle.lookup.proofs.WalkLaws.{stands, missing}
-use Rattle.parts.proofs.Fields.{Counting, count-start, count-end, count-more}
+use Rattle.parts.proofs.Counts.{Counting, count-start, count-end, count-more}
 use native.Mathlib.Omega.{arith}
 use borrow.Author.Needs.{needs}
 

@@ -4,8 +4,8 @@ use Rattle.parts.proofs.route.Statement.{statement}
 use Rattle.parts.proofs.route.Tie as tie
 use Rattle.parts.proofs.route.Reads as reads
 use Rattle.parts.proofs.route.Lts as lts
-use Rattle.parts.proofs.remap.Reads as remap-reads
 use Rattle.refine.proofs.keep.Reads as keep-reads
+use Rattle.refine.proofs.remap.Reads as remap-reads
 use Rattle.parts.proofs.Routes.{route-keepable, route-law}
 
 remap-requires : tie.Need-remap-requires

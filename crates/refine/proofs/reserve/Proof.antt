@@ -14,7 +14,7 @@ wide-requires : tie.Need-wide-requires
 wide-requires c κs = search needs
 
 returns : tie.Need-returns
-returns c = reserve-most _ _ _ _ _ (c .before .before .before .before .pre) _ (c .before .before .wide .ensures .same) (c .if1 .taken)
+returns c = reserve-most _ _ _ _ _ (c .before .before .before .before .pre .0) (c .before .before .before .before .pre .1) _ (c .before .before .wide .ensures .same) (c .if1 .taken)
 
 sub-if2 : tie.Need-sub-if2
 sub-if2 c = search needs
@@ -23,7 +23,7 @@ too-many-requires : tie.Need-too-many-requires
 too-many-requires c κs = search needs
 
 returns-2 : tie.Need-returns-2
-returns-2 c = reserve-full _ _ _ _ _ (c .before .before .before .before .before .before .before .pre) _ (c .before .before .before .before .before .wide .ensures .same) (c .before .before .before .if1 .left) (c .before .if2 .taken) _ (c .too-many .ensures)
+returns-2 c = reserve-full _ _ _ _ _ (c .before .before .before .before .before .before .before .pre .0) (c .before .before .before .before .before .before .before .pre .1) _ (c .before .before .before .before .before .wide .ensures .same) (c .before .before .before .if1 .left) (c .before .if2 .taken) _ (c .too-many .ensures)
 
 push-requires : tie.Need-push-requires
 push-requires c κs = search needs
@@ -41,7 +41,7 @@ add-enter : tie.Need-add-enter
 add-enter c = search needs
 
 enter-requires : tie.Need-enter-requires
-enter-requires c κs = reserve-enter _ _ _ (c .before .before .before .before .before .before .before .before .before .before .before .before .args .env) _ (c .before .before .before .before .before .before .before .before .before .before .before .before .pre) _ (c .before .before .before .before .before .before .before .before .before .before .wide .ensures .same) (c .before .before .before .before .before .before .before .before .if1 .left) (c .before .before .before .before .before .before .if2 .left) _ (c .before .before .before .before .push .kept .0) (c .before .before .before .before .push .ensures)
+enter-requires c κs = reserve-enter _ _ _ (c .before .before .before .before .before .before .before .before .before .before .before .before .args .env) _ (c .before .before .before .before .before .before .before .before .before .before .before .before .pre .0) (c .before .before .before .before .before .before .before .before .before .before .before .before .pre .1) _ (c .before .before .before .before .before .before .before .before .before .before .wide .ensures .same) (c .before .before .before .before .before .before .before .before .if1 .left) (c .before .before .before .before .before .before .if2 .left) _ (c .before .before .before .before .push .kept .0) (c .before .before .before .before .push .ensures)
 
 add-t20 : tie.Need-add-t20
 add-t20 c = search needs
@@ -53,7 +53,7 @@ same-length : tie.Need-same-length
 same-length c = search needs
 
 returns-3 : tie.Need-returns-3
-returns-3 c = reserve-done _ _ _ _ _ (c .before .before .before .before .before .before .before .before .before .before .before .before .before .before .before .pre) _ (c .before .before .before .before .before .before .before .before .before .before .before .before .before .wide .ensures .same) (c .before .before .before .before .before .before .before .before .before .before .before .if1 .left) (c .before .before .before .before .before .before .before .before .before .if2 .left) _ (c .before .before .before .before .before .before .before .push .kept .0) (c .before .before .before .before .before .before .before .push .ensures) _ (c .before .before .enter .kept .0) (c .before .before .enter .ensures)
+returns-3 c = reserve-done _ _ _ _ _ (c .before .before .before .before .before .before .before .before .before .before .before .before .before .before .before .pre .0) (c .before .before .before .before .before .before .before .before .before .before .before .before .before .before .before .pre .1) _ (c .before .before .before .before .before .before .before .before .before .before .before .before .before .wide .ensures .same) (c .before .before .before .before .before .before .before .before .before .before .before .if1 .left) (c .before .before .before .before .before .before .before .before .before .if2 .left) _ (c .before .before .before .before .before .before .before .push .kept .0) (c .before .before .before .before .before .before .before .push .ensures) _ (c .before .before .enter .kept .0) (c .before .before .enter .ensures)
 
 pub reserve-spec : {M : Type 1} → statement M
 reserve-spec =

@@ -6,6 +6,7 @@ use Rattle.source.proofs.prepare.Reads as reads
 use Rattle.source.proofs.prepare.Lts as lts
 use Rattle.source.proofs.group.index_all.Reads as index-all-reads
 use Rattle.source.proofs.instance.remember.Reads as remember-reads
+use Rattle.source.proofs.names.list.Reads as list-reads
 use Rattle.source.proofs.write_directory.Reads as write-directory-reads
 use mathlib.Core.Path.{_∙_}
 use lib.ListN.{length-set}
@@ -15,40 +16,52 @@ use native.Mathlib.Omega.{arith}
 write-directory-requires : tie.Need-write-directory-requires
 write-directory-requires c κs = c .before .before .before .before .before .before .pre
 
-add-index-all : tie.Need-add-index-all
-add-index-all c = search needs
+add-end : tie.Need-add-end
+add-end c = search needs
 
 index-all-requires : tie.Need-index-all-requires
 index-all-requires c κs = (c .before .before .before .before .before .before .write-directory .ensures .directory, omega arith, omega (arith, c .before .before .before .before .before .before .before .before .before .before .before .before .before .pre .within, c .before .before .before .before .before .before .write-directory .ensures .stays .long), c .before .before .before .before .before .before .before .before .before .before .before .before .before .pre .words)
+
+sub-half : tie.Need-sub-half
+sub-half c = search needs
+
+add-list : tie.Need-add-list
+add-list c = search needs
+
+list-requires : tie.Need-list-requires
+list-requires c κs = (c .before .before .before .before .before .before .before .before .before .before .before .before .before .before .before .before .before .before .before .before .pre .rootSmall, c .before .before .before .before .before .before .index-all .ensures .indexing .directory .long, omega arith, omega (arith, c .before .before .before .before .before .before .index-all .ensures .upto, c .before .before .before .before .before .before .before .before .before .before .before .before .before .before .before .before .before .before .before .before .pre .within, c .before .before .before .before .before .before .index-all .ensures .workStays .long, c .before .before .before .before .before .before .before .before .before .before .before .before .before .write-directory .ensures .stays .long), omega (arith, c .before .before .before .before .before .before .index-all .ensures .upto, c .before .before .before .before .before .before .before .before .before .before .before .before .before .before .before .before .before .before .before .before .pre .words))
 
 cast-dir : tie.Need-cast-dir
 cast-dir c = search needs
 
 slice-write-dir : tie.Need-slice-write-dir
-slice-write-dir c = omega (arith, c .before .before .before .before .index-all .ensures .indexing .directory .long)
+slice-write-dir c = omega (arith, c .before .before .before .before .list .ensures .dirStays .long, c .before .before .before .before .before .before .before .before .before .before .before .index-all .ensures .indexing .directory .long)
 
 slice-write-dir-2 : tie.Need-slice-write-dir-2
-slice-write-dir-2 c = simp length-set (omega (arith, c .before .before .before .before .index-all .ensures .indexing .directory .long))
+slice-write-dir-2 c = simp length-set (omega (arith, c .before .before .before .before .list .ensures .dirStays .long, c .before .before .before .before .before .before .before .before .before .before .before .index-all .ensures .indexing .directory .long))
 
 remember-requires : tie.Need-remember-requires
-remember-requires c κs = started (c .before .before .before .before .before .before .before .before .before .before .before .before .before .write-directory .ensures) (c .before .before .before .before .before .before .index-all .ensures) (c .before .before .before .before .before .before .before .before .before .before .before .before .before .before .before .before .before .before .before .before .pre .within)
+remember-requires c κs = started (c .before .before .before .before .before .before .before .before .before .before .before .before .before .before .before .before .before .before .before .before .write-directory .ensures) (c .before .before .before .before .before .before .before .before .before .before .before .before .before .index-all .ensures) (c .before .before .before .before .before .before .list .ensures) (omega (arith, c .before .before .before .before .before .before .before .before .before .before .before .before .before .index-all .ensures .upto)) (c .before .before .before .before .before .before .before .before .before .before .before .before .before .before .before .before .before .before .before .before .before .before .before .before .before .before .before .pre .within)
 
 same-length : tie.Need-same-length
 same-length c = search needs
 
 same-length-2 : tie.Need-same-length-2
-same-length-2 c = (simp length-set at (c .before .before .before .before .remember .ensures .dirStays .long)) ∙ (c .before .before .before .before .before .before .before .before .before .before .before .index-all .ensures .dirStays .long) ∙ (c .before .before .before .before .before .before .before .before .before .before .before .before .before .before .before .before .before .before .write-directory .kept .1 .1 .1 .1 .1 .0)
+same-length-2 c = (simp length-set at (c .before .before .before .before .remember .ensures .dirStays .long)) ∙ (c .before .before .before .before .before .before .before .before .before .before .before .list .ensures .dirStays .long) ∙ (c .before .before .before .before .before .before .before .before .before .before .before .before .before .before .before .before .before .before .index-all .ensures .dirStays .long) ∙ (c .before .before .before .before .before .before .before .before .before .before .before .before .before .before .before .before .before .before .before .before .before .before .before .before .before .write-directory .kept .1 .1 .1 .1 .1 .0)
 
 returns : tie.Need-returns
-returns c = prepared (c .before .before .before .before .before .before .before .before .before .before .before .before .before .before .before .before .before .before .write-directory .ensures) (c .before .before .before .before .before .before .before .before .before .before .before .index-all .ensures) (c .before .before .before .before .remember .ensures)
+returns c = prepared (c .before .before .before .before .before .before .before .before .before .before .before .before .before .before .before .before .before .before .before .before .before .before .before .before .before .write-directory .ensures) (c .before .before .before .before .before .before .before .before .before .before .before .before .before .before .before .before .before .before .index-all .ensures) (c .before .before .before .before .before .before .before .before .before .before .before .list .ensures) (omega (arith, c .before .before .before .before .before .before .before .before .before .before .before .before .before .before .before .before .before .before .index-all .ensures .upto)) (c .before .before .before .before .remember .ensures)
 
 pub prepare-spec : {M : Type 1} → statement M
 prepare-spec =
     tie.close
     (tie.spec
     write-directory-requires
-    add-index-all
+    add-end
     index-all-requires
+    sub-half
+    add-list
+    list-requires
     cast-dir
     slice-write-dir
     slice-write-dir-2

@@ -1,12 +1,12 @@
 -- Written by `needs write`, from answers.txt: edit that. The proof.
 use borrow.Author.Needs.{needs}
-use Rattle.bindings.proofs.remap.Statement.{statement}
-use Rattle.bindings.proofs.remap.Tie as tie
-use Rattle.bindings.proofs.remap.Reads as reads
-use Rattle.bindings.proofs.remap.Lts as lts
-use Rattle.refine.proofs.look.Reads as look-reads
+use Rattle.refine.proofs.remap.Statement.{statement}
+use Rattle.refine.proofs.remap.Tie as tie
+use Rattle.refine.proofs.remap.Reads as reads
+use Rattle.refine.proofs.remap.Lts as lts
 use Rattle.journal.proofs.word.Reads as word-reads
-use Rattle.bindings.proofs.Ends.{end-none, end-nothing, end-room, end-here}
+use Rattle.refine.proofs.look.Reads as look-reads
+use Rattle.refine.proofs.Ends.{end-none, end-nothing, end-room, end-here}
 use native.Mathlib.Omega.{arith}
 
 returns : tie.Need-returns

@@ -1,8 +1,8 @@
 -- Written by `needs write`, from answers.txt: edit that. The proof.
-use Rattle.parts.proofs.last_field.Statement.{statement}
-use Rattle.parts.proofs.last_field.Tie as tie
-use Rattle.parts.proofs.last_field.Reads as reads
-use Rattle.parts.proofs.last_field.Lts as lts
+use Rattle.source.proofs.names.walked.Statement.{statement}
+use Rattle.source.proofs.names.walked.Tie as tie
+use Rattle.source.proofs.names.walked.Reads as reads
+use Rattle.source.proofs.names.walked.Lts as lts
 use Rattle.lookup.proofs.walk.seek.Reads as seek-reads
 use Rattle.sheet.proofs.row.row_at.Reads as row-at-reads
 use mathlib.Core.Logic.{⊎-elim}
@@ -14,7 +14,7 @@ use Rattle.sheet.specs.declared.part.Part.the-variants.{Fields}
 use Rattle.sheet.specs.Rows.{rows}
 use Rattle.sheet.proofs.RowLaws.{rows-length}
 use Rattle.lookup.proofs.WalkLaws.{stands, missing}
-use Rattle.parts.proofs.Fields.{Searching, search-start, search-none, search-new, search-old}
+use Rattle.source.proofs.NameLaws.{Searching, search-start, search-none, search-new, search-old}
 use native.Mathlib.Omega.{arith}
 use borrow.Author.Needs.{needs}
 
@@ -54,8 +54,8 @@ loop-less c = let s = stands Fields (rows (now (c .before .before .before .befor
 loop-again : tie.Need-loop-again Inv-loop μ-loop
 loop-again c = let s = stands Fields (rows (now (c .before .before .before .before .before .before .before .before .before .args .sheet))) (c .before .before .before .before .before .before .before .loop .at) (c .before .before .before .before .before .before .seek .ensures) (c .before .before .before .before .q .given .1) in ⊎-elim (λ w. rw (w .1) (search-new (c .before .before .before .before .before .before .before .before .before .args .name) (rows (now (c .before .before .before .before .before .before .before .before .before .args .sheet))) (c .before .before .before .before .before .before .before .before .before .args .node) (c .before .before .before .before .before .before .before .loop .inv) s (c .before .before .row-at .ensures) (w .0 .taken))) (λ w. rw (w .1) (search-old (c .before .before .before .before .before .before .before .before .before .args .name) (rows (now (c .before .before .before .before .before .before .before .before .before .args .sheet))) (c .before .before .before .before .before .before .before .before .before .args .node) (c .before .before .before .before .before .before .before .loop .inv) s (c .before .before .row-at .ensures) (w .0 .left))) (c .if1 .came)
 
-pub last-field-spec : {M : Type 1} → statement M
-last-field-spec =
+pub walked-spec : {M : Type 1} → statement M
+walked-spec =
     tie.close
     (tie.spec
     Inv-loop

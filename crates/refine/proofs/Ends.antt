@@ -14,11 +14,10 @@ use Rattle.journal.specs.Records.{tagNode, cell}
 use Rattle.journal.specs.Owned.{tagged}
 use Rattle.journal.proofs.Lists.{count-low}
 use Rattle.reading.specs.Reading.{mapOf}
 use Rattle.refine.specs.declared.Limits.{Limits}
 use Rattle.refine.specs.declared.Counts.{Counts}
 use Rattle.refine.specs.Sound.{Standing}
-use Rattle.refine.specs.Contract.{Looked}
-use Rattle.bindings.specs.Contract.{EndOf}
+use Rattle.refine.specs.Contract.{Looked, EndOf}
 
 pub end-none : (w : List ℕ) (c scope id : ℕ) → id ≡ 4294967295 → EndOf w c scope id 4294967295
 end-none w c scope id e = rw e
