@@ -1,0 +1,52 @@
+-- A step, then a charge with a record: as `paid` asks, and what is given is made of what the step gave.
+use mathlib.Core.Path.{_≡_, refl, sym, ap, _∙_}
+use mathlib.Core.List.{List, [], _∷_, _++_}
+use Prim.Native.Nat.{ℕ, _≤_, _<_}
+use Rattle.expansion.specs.Input.{Input}
+use Rattle.expansion.specs.State.{State, Result, refusal, ok, Comp, bindR, _>>=_, _>>_, ret}
+use Rattle.expansion.specs.Charges.{charge, paid}
+use Rattle.journal.specs.declared.Record.{Record}
+use Rattle.refine.specs.declared.Limits.{Limits}
+use Rattle.refine.specs.declared.Counts.{Counts}
+use Rattle.refine.specs.declared.Answer.{Answer}
+use Rattle.refine.specs.declared.Answer.the-variants.{Done, Refused}
+use Rattle.refine.specs.Sound.{Sound}
+use Rattle.refine.specs.Contract.{KeptAt, Kept}
+use Rattle.parts.specs.Contract.{sourceOf}
+use Rattle.cycle.specs.Contract.{Yields}
+use Rattle.cycle.proofs.Run.{Run, begin, end, go, halt, leaf}
+
+-- n, then a charge; u is made of what n gave
+abbrev pub charged : {A C : Type 0} → (Input → Comp A) → (A → C) → Input → Comp C
+charged n u I = n I >>= (λ x. charge I >>= (λ z. ret (u x)))
+
+-- `paid`, and then an answer made of it
+pub paid-then : {A C : Type 0} (I : Input) (m : Comp A) (u : A → C) (st : State) → bindR (paid I m st) (λ x. ret (u x)) ≡ bindR (m st) (λ x. charge I >>= (λ z. ret (u x)))
+unfolding paid bindR
+paid-then {A} {C} I m u st = by (m st)
+  where
+    most : (a : A) (x : Result (Unit {0})) → bindR {B = C} (bindR {B = A} x (λ z. ret a)) (λ x. ret (u x)) ≡ bindR {B = C} x (λ z. ret (u a))
+    most a (refusal c i j) = refl
+    most a (ok z s) = refl
+
+    by : (x : Result A) → bindR {B = C} (bindR {B = A} x (λ a. charge I >> ret a)) (λ x. ret (u x)) ≡ bindR {B = C} x (λ a. charge I >>= (λ z. ret (u a)))
+    by (refusal c i j) = refl
+    by (ok a s) = most a (charge I s)
+
+-- a charge with a record
+pub kept-yields : {root library : List ℕ} {L : Limits} (young : ℕ) {w : List ℕ} {t : Counts} {r : Record} {w′ : List ℕ} {a : Answer} → Kept L w t r w′ a → Yields root library L young charge (λ u s v p z. KeptAt w t r u s v) w t w′ a
+kept-yields {root} {library} young k = leaf tt (λ D. k .does (sourceOf root library D) young) (k .done)
+
+module _ {root library : List ℕ} {L : Limits} {young : ℕ} {A C : Type 0} {n : Input → Comp A} {P : List ℕ → Counts → ℕ → ℕ → A → Type 0} {w : List ℕ} {t : Counts} {w′ : List ℕ} {a : Answer} (so : Sound L w t) (u : A → C) {Q : List ℕ → Counts → ℕ → ℕ → C → Type 0} (y : Yields root library L young n P w t w′ a) where
+  pub keeping : {s : Counts} {v p : ℕ} {r : Record} {w″ : List ℕ} {b : Answer} → a ≡ Done s v p → Kept L w′ s r w″ b → ((t″ : Counts) (h p″ : ℕ) → KeptAt w′ s r w″ t″ h → Q w″ t″ h p″ (u (y .given))) → Yields root library L young (charged n u) Q w t w″ b
+  keeping {s} {v} {p} {r} {w″} {b} e k q = by b k
+    where
+      run : Run root library L young (charged n u) w t (λ I. charge I >>= (λ z. ret (u (y .given)))) w′ s
+      run = go (λ I x. charge I >>= (λ z. ret (u x))) (begin young (charged n u) so) y e
+
+      by : (b : Answer) → Kept L w′ s r w″ b → Yields root library L young (charged n u) Q w t w″ b
+      by (Done t″ h o) k = end (go (λ I z. ret (u (y .given))) run (kept-yields young k) refl) (q t″ h o (k .done))
+      by (Refused c i j) k = halt (λ I z. ret (u (y .given))) run (kept-yields young k) refl (u (y .given))
+
+  pub keeping-stop : {c i j : ℕ} → a ≡ Refused c i j → Yields root library L young (charged n u) Q w t w′ a
+  keeping-stop e = halt (λ I x. charge I >>= (λ z. ret (u x))) (begin young (charged n u) so) y e (u (y .given))

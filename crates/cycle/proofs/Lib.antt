@@ -1,0 +1,14 @@
+pub mod Run
+pub mod Walks
+pub mod Keeps
+pub mod ValueLaws
+pub mod FieldLaws
+pub mod InterfaceLaws
+pub mod CopyLaws
+pub mod TopLaws
+pub mod GivenLaws
+pub mod ValuesLaws
+pub mod OriginLaws
+pub mod PlainLaws
+pub mod BodyLaws
+pub mod InstanceLaws

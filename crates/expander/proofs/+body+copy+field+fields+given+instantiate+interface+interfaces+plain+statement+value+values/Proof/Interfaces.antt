@@ -1,0 +1,132 @@
+-- Written by `needs write`, from answers.txt: edit that. A member.
+use Prim.Native.Nat.{ℕ, _<_}
+use borrow.Fn.Kinds.{In}
+use borrow.Fn.PlainCycle.{Measures, is, falls, and}
+use Rattle.expander.proofs.body.Reads as body
+use Rattle.expander.proofs.body.Kinds as body-kinds
+use Rattle.expander.proofs.+body+copy+field+fields+given+instantiate+interface+interfaces+plain+statement+value+values.Lts-body as body-lts
+use Rattle.expander.proofs.copy.Reads as copy
+use Rattle.expander.proofs.copy.Kinds as copy-kinds
+use Rattle.expander.proofs.+body+copy+field+fields+given+instantiate+interface+interfaces+plain+statement+value+values.Lts-copy as copy-lts
+use Rattle.expander.proofs.field.Reads as field
+use Rattle.expander.proofs.field.Kinds as field-kinds
+use Rattle.expander.proofs.+body+copy+field+fields+given+instantiate+interface+interfaces+plain+statement+value+values.Lts-field as field-lts
+use Rattle.expander.proofs.fields.Reads as fields
+use Rattle.expander.proofs.fields.Kinds as fields-kinds
+use Rattle.expander.proofs.+body+copy+field+fields+given+instantiate+interface+interfaces+plain+statement+value+values.Lts-fields as fields-lts
+use Rattle.expander.proofs.given.Reads as given
+use Rattle.expander.proofs.given.Kinds as given-kinds
+use Rattle.expander.proofs.+body+copy+field+fields+given+instantiate+interface+interfaces+plain+statement+value+values.Lts-given as given-lts
+use Rattle.expander.proofs.instantiate.Reads as instantiate
+use Rattle.expander.proofs.instantiate.Kinds as instantiate-kinds
+use Rattle.expander.proofs.+body+copy+field+fields+given+instantiate+interface+interfaces+plain+statement+value+values.Lts-instantiate as instantiate-lts
+use Rattle.expander.proofs.interface.Reads as interface
+use Rattle.expander.proofs.interface.Kinds as interface-kinds
+use Rattle.expander.proofs.+body+copy+field+fields+given+instantiate+interface+interfaces+plain+statement+value+values.Lts-interface as interface-lts
+use Rattle.expander.proofs.interfaces.Reads as interfaces
+use Rattle.expander.proofs.interfaces.Kinds as interfaces-kinds
+use Rattle.expander.proofs.+body+copy+field+fields+given+instantiate+interface+interfaces+plain+statement+value+values.Lts-interfaces as interfaces-lts
+use Rattle.expander.proofs.plain.Reads as plain
+use Rattle.expander.proofs.plain.Kinds as plain-kinds
+use Rattle.expander.proofs.+body+copy+field+fields+given+instantiate+interface+interfaces+plain+statement+value+values.Lts-plain as plain-lts
+use Rattle.expander.proofs.statement.Reads as statement′
+use Rattle.expander.proofs.statement.Kinds as statement-kinds
+use Rattle.expander.proofs.+body+copy+field+fields+given+instantiate+interface+interfaces+plain+statement+value+values.Lts-statement as statement-lts
+use Rattle.expander.proofs.value.Reads as value
+use Rattle.expander.proofs.value.Kinds as value-kinds
+use Rattle.expander.proofs.+body+copy+field+fields+given+instantiate+interface+interfaces+plain+statement+value+values.Lts-value as value-lts
+use Rattle.expander.proofs.values.Reads as values
+use Rattle.expander.proofs.values.Kinds as values-kinds
+use Rattle.expander.proofs.+body+copy+field+fields+given+instantiate+interface+interfaces+plain+statement+value+values.Lts-values as values-lts
+use Rattle.bindings.proofs.is_field.Reads as is-field-reads
+use Rattle.bindings.proofs.is_given.Reads as is-given-reads
+use Rattle.bindings.proofs.is_interface.Reads as is-interface-reads
+use Rattle.bindings.proofs.record_instance.Reads as record-instance-reads
+use Rattle.expander.proofs.kept.Reads as kept-reads
+use Rattle.expander.proofs.next.Reads as next-reads
+use Rattle.expander.proofs.origin.Reads as origin-reads
+use Rattle.expander.proofs.row_of.Reads as row-of-reads
+use Rattle.expander.proofs.wide.Reads as wide-reads
+use Rattle.journal.proofs.word.Reads as word-reads
+use Rattle.parts.proofs.extern_proto.Reads as extern-proto-reads
+use Rattle.parts.proofs.order.Reads as order-reads
+use Rattle.parts.proofs.statements.Reads as statements-reads
+use Rattle.refine.proofs.fill.Reads as fill-reads
+use Rattle.refine.proofs.keep.Reads as keep-reads
+use Rattle.refine.proofs.look.Reads as look-reads
+use Rattle.refine.proofs.map.Reads as map-reads
+use Rattle.refine.proofs.open.Reads as open-reads
+use Rattle.refine.proofs.own.Reads as own-reads
+use Rattle.refine.proofs.reserve.Reads as reserve-reads
+use Rattle.source.proofs.directory.number.Reads as number-reads
+use Rattle.source.proofs.last_field.Reads as last-field-reads
+use Rattle.source.proofs.node.Reads as node-reads
+use Rattle.source.proofs.proto.Reads as proto-reads
+use Rattle.source.proofs.target.Reads as target-reads
+use Rattle.expander.proofs.+body+copy+field+fields+given+instantiate+interface+interfaces+plain+statement+value+values.Proof.Setup.{μ-body, μ-copy, μ-field, μ-fields, μ-given, μ-instantiate, μ-interface, μ-interfaces, μ-plain, μ-statement, μ-value, μ-values, body-at, body-below, copy-at, copy-below, field-at, field-below, fields-at, fields-below, given-at, given-below, instantiate-at, instantiate-below, interface-at, interface-below, interfaces-at, interfaces-below, plain-at, plain-below, statement-at, statement-below, value-at, value-below, values-at, values-below, body-cs, copy-cs, field-cs, fields-cs, given-cs, instantiate-cs, interface-cs, interfaces-cs, plain-cs, statement-cs, value-cs, values-cs}
+use Prim.Native.Nat.{_+_, _*_, _-_}
+use lib.ListN.{length}
+use mathlib.Core.Path.{_∙_}
+use Prim.Native.Nat.{_-_}
+use denote.Ref.{now}
+use lib.ListN.{length}
+use Rattle.sheet.specs.declared.part.Part.the-variants.{Interfaces}
+use Rattle.lookup.proofs.WalkLaws.{stands, missing}
+use Rattle.parts.specs.Contract.{rowsOf}
+use Rattle.cycle.proofs.Run.{since}
+use Rattle.cycle.proofs.Walks.{rows-few}
+use Rattle.cycle.proofs.OriginLaws.{slot-within}
+use Rattle.cycle.proofs.InterfaceLaws.{Interfacing, interfaces-start, interfaces-end, interfaces-here, interfaces-again, interfaces-stop}
+use native.Mathlib.Omega.{arith}
+use borrow.Author.Needs.{needs}
+
+abbrev pub interfaces-Inv-loop : interfaces-lts.InvT-loop
+interfaces-Inv-loop root library dir work₀ lim env new row depth cur₀ h₀ at₀ work cur h at = Interfacing root library dir work₀ lim cur₀ env new row depth work cur h at
+
+abbrev pub interfaces-μ-loop : interfaces-lts.MeasureT-loop
+interfaces-μ-loop root library dir work₀ lim env new row depth cur₀ h₀ at₀ work cur h at = length (rowsOf root library dir (env .slot)) - at
+
+pub interfaces-add-at : (t : ℕ) → interfaces-lts.Need-add-at (interfaces-cs t) (interfaces-at t) interfaces.Post interfaces-Inv-loop interfaces-μ-loop
+interfaces-add-at t c = omega (arith, c .before .before .before .before .pre .1 .1 .below, rows-few (c .before .before .before .before .pre .1 .0 .lent) (c .before .before .before .before .args .env .slot))
+
+pub interfaces-loop-holds : (t : ℕ) → interfaces-lts.Need-loop-holds (interfaces-cs t) (interfaces-at t) interfaces.Post interfaces-Inv-loop interfaces-μ-loop
+interfaces-loop-holds t c = interfaces-start _ _ _ _ _ _ _ (c .before .before .before .before .args .new) (c .before .before .before .before .args .row) (c .before .before .before .before .args .depth) (c .before .before .before .before .pre .1 .0)
+
+pub interfaces-next-requires : (t : ℕ) → interfaces-lts.Need-next-requires (interfaces-cs t) (interfaces-at t) interfaces.Post interfaces-Inv-loop interfaces-μ-loop
+interfaces-next-requires t c κs = slot-within (c .before .before .before .before .before .pre .1 .0 .lent) (c .before .before .before .before .before .pre .1 .0 .slot)
+
+pub interfaces-enum-known-q : (t : ℕ) → interfaces-lts.Need-enum-known-q (interfaces-cs t) (interfaces-at t) interfaces.Post interfaces-Inv-loop interfaces-μ-loop
+interfaces-enum-known-q t c = search needs
+
+pub interfaces-enum-told : (t : ℕ) → interfaces-lts.Need-enum-told (interfaces-cs t) (interfaces-at t) interfaces.Post interfaces-Inv-loop interfaces-μ-loop
+interfaces-enum-told t c = search needs
+
+pub interfaces-same-length : (t : ℕ) → interfaces-lts.Need-same-length (interfaces-cs t) (interfaces-at t) interfaces.Post interfaces-Inv-loop interfaces-μ-loop
+interfaces-same-length t c = since (c .before .before .before .loop .inv .run) .long
+
+pub interfaces-returns : (t : ℕ) → interfaces-lts.Need-returns (interfaces-cs t) (interfaces-at t) interfaces.Post interfaces-Inv-loop interfaces-μ-loop
+interfaces-returns t c = interfaces-end _ _ _ _ _ _ _ (c .before .before .before .before .before .before .before .before .args .new) (c .before .before .before .before .before .before .before .before .args .row) (c .before .before .before .before .before .before .before .before .args .depth) (c .before .before .before .before .before .before .before .before .pre .1 .0) (c .before .before .before .loop .inv) (missing Interfaces (rowsOf (now (c .before .before .before .before .before .before .before .before .args .root)) (now (c .before .before .before .before .before .before .before .before .args .library)) (now (c .before .before .before .before .before .before .before .before .args .dir)) (c .before .before .before .before .before .before .before .before .args .env .slot)) (c .before .before .before .loop .at) (c .before .before .next .ensures) (c .enum-told .given .1))
+
+pub interfaces-add-at-2 : (t : ℕ) → interfaces-lts.Need-add-at-2 (interfaces-cs t) (interfaces-at t) interfaces.Post interfaces-Inv-loop interfaces-μ-loop
+interfaces-add-at-2 t c = omega (arith, stands Interfaces (rowsOf (now (c .before .before .before .before .before .before .before .before .before .args .root)) (now (c .before .before .before .before .before .before .before .before .before .args .library)) (now (c .before .before .before .before .before .before .before .before .before .args .dir)) (c .before .before .before .before .before .before .before .before .before .args .env .slot)) (c .before .before .before .before .loop .at) (c .before .before .before .next .ensures) (c .before .q .given .1) .below, rows-few (c .before .before .before .before .before .before .before .before .before .pre .1 .0 .lent) (c .before .before .before .before .before .before .before .before .before .args .env .slot))
+
+pub interfaces-interface-requires : (t : ℕ) → interfaces-lts.Need-interface-requires (interfaces-cs t) (interfaces-at t) interfaces.Post interfaces-Inv-loop interfaces-μ-loop
+interfaces-interface-requires t c κs = (omega (arith, c .before .before .before .before .before .before .before .before .before .before .pre .0), (interfaces-here _ _ _ _ _ _ _ (c .before .before .before .before .before .before .before .before .before .before .args .new) (c .before .before .before .before .before .before .before .before .before .before .args .row) (c .before .before .before .before .before .before .before .before .before .before .args .depth) (c .before .before .before .before .before .before .before .before .before .before .pre .1 .0) (c .before .before .before .before .before .loop .inv), (record { below = stands Interfaces (rowsOf (now (c .before .before .before .before .before .before .before .before .before .before .args .root)) (now (c .before .before .before .before .before .before .before .before .before .before .args .library)) (now (c .before .before .before .before .before .before .before .before .before .before .args .dir)) (c .before .before .before .before .before .before .before .before .before .before .args .env .slot)) (c .before .before .before .before .before .loop .at) (c .before .before .before .before .next .ensures) (c .before .before .q .given .1) .below }, c .before .before .before .before .before .loop .inv .handle)))
+
+pub interfaces-enum-known-a : (t : ℕ) → interfaces-lts.Need-enum-known-a (interfaces-cs t) (interfaces-at t) interfaces.Post interfaces-Inv-loop interfaces-μ-loop
+interfaces-enum-known-a t c = search needs
+
+pub interfaces-enum-told-2 : (t : ℕ) → interfaces-lts.Need-enum-told-2 (interfaces-cs t) (interfaces-at t) interfaces.Post interfaces-Inv-loop interfaces-μ-loop
+interfaces-enum-told-2 t c = search needs
+
+pub interfaces-same-length-2 : (t : ℕ) → interfaces-lts.Need-same-length-2 (interfaces-cs t) (interfaces-at t) interfaces.Post interfaces-Inv-loop interfaces-μ-loop
+interfaces-same-length-2 t c = (c .before .before .before .before .interface .kept .1 .1 .1 .0) ∙ since (c .before .before .before .before .before .before .before .before .before .before .loop .inv .run) .long
+
+pub interfaces-returns-2 : (t : ℕ) → interfaces-lts.Need-returns-2 (interfaces-cs t) (interfaces-at t) interfaces.Post interfaces-Inv-loop interfaces-μ-loop
+interfaces-returns-2 t c = interfaces-stop _ _ _ _ _ _ _ (c .before .before .before .before .before .before .before .before .before .before .before .before .before .before .before .args .new) (c .before .before .before .before .before .before .before .before .before .before .before .before .before .before .before .args .row) (c .before .before .before .before .before .before .before .before .before .before .before .before .before .before .before .args .depth) (c .before .before .before .before .before .before .before .before .before .before .before .before .before .before .before .pre .1 .0) (c .before .before .before .before .before .before .before .before .before .before .loop .inv) (stands Interfaces (rowsOf (now (c .before .before .before .before .before .before .before .before .before .before .before .before .before .before .before .args .root)) (now (c .before .before .before .before .before .before .before .before .before .before .before .before .before .before .before .args .library)) (now (c .before .before .before .before .before .before .before .before .before .before .before .before .before .before .before .args .dir)) (c .before .before .before .before .before .before .before .before .before .before .before .before .before .before .before .args .env .slot)) (c .before .before .before .before .before .before .before .before .before .before .loop .at) (c .before .before .before .before .before .before .before .before .before .next .ensures) (c .before .before .before .before .before .before .before .q .given .1)) (c .before .before .before .before .interface .ensures) (c .enum-told2 .given .1)
+
+pub interfaces-loop-less : (t : ℕ) → interfaces-lts.Need-loop-less (interfaces-cs t) (interfaces-at t) interfaces.Post interfaces-Inv-loop interfaces-μ-loop
+interfaces-loop-less t c = let s = stands Interfaces (rowsOf (now (c .before .before .before .before .before .before .before .before .before .before .before .before .before .before .before .before .args .root)) (now (c .before .before .before .before .before .before .before .before .before .before .before .before .before .before .before .before .args .library)) (now (c .before .before .before .before .before .before .before .before .before .before .before .before .before .before .before .before .args .dir)) (c .before .before .before .before .before .before .before .before .before .before .before .before .before .before .before .before .args .env .slot)) (c .before .before .before .before .before .before .before .before .before .before .before .loop .at) (c .before .before .before .before .before .before .before .before .before .before .next .ensures) (c .before .before .before .before .before .before .before .before .q .given .1) in omega (arith, s .from, s .below)
+
+pub interfaces-loop-again : (t : ℕ) → interfaces-lts.Need-loop-again (interfaces-cs t) (interfaces-at t) interfaces.Post interfaces-Inv-loop interfaces-μ-loop
+interfaces-loop-again t c = interfaces-again _ _ _ _ _ _ _ (c .before .before .before .before .before .before .before .before .before .before .before .before .before .before .before .before .args .new) (c .before .before .before .before .before .before .before .before .before .before .before .before .before .before .before .before .args .row) (c .before .before .before .before .before .before .before .before .before .before .before .before .before .before .before .before .args .depth) (c .before .before .before .before .before .before .before .before .before .before .before .before .before .before .before .before .pre .1 .0) (c .before .before .before .before .before .before .before .before .before .before .before .loop .inv) (stands Interfaces (rowsOf (now (c .before .before .before .before .before .before .before .before .before .before .before .before .before .before .before .before .args .root)) (now (c .before .before .before .before .before .before .before .before .before .before .before .before .before .before .before .before .args .library)) (now (c .before .before .before .before .before .before .before .before .before .before .before .before .before .before .before .before .args .dir)) (c .before .before .before .before .before .before .before .before .before .before .before .before .before .before .before .before .args .env .slot)) (c .before .before .before .before .before .before .before .before .before .before .before .loop .at) (c .before .before .before .before .before .before .before .before .before .before .next .ensures) (c .before .before .before .before .before .before .before .before .q .given .1)) (c .before .before .before .before .before .interface .ensures) (c .before .a .given .1)
