@@ -1,0 +1,100 @@
+-- The functions that C calls: the words of an answer, and each function's cases.
+use mathlib.Core.Path.{_≡_, refl, sym, _∙_}
+use mathlib.Core.Bool.{Bool, true, false, not, _||_}
+use mathlib.Core.List.{List, _++_}
+use Prim.Native.Nat.{ℕ, suc, _+_, _*_, _/_, _%_, _≤_, _<_}
+use native.Mathlib.Numerals.{add-one}
+use native.Mathlib.Omega.{arith}
+use lib.ListN.{length, take, drop, getD, set, length-set}
+use lib.Dec.{ltb, eqb}
+use lib.Seq.{paste-suc, take-length}
+use borrow.Author.Tests.{lt-ltb, le-ltb, ltb-true}
+use Rattle.ast.specs.Choice.{choose}
+use Rattle.lines.specs.Answer.{Answer, accepted, refused}
+use Rattle.lines.specs.Read.{goodLines, wordsOf, readLines}
+use Rattle.lines.specs.Write.{linesOf, writeLines}
+use Rattle.operation.specs.Operation.{Call, over}
+use Rattle.luhetami.specs.declared.Outcome.{Outcome}
+use Rattle.luhetami.specs.Calls.{numbersOf, Says, Demand1, Demand3}
+use Rattle.luhetami.specs.Exports.{numberWords, expandC, SaysC, Demand1C, Demand3C, lineWords, unlessShort, readCounted, writeCounted}
+
+-- ---- put
+
+-- the first i words are written
+pub record Putting (answer₀ words answer : List ℕ) (i : ℕ) : Type 0 where
+  pub upto : i ≤ length words
+  pub long : length answer ≡ length answer₀
+  pub same : answer ≡ take i words ++ drop i answer₀
+
+-- a turn of its loop
+put-turn : (answer words : List ℕ) (i : ℕ) → i < length answer → i < length words → set (take i words ++ drop i answer) i (getD words i 0) ≡ take (i + 1) words ++ drop (i + 1) answer
+put-turn answer words i h k = let e : 0 + i ≡ i = omega arith in let f : 0 + suc i ≡ suc i = omega arith in rw (add-one i) (rw (e, f) at (paste-suc answer 0 words i 0 (omega arith) k))
+
+module _ {answer₀ words answer : List ℕ} {i : ℕ} (p : Putting answer₀ words answer i) where
+  pub put-again : length words ≤ length answer₀ → i < length words → Putting answer₀ words (set answer i (getD words i 0)) (i + 1)
+  put-again h k = record { upto = omega arith; long = rw length-set (p .long); same = rw (p .same) (put-turn answer₀ words i (omega arith) k) }
+
+  pub put-end : length words ≤ i → answer ≡ over words answer₀
+  put-end k = let e : i ≡ length words = omega arith in p .same ∙ rw (e, take-length words)
+
+-- ---- luhetami_expand
+
+module _ (c : Call) (answer : List ℕ) where
+  pub expand-short : length answer < 7 → SaysC c answer 1 (c .out) (c .ledger) (c .scopes) answer × (Demand1C c answer 1 (c .out) (c .ledger) (c .scopes) answer × Demand3C c 1 (c .out) (c .ledger) (c .scopes) answer)
+  unfolding expandC
+  expand-short h = (rw (lt-ltb _ _ h), (λ k. absurd (omega arith), λ k. absurd (omega arith)))
+
+  pub expand-told : 7 ≤ length answer → (a : Outcome) {out ledger scopes after : List ℕ} {r : ℕ} → Says c a out ledger scopes × (Demand1 c a out ledger scopes × Demand3 c a out ledger scopes) → (r ≡ numbersOf a .refusal) × (after ≡ over (numberWords (numbersOf a)) answer) → SaysC c answer r out ledger scopes after × (Demand1C c answer r out ledger scopes after × Demand3C c r out ledger scopes after)
+  unfolding expandC
+  expand-told h a x p = rw (p .0, p .1) (rw (le-ltb _ _ h, sym (x .0)), (λ k. (refl, x .1 .0), x .1 .1))
+
+-- ---- luhetami_read_lines and luhetami_write_lines
+
+module _ (n : ℕ) (lent answer : List ℕ) (r : Answer × List ℕ) where
+  pub lines-short : length answer < 3 → record { result = n; lent = lent; answer = answer } ≡ unlessShort n lent answer r
+  unfolding unlessShort
+  lines-short h = rw (lt-ltb _ _ h)
+
+  pub lines-told : 3 ≤ length answer → (a : Answer) {after lent' : List ℕ} {result : ℕ} → r ≡ (a, lent') → (result ≡ a .refusal) × (after ≡ over (lineWords a) answer) → record { result = result; lent = lent'; answer = after } ≡ unlessShort n lent answer r
+  unfolding unlessShort
+  lines-told h a e p = rw (p .0, p .1, le-ltb _ _ h, e)
+
+-- no place and no count is over n
+pub record Low (n : ℕ) (r : Answer × List ℕ) : Type 0 where
+  pub place : r .0 .place ≤ n
+  pub count : r .0 .count ≤ n
+
+read-cases : (n good : ℕ) (b d : Bool) (w v : List ℕ) → ltb good n ≡ d → Low n (choose b (refused 12 0, w) (choose d (refused 13 good, w) (accepted n, v)))
+read-cases n good true d w v q = record { place = omega arith; count = omega arith }
+read-cases n good false true w v q = record { place = omega (arith, ltb-true good n q); count = omega arith }
+read-cases n good false false w v q = record { place = omega arith; count = omega arith }
+
+write-cases : (n : ℕ) (b : Bool) (l m : List ℕ) → Low n (choose b (refused 14 0, l) (accepted n, m))
+write-cases n true l m = record { place = omega arith; count = omega arith }
+write-cases n false l m = record { place = omega arith; count = omega arith }
+
+module _ (lines words : List ℕ) where
+  pub read-many : 4294967295 < length lines / 89 → readCounted lines words ≡ (refused 12 0, words)
+  unfolding readCounted
+  read-many h = rw (lt-ltb _ _ h)
+
+  pub read-counted : length lines / 89 ≤ 4294967295 → readCounted lines words ≡ readLines lines words
+  unfolding readCounted
+  read-counted h = rw (le-ltb _ _ h)
+
+  pub read-low : {r : Answer × List ℕ} → readLines lines words ≡ r → Low (length lines / 89) r
+  unfolding readLines
+  read-low e = rw e at (read-cases (length lines / 89) (goodLines (length lines / 89) lines) (not (eqb (length lines % 89) 0) || ltb (length words / 8) (length lines / 89)) _ words (wordsOf (length lines / 89) lines ++ drop (8 * (length lines / 89)) words) refl)
+
+module _ (words lines : List ℕ) where
+  pub write-many : 48258059 < length words / 8 → writeCounted words lines ≡ (refused 14 0, lines)
+  unfolding writeCounted
+  write-many h = rw (lt-ltb _ _ h)
+
+  pub write-counted : length words / 8 ≤ 48258059 → writeCounted words lines ≡ writeLines words lines
+  unfolding writeCounted
+  write-counted h = rw (le-ltb _ _ h)
+
+  pub write-low : {r : Answer × List ℕ} → writeLines words lines ≡ r → Low (89 * (length words / 8)) r
+  unfolding writeLines
+  write-low e = rw e at (write-cases (89 * (length words / 8)) (not (eqb (length words % 8) 0) || ltb (length lines) (89 * (length words / 8))) lines (linesOf (length words / 8) words ++ drop (89 * (length words / 8)) lines))

@@ -1,0 +1,150 @@
+/*
+ * Luhetami: a verified expander of VRML97 prototypes, by its C interface.
+ *
+ * Link libluhetami.a, which `rt staticlib luhetami` writes to target/staticlib (x86-64). Three functions:
+ *
+ *     luhetami_read_lines     lines of text to the rows of a sheet
+ *     luhetami_expand         a sheet with prototypes to one without
+ *     luhetami_write_lines    rows of a sheet to lines of text
+ *
+ * Rules for all three:
+ *
+ * - A row is eight words (uint32_t); a sheet is rows one after the other. A length counts elements: words for uint32_t,
+ *   bytes for uint8_t.
+ * - No pointer is NULL, with length 0 neither, and each is aligned for its type. No slice takes more than PTRDIFF_MAX bytes,
+ *   and one that is written (those without const) overlaps no other slice of the call. The proofs take this for granted, and
+ *   nothing else: every content, every length and every limit is answered, and every call returns.
+ * - Nothing is allocated, kept between calls or read from elsewhere. Calls in several threads with slices of their own do
+ *   not disturb each other. A call nests as deep as max_depth and takes less than 4 KiB of stack for each level: 2 MiB
+ *   suffice for 512 (measured, not proved).
+ * - The result is the refusal, 0 where the call is accepted. The same number is the first word of answer. An answer that is
+ *   too short is refused (1, 12 or 14, by function) before anything else, and then no word of it is written.
+ * - Where a call is refused, every lent slice keeps its words, but for answer, and work.
+ */
+#ifndef LUHETAMI_H
+#define LUHETAMI_H
+
+#include <stddef.h>
+#include <stdint.h>
+
+#ifdef __cplusplus
+extern "C" {
+#endif
+
+/* In a sheet: no name, no id. Names and ids are below it. */
+#define LUHETAMI_NONE UINT32_C(4294967295)
+
+/* What a row takes: words in a sheet, bytes in a text. */
+#define LUHETAMI_ROW_WORDS ((size_t)8)
+#define LUHETAMI_ROW_BYTES ((size_t)89)
+
+/* The caps: the most that a limit may be, and the most rows that a sheet handed to luhetami_expand may have. */
+#define LUHETAMI_MOST_NODES UINT32_C(4000000)
+#define LUHETAMI_MOST_DEPTH UINT32_C(512)
+#define LUHETAMI_MOST_ROWS UINT32_C(16777216)
+#define LUHETAMI_MOST_SHEET_ROWS UINT32_C(1048576)
+
+/* The words that luhetami_expand needs, by its limits. More may be lent. */
+#define LUHETAMI_OUT_WORDS(max_rows) ((size_t)8 * (max_rows))
+#define LUHETAMI_LEDGER_WORDS(max_nodes) ((size_t)3 * (max_nodes))
+#define LUHETAMI_SCOPES_WORDS(max_rows) ((size_t)5 * (max_rows))
+#define LUHETAMI_WORK_WORDS(max_depth, max_rows) ((size_t)16 * (max_rows) + (size_t)64 * ((size_t)(max_depth) + 1))
+
+/*
+ * Refusals. "first" and "second" are the place numbers that come with one; where nothing is said, they are 0. A sheet is
+ * 0, the root, or 1, the library. A document is 0, the root, or n, the n-th file of the library. Rows, lines and ids count
+ * from 0.
+ */
+enum luhetami_refusal {
+    LUHETAMI_ACCEPTED = 0,
+
+    /* luhetami_expand, before the first step, in this order */
+    LUHETAMI_SHORT = 1,     /* a limit over its cap, or out, ledger, scopes, work or answer too short */
+    LUHETAMI_LENGTH = 2,    /* a sheet's words are no multiple of 8, or it has over 1,048,576 rows */
+    LUHETAMI_MALFORMED = 3, /* a malformed sheet; first: the sheet, second: the first row that doesn't fit, or the row count
+                               where the sheet ends early */
+
+    /* luhetami_expand, at the first step that meets one */
+    LUHETAMI_DANGLING_EXTERN = 4, /* no such EXTERNPROTO; first: the document, second: the id */
+    LUHETAMI_DANGLING_NODE = 5,   /* no such node; first: the document, second: the id */
+    LUHETAMI_DANGLING_PROTO = 6,  /* no such PROTO; first: the document, second: the id */
+    LUHETAMI_ROOTLESS = 7,        /* a PROTO's body has no node; first: the document, second: the PROTO's id */
+    LUHETAMI_NODES = 8,           /* more than max_nodes nodes */
+    LUHETAMI_DEPTH = 9,           /* nested deeper than max_depth */
+    LUHETAMI_ROWS = 10,           /* more than max_rows charges */
+    LUHETAMI_SCOPES = 11,         /* scopes holds no further entry; 5 * max_rows words always do, so it does not happen */
+
+    /* luhetami_read_lines */
+    LUHETAMI_LINES_LENGTH = 12, /* bytes no multiple of 89, more rows than words holds, more than 4,294,967,295 lines,
+                                   or answer too short */
+    LUHETAMI_BAD_LINE = 13,     /* a bad line; its number is the place */
+
+    /* luhetami_write_lines */
+    LUHETAMI_WORDS_LENGTH = 14 /* words no multiple of 8, lines too short, more than 48,258,059 rows, or answer too
+                                   short */
+};
+
+/* The words of answer. */
+#define LUHETAMI_EXPAND_ANSWER ((size_t)7) /* refusal, first place, second place, nodes, scopes, charges, rows of out */
+#define LUHETAMI_LINES_ANSWER ((size_t)3)  /* refusal, place, count */
+
+/*
+ * Expands the prototypes of a scene.
+ *
+ * root        one document, of root_len words. It is only read.
+ * library     any number of files, each a row of kind 12 with the file's base and then its document. May be empty. It is
+ *             only read, and may be the same words as root.
+ * max_nodes   N, the most nodes in the output; at most 4,000,000.
+ * max_depth   D, how deep copies may nest; at most 512.
+ * max_rows    K, the most charges. Each row of the output is charged, and each map entry, scope, stored value and binding
+ *             besides; the output has at most as many rows as charges. At most 16,777,216.
+ * out         8 * K words. Accepted: the rows of the expanded document, answer[6] of them.
+ * ledger      3 * N words. Accepted: for each node of the output, in the order of its id, the scope, document and source id
+ *             that it was copied from; answer[3] triples.
+ * scopes      5 * K words. Accepted: for each scope, in the order of opening, its kind (0 root, 1 body, 2 default),
+ *             document, PROTO id, interface index and opening scope, 0 where one does not apply; answer[4] entries.
+ * work        16 * K + 64 * (D + 1) words, used by the call. What it holds before doesn't matter, and nothing is said of
+ *             what it holds after.
+ * answer      7 words: refusal, first place, second place, nodes, scopes, charges, rows of out. Refused, the counts are 0.
+ *             Words past the seventh stay.
+ *
+ * Accepted, the words of out, ledger and scopes past what is written stay. Refused (1 to 11), all of their words stay.
+ */
+uint32_t luhetami_expand(const uint32_t *root, size_t root_len,
+                         const uint32_t *library, size_t library_len,
+                         uint32_t max_nodes, uint32_t max_depth, uint32_t max_rows,
+                         uint32_t *out, size_t out_len,
+                         uint32_t *ledger, size_t ledger_len,
+                         uint32_t *scopes, size_t scopes_len,
+                         uint32_t *work, size_t work_len,
+                         uint32_t *answer, size_t answer_len);
+
+/*
+ * Reads lines: a row is eight numbers without leading zeros, each right-justified with spaces in 11 bytes, then byte 10.
+ *
+ * lines       the text, of lines_len bytes: 89 for each row. It is only read.
+ * words       8 words for each row, or more. Accepted: the rows; words past them stay. Refused, all stay.
+ * answer      3 words: refusal, place (the bad line's number for 13, else 0), row count (0 where refused). More than
+ *             4,294,967,295 lines, which no uint32_t counts, are refused with 12. Words past the third stay.
+ */
+uint32_t luhetami_read_lines(const uint8_t *lines, size_t lines_len,
+                             uint32_t *words, size_t words_len,
+                             uint32_t *answer, size_t answer_len);
+
+/*
+ * Writes lines.
+ *
+ * words       the rows, of words_len words: 8 for each row. They are only read.
+ * lines       89 bytes for each row, or more. Accepted: the text; bytes past it stay. Refused, all stay.
+ * answer      3 words: refusal, place (0), byte count (0 where refused). More than 48,258,059 rows, whose
+ *             bytes no uint32_t counts, are refused with 14: write them in several calls. Words past the third stay.
+ */
+uint32_t luhetami_write_lines(const uint32_t *words, size_t words_len,
+                              uint8_t *lines, size_t lines_len,
+                              uint32_t *answer, size_t answer_len);
+
+#ifdef __cplusplus
+}
+#endif
+
+#endif
