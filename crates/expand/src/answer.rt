@@ -1,0 +1,54 @@
+// What the program writes of an answer: the first line, and how many rows of out come after it.
+use luhetami::Outcome;
+ghost use mathlib.Core.Path.{_≡_};
+ghost use Prim.Native.Nat.{_≤_};
+ghost use Rattle.expand.specs.Answer.{firstLine, outRows};
+
+pub fn refused(number: u32, place: u32) -> Outcome
+    ensures { λ r. ⌜ r ≡ Outcome.Refused number place 0 ⌝ }
+{
+    Outcome::Refused {
+        number,
+        first: place,
+        second: 0,
+    }
+}
+
+// The first line: refusal or 0, two place numbers, 0, nodes, scopes, charges, 0.
+pub fn line(outcome: Outcome) -> [u32; 8]
+    ensures { λ r. ⌜ r ≡ firstLine outcome ⌝ }
+{
+    match outcome {
+        Outcome::Expanded {
+            nodes,
+            scopes,
+            charges,
+            rows: _,
+        } => [0, 0, 0, 0, nodes, scopes, charges, 0],
+        Outcome::Refused {
+            number,
+            first,
+            second,
+        } => [number, first, second, 0, 0, 0, 0, 0],
+    }
+}
+
+// How many rows of out are written; out holds 400.
+pub fn rows(outcome: Outcome) -> usize
+    ensures { λ r. ⌜ r ≡ outRows outcome ⌝ }
+    ensures { λ r. ⌜ r ≤ 400 ⌝ }
+{
+    match outcome {
+        Outcome::Expanded {
+            nodes: _,
+            scopes: _,
+            charges: _,
+            rows,
+        } => if rows < 400 { rows as usize } else { 400 },
+        Outcome::Refused {
+            number: _,
+            first: _,
+            second: _,
+        } => 0,
+    }
+}

@@ -1,0 +1,39 @@
+// The program of document 01: expands the scene on standard input, in Lines form, with an empty library. It writes a line
+// with the refusal, its places and the counts, then the rows of the expanded scene.
+mod answer;
+mod input;
+mod scene;
+
+use input::Input;
+use libc::STDIN_FILENO;
+use libc::STDOUT_FILENO;
+use lines::Written;
+use luhetami::Outcome;
+
+// Standard input's scene, expanded into out. Input that is longer than the lines, or cannot be read, has no length that Read
+// lines takes.
+fn respond(text: &mut [u8], out: &mut [u32]) -> Outcome {
+    match input::read(STDIN_FILENO, text) {
+        Input::Bytes(n) => scene::expand(&text[..n], out),
+        Input::TooLong => answer::refused(12, 0),
+        Input::Failed => answer::refused(12, 0),
+    }
+}
+
+// Rows, as lines on standard output; there is room for as many as out holds.
+fn print(rows: &[u32]) {
+    let mut text = [0u8; 35600];
+    if let Written::Bytes(n) = lines::write_lines(rows, &mut text) {
+        io::write_all(STDOUT_FILENO, &text[..n]);
+    }
+}
+
+fn main() {
+    let mut text = [0u8; 44500];
+    let mut out = [0u32; 3200];
+    let outcome = respond(&mut text, &mut out);
+    let line = answer::line(outcome);
+    let rows = answer::rows(outcome);
+    print(&line);
+    print(&out[..8 * rows]);
+}

@@ -1,0 +1,42 @@
+-- Written by `needs write`, from answers.txt: edit that. The proof.
+use borrow.Author.Needs.{needs}
+use Rattle.replay.proofs.frame.lines.Statement.{statement}
+use Rattle.replay.proofs.frame.lines.Tie as tie
+use Rattle.replay.proofs.frame.lines.Reads as reads
+use Rattle.replay.proofs.frame.lines.Lts as lts
+use Rattle.replay.proofs.frame.read.Reads as read-reads
+use lib.ListN.{length-take}
+use native.Mathlib.Omega.{arith}
+
+returns : tie.Need-returns
+returns c = search needs
+
+mul-end : tie.Need-mul-end
+mul-end c = search needs
+
+array-borrow-prefix-text : tie.Need-array-borrow-prefix-text
+array-borrow-prefix-text c = search needs
+
+slice-aggregate-read : tie.Need-slice-aggregate-read
+slice-aggregate-read c = simp length-take (omega arith)
+
+read-requires : tie.Need-read-requires
+read-requires c κs = search needs
+
+same-length : tie.Need-same-length
+same-length c = search needs
+
+returns-2 : tie.Need-returns-2
+returns-2 c = search needs
+
+pub lines-spec : {M : Type 1} → statement M
+lines-spec =
+    tie.close
+    (tie.spec
+    returns
+    mul-end
+    array-borrow-prefix-text
+    slice-aggregate-read
+    read-requires
+    same-length
+    returns-2)

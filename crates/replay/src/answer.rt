@@ -1,0 +1,41 @@
+// The lines that the program writes.
+use libc::STDOUT_FILENO;
+use luhetami::Outcome;
+ghost use mathlib.Core.Path.{_≡_};
+ghost use Rattle.replay.specs.Answer.{answerLine};
+
+// Refusal, two place numbers, nodes, scopes, charges, rows of out, and the sum.
+fn line(outcome: Outcome, sum: u32) -> [u32; 8]
+    ensures { λ r. ⌜ r ≡ answerLine outcome sum ⌝ }
+{
+    match outcome {
+        Outcome::Expanded {
+            nodes,
+            scopes,
+            charges,
+            rows,
+        } => [0, 0, 0, nodes, scopes, charges, rows, sum],
+        Outcome::Refused {
+            number,
+            first,
+            second,
+        } => [number, first, second, 0, 0, 0, 0, sum],
+    }
+}
+
+fn print_words(words: &[u32; 8]) {
+    let mut text = [0u8; 89];
+    lines::write_lines(words, &mut text);
+    io::write_all(STDOUT_FILENO, &text);
+}
+
+pub fn print(outcome: Outcome, sum: u32) {
+    let words = line(outcome, sum);
+    print_words(&words);
+}
+
+// 99, which is no refusal, and the number of the case.
+pub fn print_malformed(number: u32) {
+    let words = [99, number, 0, 0, 0, 0, 0, 0];
+    print_words(&words);
+}
