@@ -1,0 +1,152 @@
+//! The library's functions, by its C interface (include/luhetami.h).
+
+use crate::answer::Answer;
+use crate::memory::Zeroed;
+
+pub const ROW_WORDS: usize = 8;
+pub const ROW_BYTES: usize = 89;
+pub const MOST_NODES: u32 = 4_000_000;
+pub const MOST_DEPTH: u32 = 512;
+pub const MOST_ROWS: u32 = 16_777_216;
+pub const MOST_SHEET_ROWS: usize = 1_048_576;
+
+/// The refusal of a K that is too small.
+pub const TOO_MANY_ROWS: u32 = 10;
+
+mod c {
+    extern "C" {
+        pub fn luhetami_expand(
+            root: *const u32,
+            root_len: usize,
+            library: *const u32,
+            library_len: usize,
+            max_nodes: u32,
+            max_depth: u32,
+            max_rows: u32,
+            out: *mut u32,
+            out_len: usize,
+            ledger: *mut u32,
+            ledger_len: usize,
+            scopes: *mut u32,
+            scopes_len: usize,
+            work: *mut u32,
+            work_len: usize,
+            answer: *mut u32,
+            answer_len: usize,
+        ) -> u32;
+        pub fn luhetami_read_lines(
+            lines: *const u8,
+            lines_len: usize,
+            words: *mut u32,
+            words_len: usize,
+            answer: *mut u32,
+            answer_len: usize,
+        ) -> u32;
+        pub fn luhetami_write_lines(
+            words: *const u32,
+            words_len: usize,
+            lines: *mut u8,
+            lines_len: usize,
+            answer: *mut u32,
+            answer_len: usize,
+        ) -> u32;
+    }
+}
+
+/// The limits N, D and K.
+pub struct Limits {
+    pub nodes: u32,
+    pub depth: u32,
+    pub rows: u32,
+}
+
+/// What is lent to an expansion.
+pub struct Room {
+    pub out: Zeroed,
+    pub ledger: Zeroed,
+    pub scopes: Zeroed,
+    pub work: Zeroed,
+}
+
+impl Room {
+    /// What the limits ask for. A limit over its cap is refused whatever is lent, so no more is lent than the caps ask for.
+    pub fn new(limits: &Limits) -> Result<Room, String> {
+        let nodes = limits.nodes.min(MOST_NODES) as usize;
+        let depth = limits.depth.min(MOST_DEPTH) as usize;
+        let rows = limits.rows.min(MOST_ROWS) as usize;
+        Ok(Room {
+            out: Zeroed::new(8 * rows)?,
+            ledger: Zeroed::new(3 * nodes)?,
+            scopes: Zeroed::new(5 * rows)?,
+            work: Zeroed::new(16 * rows + 64 * (depth + 1))?,
+        })
+    }
+}
+
+/// Expands a root sheet with a library sheet.
+pub fn expand(root: &[u32], library: &[u32], limits: &Limits, room: &mut Room) -> Answer {
+    let mut answer = [0; 7];
+    // Safety: each pointer comes with the length of its own slice; those that are written are borrowed alone.
+    unsafe {
+        c::luhetami_expand(
+            root.as_ptr(),
+            root.len(),
+            library.as_ptr(),
+            library.len(),
+            limits.nodes,
+            limits.depth,
+            limits.rows,
+            room.out.as_mut_ptr(),
+            room.out.len(),
+            room.ledger.as_mut_ptr(),
+            room.ledger.len(),
+            room.scopes.as_mut_ptr(),
+            room.scopes.len(),
+            room.work.as_mut_ptr(),
+            room.work.len(),
+            answer.as_mut_ptr(),
+            answer.len(),
+        )
+    };
+    Answer(answer)
+}
+
+/// Reads lines into words. The row count, or the refusal and its place.
+pub fn read_lines(lines: &[u8], words: &mut [u32]) -> Result<usize, (u32, u32)> {
+    let mut answer = [0; 3];
+    // Safety: as in `expand`.
+    let refusal = unsafe {
+        c::luhetami_read_lines(
+            lines.as_ptr(),
+            lines.len(),
+            words.as_mut_ptr(),
+            words.len(),
+            answer.as_mut_ptr(),
+            answer.len(),
+        )
+    };
+    match refusal {
+        0 => Ok(answer[2] as usize),
+        _ => Err((refusal, answer[1])),
+    }
+}
+
+/// Writes words as lines. The byte count, or the refusal.
+pub fn write_lines(words: &[u32], lines: &mut [u8]) -> Result<usize, u32> {
+    let mut answer = [0; 3];
+    // Safety: as in `expand`.
+    let refusal = unsafe {
+        c::luhetami_write_lines(
+            words.as_ptr(),
+            words.len(),
+            lines.as_mut_ptr(),
+            lines.len(),
+            answer.as_mut_ptr(),
+            answer.len(),
+        )
+    };
+    match refusal {
+        0 => Ok(answer[2] as usize),
+        _ => Err(refusal),
+    }
+}

@@ -1,0 +1,84 @@
+//! The arguments.
+
+use std::ffi::OsString;
+
+pub const USAGE: &str = "\
+usage: luhetami [OPTION]... SCENE.lines
+
+Expands the prototypes of a scene and writes the expanded rows, in Lines form, to standard output; the answer, in words and
+in numbers, goes to standard error. SCENE.lines may be - for standard input.
+
+  --nodes N             at most N nodes; without it 4000000, the cap
+  --depth D             nested at most D deep; without it 512, the cap
+  --rows K              at most K charges; without it as many as are needed, up to 16777216, the cap
+  --library BASE=FILE   a document that the scene's urls name by the base's number; may be given again, in the library's order
+  --ledger FILE         write the ledger: scope, document and source id of each node
+  --scopes FILE         write the scopes: kind, document, PROTO id, interface index and opening scope of each
+  --help                print this
+
+The exit status is 0 where the scene is accepted, the refusal's number (1 to 14) where it is refused, 64 where the arguments
+are wrong and 74 where the operating system refuses something.
+";
+
+pub struct Options {
+    pub nodes: Option<u32>,
+    pub depth: Option<u32>,
+    pub rows: Option<u32>,
+    /// Base and file.
+    pub library: Vec<(u32, String)>,
+    pub ledger: Option<String>,
+    pub scopes: Option<String>,
+    pub scene: String,
+}
+
+pub enum Command {
+    Expand(Options),
+    Help,
+}
+
+/// The command of some arguments, or what is wrong with them.
+pub fn parse(arguments: impl Iterator<Item = OsString>) -> Result<Command, String> {
+    let mut arguments = arguments.map(|a| a.into_string().map_err(|a| format!("not UTF-8: {a:?}")));
+    let mut options = Options {
+        nodes: None,
+        depth: None,
+        rows: None,
+        library: Vec::new(),
+        ledger: None,
+        scopes: None,
+        scene: String::new(),
+    };
+    let mut scenes = Vec::new();
+    while let Some(argument) = arguments.next() {
+        let argument = argument?;
+        if argument == "--help" {
+            return Ok(Command::Help);
+        }
+        if !argument.starts_with("--") {
+            scenes.push(argument);
+            continue;
+        }
+        let mut value = || arguments.next().unwrap_or_else(|| Err(format!("{argument} wants a value")));
+        match argument.as_str() {
+            "--nodes" => options.nodes = Some(number(&value()?)?),
+            "--depth" => options.depth = Some(number(&value()?)?),
+            "--rows" => options.rows = Some(number(&value()?)?),
+            "--ledger" => options.ledger = Some(value()?),
+            "--scopes" => options.scopes = Some(value()?),
+            "--library" => {
+                let text = value()?;
+                let (base, file) = text.split_once('=').ok_or(format!("--library wants BASE=FILE, not {text}"))?;
+                options.library.push((number(base)?, file.to_owned()));
+            }
+            _ => return Err(format!("unknown option {argument}")),
+        }
+    }
+    match <[String; 1]>::try_from(scenes) {
+        Ok([scene]) => Ok(Command::Expand(Options { scene, ..options })),
+        Err(scenes) => Err(format!("one scene is wanted, not {}", scenes.len())),
+    }
+}
+
+fn number(text: &str) -> Result<u32, String> {
+    text.parse().map_err(|_| format!("not a number from 0 to {}: {text}", u32::MAX))
+}

@@ -1,0 +1,222 @@
+#!/usr/bin/env python3
+"""Makes the scenes from flights.txt: NAME.lines, NAME.expected, the library's files, and the lists in README.md.
+
+The expected answers come from reckon.py, and never from the program. Run again, it writes the same bytes.
+"""
+import re
+import sys
+import textwrap
+from pathlib import Path
+
+sys.dont_write_bytecode = True  # no files beside the sources
+from reckon import NONE, deep, expand, row
+from reading import line
+
+FOLDER = Path(__file__).resolve().parent
+LIMITS = 400, 64, 400  # N, D and K of the program expand
+MOST_ROWS = 500
+HEADER = 5
+TAGS = (
+    "SFBool SFColor SFFloat SFImage SFInt32 SFNode SFRotation SFString SFTime SFVec2f SFVec3f "
+    "MFColor MFFloat MFInt32 MFNode MFRotation MFString MFTime MFVec2f MFVec3f"
+).split()  # the first of FieldType::ALL
+ACCESS = ["eventIn", "eventOut", "field", "exposedField"]
+MARKS = ["field", "interface", "statement"]
+
+
+class Names:
+    """Words to numbers, in the order of first use. 7 comes first: in document 01's example it is the node's type name."""
+
+    def __init__(self):
+        self.numbers = {}
+
+    def __getitem__(self, word):
+        return self.numbers.setdefault(word, 7 + len(self.numbers))
+
+
+class Scene:
+    """One scene or library file of flights.txt: its rows."""
+
+    def __init__(self, kind, name, names):
+        self.kind, self.name, self.names = kind, name, names
+        self.words = []  # what it shows
+        self.parts = {"node": [], "PROTO": [], "EXTERNPROTO": [], "top": []}  # each part: its head, its lines
+        self.labels = {"node": [], "PROTO": [], "EXTERNPROTO": []}  # in order; an id is a label's place
+
+    def part(self, head):
+        kind = "node" if head[0] == "DEF" else head[0]
+        self.parts[kind].append((head, []))
+        if kind != "top":
+            self.labels[kind].append(head[1])
+        return self.parts[kind][-1][1]
+
+    def id(self, kind, label):
+        """A label's id; a number stands for itself."""
+        return int(label) if label.isdigit() else self.labels[kind].index(label)
+
+    def value(self, words):
+        """Columns e, f, g of `TYPE NUMBER` or `TYPE [ LABEL ... ]`, and the id rows."""
+        tag, *rest = words
+        if rest[0] == "[" and rest[-1] == "]":
+            ids = [row(9, self.id("node", label)) for label in rest[1:-1]]
+            return [TAGS.index(tag), 2, len(ids)], ids
+        (payload,) = rest
+        return [TAGS.index(tag), 1, int(payload)], []
+
+    def interface(self, words):
+        """`ACCESS TYPE NAME`, then perhaps `IS NAME`, then perhaps a value."""
+        access, tag, name, *rest = words
+        target = NONE
+        if rest[:1] == ["IS"]:
+            target, rest = self.names[rest[1]], rest[2:]
+        columns, ids = self.value([tag] + rest) if rest else ([0, 0, 0], [])
+        return [row(4, ACCESS.index(access), TAGS.index(tag), self.names[name], target, *columns)] + ids
+
+    def field(self, words):
+        """`NAME IS NAME` or `NAME TYPE VALUE`."""
+        name, *rest = words
+        if rest[0] == "IS":
+            return [row(3, self.names[name], 1, self.names[rest[1]])]
+        columns, ids = self.value(rest)
+        return [row(3, self.names[name], 0, 0, 0, *columns)] + ids
+
+    def statement(self, words):
+        if words[0] == "ROUTE":
+            ends = [words[1].split("."), words[3].split(".")]
+            numbers = [self.names[word] for end in ends for word in end]
+            return row(5, 3, *numbers, *(self.id("node", label) for label, _ in ends))
+        if words[0] in ("PROTO", "EXTERNPROTO"):
+            return row(5, 1 if words[0] == "PROTO" else 2, self.id(*words))
+        if words[0] == "other":
+            return row(5, 4, int(words[1]))
+        return row(5, 0, self.id("node", *words))
+
+    def node(self, head, lines):
+        word, label, type_name = head
+        origin = (0, 0)
+        for number, kind in ((1, "PROTO"), (2, "EXTERNPROTO")):
+            if type_name in self.labels[kind]:
+                origin = number, self.id(kind, type_name)
+        found = {"field": [], "interface": [], "statement": [], "order": []}
+        for words in lines:
+            if words[0] == "order":
+                found["order"] += [row(6, MARKS.index(mark)) for mark in words[1:]]
+            elif words[0] in ACCESS:
+                found["interface"] += self.interface(words)
+            elif words[0] in ("ROUTE", "PROTO", "EXTERNPROTO"):
+                found["statement"].append(self.statement(words))
+            else:
+                found["field"] += self.field(words)
+        head = row(2, self.names[type_name], self.names[label] if word == "DEF" else NONE, *origin)
+        return [head, *found["field"], *found["interface"], *found["statement"], *found["order"]]
+
+    def proto(self, head, lines):
+        at = lines.index(["body"])
+        rows = [row(7, self.names[head[1]])]
+        for words in lines[:at]:
+            rows += self.interface(words)
+        return rows + [self.statement(words) for words in lines[at + 1 :]]
+
+    def extern(self, head, lines):
+        rows = [row(8, self.names[head[1]])]
+        for words in lines:
+            if words[0] == "url":
+                base, *fragment = [self.names[word] for word in words[1:] if word != "#"]
+                rows.append(row(10, base, *(fragment or [NONE])))
+            else:
+                rows += self.interface(words)
+        return rows
+
+    def rows(self):
+        rows = [row(1, HEADER)]
+        for kind, write in (("node", self.node), ("PROTO", self.proto), ("EXTERNPROTO", self.extern)):
+            for head, lines in self.parts[kind]:
+                rows += write(head, lines)
+        ((_, lines),) = self.parts["top"]
+        return rows + [row(11)] + [self.statement(words) for words in lines]
+
+
+def read_flights(names):
+    """The scenes in the order of the page."""
+    scenes, lines = [], None
+    for text in (FOLDER / "flights.txt").read_text().splitlines():
+        words = text.split()
+        if not words or text.startswith("#"):
+            continue
+        if not text.startswith(" "):
+            if words[0] in ("scene", "library"):
+                scenes.append(Scene(*words, names))
+                lines = scenes[-1].words
+            else:
+                lines = scenes[-1].part(words)
+        else:
+            lines.append(words)
+    return scenes
+
+
+def lines_of(rows):
+    return b"".join(line(r) for r in rows)
+
+
+def words_of(rows):
+    return [number for r in rows for number in r]
+
+
+def printed(root, library=()):
+    """What the program expand prints, and its answer."""
+    answer, out, _, _ = expand(words_of(root), words_of(library), *LIMITS)
+    refusal, first, second, nodes, scopes, charges, _ = answer
+    return lines_of([[refusal, first, second, 0, nodes, scopes, charges, 0]] + out), answer
+
+
+def in_words(answer):
+    refusal, first, second, nodes, scopes, charges, rows = answer
+    if refusal:
+        return f"refused {refusal}, places {first} and {second}"
+    counts = (nodes, "node"), (scopes, "scope"), (charges, "charge"), (rows, "row")
+    return ", ".join(f"{n} {what}{'s' * (n != 1)}" for n, what in counts) + " out"
+
+
+def page_lists(scenes, answers, names):
+    """The lists of the page: every scene in words with its answer, every name with its number."""
+    text = []
+    for scene in scenes:
+        where = "library/" if scene.kind == "library" else ""
+        said = f" ({answers[scene.name]})" if scene.name in answers else ""
+        shown = " ".join(word for words in scene.words for word in words)
+        text.append(textwrap.fill(f"- **{where}{scene.name}**{said}: {shown}", 124, subsequent_indent="  "))
+    table = ", ".join(f"{word}\0{number}" for word, number in names.numbers.items())  # a pair stays on its line
+    text += ["", "The names and their numbers:", "", textwrap.fill(table, 124).replace("\0", " ") + "."]
+    return "\n".join(text)
+
+
+def main():
+    names = Names()
+    scenes = read_flights(names)
+    sheets = {scene.name: scene.rows() for scene in scenes}
+    answers = {}
+    for scene in scenes:
+        rows = sheets[scene.name]
+        if scene.kind == "library":
+            (FOLDER / "library" / f"{scene.name}.lines").write_bytes(lines_of(rows))
+            continue
+        assert len(rows) <= MOST_ROWS, scene.name
+        text, answer = printed(rows)
+        answers[scene.name] = f"{len(rows)} rows; {in_words(answer)}"
+        (FOLDER / f"{scene.name}.lines").write_bytes(lines_of(rows))
+        (FOLDER / f"{scene.name}.expected").write_bytes(text)
+
+    library = [row(12, names["whaleFile"])] + sheets["whales"]
+    text, answer = printed(sheets["extern-kept"], library)
+    (FOLDER / "library" / "extern-kept.expected").write_bytes(text)
+    answers["whales"] = f"{len(sheets['whales'])} rows; with it extern-kept gives {in_words(answer)}"
+
+    page = FOLDER / "README.md"
+    lists = page_lists(scenes, answers, names)
+    made = re.compile("(<!-- made by make.py -->\n).*(<!-- end -->)", re.S)
+    page.write_text(made.sub(lambda m: f"{m[1]}{lists}\n{m[2]}", page.read_text()))
+    print(f"{len(scenes)} sheets, {len(names.numbers)} names")
+
+
+if __name__ == "__main__":
+    deep(main)
