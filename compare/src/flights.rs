@@ -109,6 +109,17 @@ fn flights() -> Vec<Flight> {
     ]
 }
 
+/// The flights' calls, with a limit of charges that is no more than this.
+pub fn calls(most_rows: u32) -> Vec<Call> {
+    let call = |f: Flight| Call::new(f.rows, Vec::new(), f.limits[0], f.limits[1], f.limits[2].min(most_rows));
+    flights().into_iter().map(call).collect()
+}
+
+/// The pod whose field leads back to it, from the pod.
+pub fn pod_from_itself(max_rows: u32) -> Call {
+    Call::new(pod(0), Vec::new(), 400, 64, max_rows)
+}
+
 /// Every flight, against its words and against the original. The number that fail.
 pub fn run() -> u64 {
     let flights = flights();

@@ -15,23 +15,19 @@ use crate::reckon;
 use crate::scenes::lent;
 use crate::versus;
 
-pub const MAGIC: u32 = 0x4C55_4845;
-const OUT: u32 = 0x5A00_0000;
-const LEDGER: u32 = 0x5B00_0000;
-const SCOPES: u32 = 0x5C00_0000;
+const MAGIC: u32 = 0x4C55_4845;
+pub const OUT: u32 = 0x5A00_0000;
+pub const LEDGER: u32 = 0x5B00_0000;
+pub const SCOPES: u32 = 0x5C00_0000;
+/// Word i of work is i times this, wrapped.
+pub const GARBAGE: u32 = 2_654_435_761;
 /// Words of an answer before out.
 pub const HEAD: usize = 8;
 
 /// The three lent slices as they are before the call.
-pub fn patterns(lent: [u64; 4]) -> [Vec<u32>; 3] {
+fn patterns(lent: [u64; 4]) -> [Vec<u32>; 3] {
     let fill = |first: u32, length: u64| (0..length as u32).map(|i| first.wrapping_add(i)).collect();
     [fill(OUT, lent[0]), fill(LEDGER, lent[1]), fill(SCOPES, lent[2])]
-}
-
-/// Work as it is before the call.
-#[cfg_attr(not(feature = "library"), allow(dead_code))]
-pub fn garbage(length: u64) -> Vec<u32> {
-    (0..length as u32).map(|i| i.wrapping_mul(2_654_435_761)).collect()
 }
 
 /// The answer frame that a call must give.
@@ -61,7 +57,7 @@ pub fn expected(call: &Call, mutant: Option<Mutant>) -> Vec<u32> {
 }
 
 /// The first word in which an answer frame departs from what it must be.
-pub fn difference(call: &Call, expected: &[u32], got: &[u32]) -> Option<String> {
+fn difference(call: &Call, expected: &[u32], got: &[u32]) -> Option<String> {
     let at = (0..expected.len().max(got.len())).find(|i| expected.get(*i) != got.get(*i))?;
     let heads = ["magic", "refusal", "first place", "second place", "nodes", "scopes", "charges", "rows of out"];
     let place = if at < HEAD {
@@ -166,7 +162,7 @@ pub fn check(cases: &str, answers: &str) -> io::Result<u64> {
 
 /// Counts of a run over many calls.
 #[derive(Default)]
-pub struct Report {
+struct Report {
     cases: u64,
     refused: [u64; 12],
     differences: u64,
@@ -175,7 +171,7 @@ pub struct Report {
 
 impl Report {
     /// One answer frame held against what it must be.
-    pub fn note(&mut self, call: &Call, expected: &[u32], got: &[u32]) {
+    fn note(&mut self, call: &Call, expected: &[u32], got: &[u32]) {
         if let Some(what) = difference(call, expected, got) {
             self.differences += 1;
             if self.smallest.as_ref().is_none_or(|(_, c, _)| call.size() < c.size()) {
@@ -187,7 +183,7 @@ impl Report {
     }
 
     /// The number of differences, with the counts printed.
-    pub fn print(&self) -> u64 {
+    fn print(&self) -> u64 {
         print!("{} calls, accepted: {}, refused:", self.cases, self.refused[0]);
         for (number, count) in self.refused.iter().enumerate().skip(1).filter(|(_, c)| **c > 0) {
             print!(" {number}: {count}");

@@ -1,89 +1,159 @@
-//! The static library under test, by its C interface. Built with the feature `library`; `build.rs` links `libluhetami.a`.
+//! The static library under test: every call's words held against the reckoning, and its rows or refusal against the
+//! original. Built with the feature `library`.
 
-use crate::call::Call;
-use crate::frames::{self, HEAD, MAGIC};
-use crate::scenes::lent;
+use std::fmt;
 
-/// What an answer's words are before the call; no count or refusal is this number.
-const UNANSWERED: u32 = 0xA5A5_A5A5;
+use crate::call::{Answer, Call};
+use crate::coverage::Coverage;
+use crate::held::{Slices, ANSWER};
+use crate::scenes::{families, large, lent, MOST_CHARGES};
+use crate::shrink::shrink;
+use crate::{flights, reckon, sweeps, versus};
 
-extern "C" {
-    fn luhetami_expand(
-        root: *const u32,
-        root_length: usize,
-        library: *const u32,
-        library_length: usize,
-        max_nodes: u32,
-        max_depth: u32,
-        max_rows: u32,
-        out: *mut u32,
-        out_length: usize,
-        ledger: *mut u32,
-        ledger_length: usize,
-        scopes: *mut u32,
-        scopes_length: usize,
-        work: *mut u32,
-        work_length: usize,
-        answer: *mut u32,
-        answer_length: usize,
-    ) -> u32;
+/// K of the families' calls; their scenes take less.
+const FAMILY_ROWS: u32 = 400;
+/// Scenes with every K, every N and every D.
+const SWEPT: u64 = 300;
+
+/// Counts of some calls.
+#[derive(Clone, Copy, Default)]
+struct Counts {
+    calls: u64,
+    refused: [u64; 12],
+    original: u64,
+    differences: u64,
 }
 
-/// One call with an answer of this many words: the result, the answer, and out, ledger and scopes.
-fn expand(call: &Call, answer_words: usize) -> (u32, Vec<u32>, [Vec<u32>; 3]) {
-    let [mut out, mut ledger, mut scopes] = frames::patterns(call.lent);
-    let mut work = frames::garbage(call.lent[3]);
-    let mut answer = vec![UNANSWERED; answer_words];
-    // Safety: every pointer comes with the length of its own vector.
-    let result = unsafe {
-        luhetami_expand(
-            call.root.as_ptr(),
-            call.root.len(),
-            call.library.as_ptr(),
-            call.library.len(),
-            call.max_nodes,
-            call.max_depth,
-            call.max_rows,
-            out.as_mut_ptr(),
-            out.len(),
-            ledger.as_mut_ptr(),
-            ledger.len(),
-            scopes.as_mut_ptr(),
-            scopes.len(),
-            work.as_mut_ptr(),
-            work.len(),
-            answer.as_mut_ptr(),
-            answer.len(),
-        )
+impl Counts {
+    fn since(&self, before: &Counts) -> Counts {
+        let mut counts = *self;
+        counts.calls -= before.calls;
+        counts.original -= before.original;
+        counts.differences -= before.differences;
+        counts.refused.iter_mut().zip(before.refused).for_each(|(now, then)| *now -= then);
+        counts
+    }
+}
+
+impl fmt::Display for Counts {
+    fn fmt(&self, f: &mut fmt::Formatter<'_>) -> fmt::Result {
+        write!(f, "{} calls, {} of them with the original, accepted {}", self.calls, self.original, self.refused[0])?;
+        let mut before = ", refused";
+        for (number, count) in self.refused.iter().enumerate().skip(1).filter(|(_, c)| **c > 0) {
+            write!(f, "{before} {number}: {count}")?;
+            before = ",";
+        }
+        write!(f, "; {} differences", self.differences)
+    }
+}
+
+/// A run over many calls.
+#[derive(Default)]
+struct Run {
+    slices: Slices,
+    counts: Counts,
+    coverage: Coverage,
+    smallest: Option<(Call, String)>,
+}
+
+/// How the library parts from the reckoning or from the original on one call, and whether the original was asked.
+fn differs(slices: &mut Slices, call: &Call, expected: &Answer) -> (Option<String>, bool) {
+    let words = slices.differs(call, expected, ANSWER);
+    // Where every word is the reckoning's, the original may be held against either.
+    let original = versus::against_original(call, expected);
+    let asked = original.is_some();
+    (words.or_else(|| original.and_then(|o| o.err()).map(|o| format!("the original: {o}"))), asked)
+}
+
+impl Run {
+    /// One call with its answer.
+    fn note(&mut self, call: &Call, expected: &Answer) {
+        let (difference, asked) = differs(&mut self.slices, call, expected);
+        self.counts.calls += 1;
+        self.counts.original += asked as u64;
+        self.counts.refused[expected.as_ref().map_or_else(|r| r.number as usize, |_| 0)] += 1;
+        if let Some(what) = difference {
+            self.found(call, what);
+        }
+    }
+
+    fn found(&mut self, call: &Call, what: String) {
+        self.counts.differences += 1;
+        if self.smallest.as_ref().is_none_or(|(c, _)| call.size() < c.size()) {
+            self.smallest = Some((call.clone(), what));
+        }
+    }
+
+    /// Calls under a name; their counts are printed.
+    fn stage(&mut self, name: &str, calls: impl Iterator<Item = Call>, covers: bool) {
+        let before = self.counts;
+        for call in calls {
+            let expected = reckon::expand(&call, None);
+            self.note(&call, &expected);
+            if covers {
+                self.coverage.note(&call, &expected);
+            }
+        }
+        println!("{name}: {}", self.counts.since(&before));
+    }
+
+    /// Answers of other lengths: under seven words refused and nothing written, over it the rest stays.
+    fn answers(&mut self, calls: impl Iterator<Item = Call>) {
+        let before = self.counts;
+        for call in calls {
+            let expected = reckon::expand(&call, None);
+            for words in (0..ANSWER).chain([ANSWER + 1, ANSWER + 9]) {
+                self.counts.calls += 1;
+                self.counts.refused
+                    [if words < ANSWER { 1 } else { expected.as_ref().map_or_else(|r| r.number as usize, |_| 0) }] += 1;
+                if let Some(what) = self.slices.differs(&call, &expected, words) {
+                    self.found(&call, format!("with an answer of {words} words: {what}"));
+                }
+            }
+        }
+        println!("answers of 0 to 6, 8 and 16 words: {}", self.counts.since(&before));
+    }
+}
+
+/// A call with N and K just enough, with K one less and with N one less; the call itself where it is refused.
+fn tight(call: Call) -> Vec<Call> {
+    let Ok(e) = reckon::expand(&call, None) else {
+        return vec![Call::new(call.root, call.library, call.max_nodes, call.max_depth, 3_000_000)];
     };
-    (result, answer, [out, ledger, scopes])
+    let with = |nodes, rows| Call::new(call.root.clone(), call.library.clone(), nodes, call.max_depth, rows);
+    vec![with(e.nodes, e.charges), with(e.nodes, e.charges - 1), with(e.nodes - 1, e.charges)]
 }
 
-/// One call as an answer frame. Where the result and the answer's first word part, the frame shows neither.
-fn frame(call: &Call) -> Vec<u32> {
-    let (result, answer, slices) = expand(call, HEAD - 1);
-    let mut frame = vec![MAGIC];
-    frame.extend(answer);
-    if result != frame[1] {
-        frame[1] = UNANSWERED;
-    }
-    slices.into_iter().for_each(|s| frame.extend(s));
-    frame
-}
-
-/// An answer shorter than seven words is refused by 1, and everything is kept.
-fn short_answer(call: &Call) -> bool {
-    (0..HEAD - 1).all(|words| expand(call, words) == (1, vec![UNANSWERED; words], frames::patterns(call.lent)))
-}
-
-/// The calls of a seed through the library. The number of differences.
+/// The calls of a seed through the library. The number of differences, and of shapes not met.
 pub fn run(count: u64, seed: u64) -> u64 {
-    let mut report = frames::Report::default();
-    let numbered = (0..count).map(|number| lent::call(seed, number, lent::USUAL));
-    for call in lent::caps().into_iter().chain(numbered) {
-        report.note(&call, &frames::expected(&call, None), &frame(&call));
+    let mut run = Run::default();
+    run.stage(
+        "flights",
+        flights::calls(u32::MAX)
+            .into_iter()
+            .map(|c| Call::new(c.root, c.library, c.max_nodes, c.max_depth, c.max_rows.min(400))),
+        true,
+    );
+    run.stage("sheets of 1,048,576 rows and one more", lent::caps().into_iter(), false);
+    run.stage("families, every scene", (0..families::total()).map(|n| families::scene(n).call(FAMILY_ROWS)), true);
+    run.stage("random scenes", (0..count).map(|number| lent::call(seed, number, lent::USUAL)), true);
+    run.stage("every K, N and D of 300 scenes", sweeps::calls(SWEPT, seed), false);
+    run.stage(
+        "large scenes, K just enough, K one less and N one less",
+        large::all().into_iter().flat_map(|(_, s)| tight(s.call(MOST_CHARGES))),
+        false,
+    );
+    run.stage("everything at its cap", [large::most(4000).call(MOST_CHARGES)].into_iter(), false);
+    run.answers((0..count.min(100)).map(|number| lent::call(seed, number, lent::USUAL)));
+    println!("what the accepted and refused scenes contained, calls:");
+    let missing = run.coverage.print();
+    if let Some((call, _)) = run.smallest.take() {
+        let shows = |c: &Call| differs(&mut Slices::default(), c, &reckon::expand(c, None)).0;
+        let call = if call.size() < 5000 { shrink(&call, |c| shows(c).is_some()) } else { call };
+        let what = shows(&call).unwrap_or("only after other calls".into());
+        let text = if call.size() < 5000 { versus::show(&call) } else { format!("  {} rows", call.size()) };
+        println!("smallest difference: {what}\n  lent {:?}\n{text}", call.lent);
     }
-    let short = (0..count.min(100)).all(|number| short_answer(&lent::call(seed, number, lent::USUAL)));
-    println!("answers shorter than seven words {}", if short { "are refused and kept" } else { "DIFFER" });
-    report.print() + !short as u64
+    println!("in all: {}", run.counts);
+    run.counts.differences + missing
 }

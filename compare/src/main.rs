@@ -1,19 +1,27 @@
 //! Comparison of the expansion of document 01 with the original Rust, and frames for a program under test.
 
 mod automaton;
+mod bench;
 mod call;
 mod charges;
 mod closure;
+#[cfg(feature = "library")]
+mod coverage;
 mod flights;
 mod frames;
 mod grammar;
 #[cfg(feature = "library")]
+mod held;
+#[cfg(feature = "library")]
 mod library;
+mod linked;
+mod memory;
 mod mutants;
 mod output;
 mod picks;
 mod random;
 mod reckon;
+mod replay;
 mod rows;
 mod rust;
 mod scenes;
@@ -39,7 +47,10 @@ compare frames write FILE COUNT SEED [--small] [--caps]
 compare frames check CASES ANSWERS
 compare frames mutants COUNT SEED          every mutant over COUNT frames, every other one small
 compare frames answer CASES ANSWERS [MUTANT]
-compare library COUNT SEED                 the linked static library (feature `library`)";
+compare replay FOLDER                      write the program `replay`'s stdin and stdout, each case checked
+compare library COUNT SEED                 the linked static library (feature `library`)
+compare bench [PART]                       times of the original, the linked library and copying; scenes whose name has PART
+compare bench spin PART SECONDS            the library's calls alone, for a profiler";
 
 const FLAGS: [&str; 2] = ["--small", "--caps"];
 
@@ -72,6 +83,7 @@ fn command() -> Result<u64, String> {
             println!("{:?}\nagainst the original: {original:?}", reckon::expand(&call, None));
             Ok(0)
         }
+        ["replay", folder] => replay::run(folder),
         ["flights"] => Ok(flights::run()),
         ["large"] => Ok(versus::large()),
         ["mutants", count, seed] => Ok(mutants::run(number(count)?, number(seed)?)),
@@ -93,6 +105,9 @@ fn command() -> Result<u64, String> {
             frames::answer(cases, answers, mutant).map_err(|e| e.to_string())?;
             Ok(0)
         }
+        ["bench"] => Ok(bench::run("")),
+        ["bench", "spin", part, seconds] => Ok(bench::spin(part, number(seconds)?)),
+        ["bench", part] => Ok(bench::run(part)),
         #[cfg(feature = "library")]
         ["library", count, seed] => Ok(library::run(number(count)?, number(seed)?)),
         _ => Err(USAGE.into()),

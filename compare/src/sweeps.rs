@@ -1,27 +1,51 @@
 //! Every limit from 0 to beyond what a scene needs.
 
-use crate::call::Call;
+use crate::call::{Answer, Call};
 use crate::reckon;
 use crate::tally::Tally;
 use crate::versus::{case, check, show};
+
+/// The scenes that are swept: number, call and answer. Accepted ones of some size, and some of those refused by 4 to 9.
+fn scenes(seed: u64) -> impl Iterator<Item = (u64, Call, Answer)> {
+    (1 + (1u64 << 40)..).filter_map(move |number| {
+        let call = case(seed, number);
+        let full = reckon::expand(&call, None);
+        let taken = match &full {
+            Ok(e) => e.charges > 30 && e.charges < 600,
+            Err(r) => (4..=9).contains(&r.number) && number % 16 == 0,
+        };
+        taken.then_some((number, call, full))
+    })
+}
+
+/// The least K with which a call has its answer.
+fn least_rows(call: &Call, full: &Answer) -> u32 {
+    let with = |max_rows| Call { max_rows, ..call.clone() };
+    (0..).find(|k| reckon::expand(&with(*k), None) == *full).unwrap()
+}
+
+/// The same sweeps as calls with slices of just the needed lengths: every K, every N and every D of `count` scenes.
+#[cfg_attr(not(feature = "library"), allow(dead_code))]
+pub fn calls(count: u64, seed: u64) -> impl Iterator<Item = Call> {
+    scenes(seed).take(count as usize).flat_map(|(_, call, full)| {
+        let least = least_rows(&call, &full);
+        let nodes = full.as_ref().map_or(call.max_nodes, |e| e.nodes);
+        let (n, d) = (call.max_nodes, call.max_depth);
+        let every_k = (0..least + 3).map(|k| (n, d, k));
+        let every_n = (0..nodes + 2).map(|n| (n, d, least + 2));
+        let every_d = (0..d + 2).map(|d| (n, d, least + 2));
+        let limits: Vec<_> = every_k.chain(every_n).chain(every_d).collect();
+        limits.into_iter().map(move |(n, d, k)| Call::new(call.root.clone(), call.library.clone(), n, d, k))
+    })
+}
 
 /// For `count` random scenes every K, every N and every D up to beyond what they need. The number of differences.
 pub fn run(count: u64, seed: u64) -> u64 {
     let mut tally = Tally::default();
     let mut differences = 0;
     let mut rows_tried = 0u64;
-    let mut number = 1 << 40;
-    let mut swept = 0;
-    while swept < count {
-        number += 1;
-        let call = case(seed, number);
-        let full = reckon::expand(&call, None);
-        let charges = match &full {
-            Ok(e) if e.charges > 30 && e.charges < 600 => Some(e.charges),
-            Err(r) if (4..=9).contains(&r.number) && number % 16 == 0 => None,
-            _ => continue,
-        };
-        swept += 1;
+    for (number, call, full) in scenes(seed).take(count as usize) {
+        let charges = full.as_ref().ok().map(|e| e.charges);
         let mut report = |what: Result<(), String>, call: &Call| {
             if let Err(what) = what {
                 differences += 1;
@@ -61,7 +85,7 @@ pub fn run(count: u64, seed: u64) -> u64 {
             report(check(&limited, &mut tally), &limited);
         }
     }
-    print!("{swept} scenes with every N and every D: {tally}");
+    print!("{count} scenes with every N and every D: {tally}");
     println!("the same scenes with every K: {rows_tried} calls");
     println!("{differences} differences");
     differences

@@ -48,7 +48,7 @@ impl Digits {
 type Family = fn(&mut Digits) -> Scene;
 
 /// The families, each with its name.
-const FAMILIES: [(&str, Family); 8] = [
+const FAMILIES: [(&str, Family); 9] = [
     ("loops", loops),
     ("values", values),
     ("marks", marks),
@@ -57,6 +57,7 @@ const FAMILIES: [(&str, Family); 8] = [
     ("refusals", refusals),
     ("nested", nested),
     ("routes", routes),
+    ("fetched", fetched),
 ];
 
 /// Name and size of each family.
@@ -330,4 +331,36 @@ fn routes(d: &mut Digits) -> Scene {
     let may = [Statement::Node(0), Statement::Node(1), route(0, 1), route(2, 1)];
     let top = d.list(&may, 3);
     scene_of(list, vec![Proto { name: 9, interfaces: vec![declared(1, None)], body }], top)
+}
+
+/// A file's PROTO with ids that lead nowhere, instances and externs of its own, instantiated from the root.
+fn fetched(d: &mut Digits) -> Scene {
+    let origin = d.of(&[
+        Origin::Builtin,
+        Origin::Unknown,
+        Origin::Extern(0),
+        Origin::Extern(9),
+        Origin::Proto(0),
+        Origin::Proto(1),
+        Origin::Proto(9),
+    ]);
+    let ids: &[u32] = d.of(&[&[][..], &[1], &[9], &[1, 9]]);
+    let inner = d.of(&[Origin::Builtin, Origin::Extern(9), Origin::Proto(9)]);
+    let default = d.of(&[None, Some(nodes(&[])), Some(nodes(&[1])), Some(nodes(&[9]))]);
+    let may = [Statement::Node(0), Statement::Node(9), Statement::Extern(0), Statement::Extern(9), route(0, 1)];
+    let body = d.list(&may, 2);
+    let second: &[u32] = d.of(&[&[1][..], &[]]);
+    let protos = vec![
+        Proto { name: 5, interfaces: vec![declared(1, default)], body },
+        Proto { name: 6, interfaces: vec![], body: mention(second) },
+    ];
+    let externs = vec![Extern { name: 4, interfaces: vec![], urls: vec![(1, Some(6))] }];
+    let list = vec![node(60, origin, vec![given(1, nodes(ids)), is(2, 1)]), node(61, inner, vec![])];
+    let doc = Doc { header: 1, nodes: list, protos, externs, top: vec![Statement::Proto(0)] };
+    let fields = d.of(&[vec![], vec![given(1, nodes(&[1]))]]);
+    let list = vec![node(50, Origin::Extern(0), fields), plain(51, vec![])];
+    let urls = vec![(1, d.of(&[None, Some(5)]))];
+    let externs = vec![Extern { name: 3, interfaces: vec![], urls }];
+    let root = Doc { header: 5, nodes: list, protos: vec![], externs, top: mention(&[0]) };
+    Scene { root, files: vec![File { base: 1, doc }], max_nodes: 40, max_depth: 7 }
 }

@@ -37,6 +37,14 @@ pub fn instances(count: u32) -> Scene {
     scene(list, vec![proto(mention([count]))], mention(0..count))
 }
 
+/// Instances of one body of so many nodes, side by side under its root.
+pub fn bodies(count: u32, size: u32) -> Scene {
+    let mut list: Vec<Node> = (0..count).map(|_| node(Origin::Proto(0), vec![])).collect();
+    list.push(node(Origin::Builtin, nodes((1..size).map(|i| count + i).collect())));
+    list.extend((1..size).map(|_| node(Origin::Builtin, vec![])));
+    scene(list, vec![proto(mention([count]))], mention(0..count))
+}
+
 /// Chains of plain nodes, each of this depth.
 pub fn chains(count: u32, depth: u32) -> Scene {
     let mut list = Vec::new();
@@ -49,15 +57,34 @@ pub fn chains(count: u32, depth: u32) -> Scene {
     scene(list, vec![], mention((0..count).map(|c| c * depth)))
 }
 
-/// Instances of the first of this many PROTOs, each with an instance of the next as its root and one more root.
-pub fn nesting(count: u32, depth: u32) -> Scene {
-    let mut list: Vec<Node> = (0..depth).map(|p| node(Origin::Proto(p), vec![])).collect();
-    list.push(node(Origin::Builtin, vec![]));
-    let mut protos: Vec<Proto> = (1..depth).map(|p| proto(mention([p, depth]))).collect();
-    protos.push(proto(mention([depth])));
+/// Instances of the first of this many PROTOs; the root of each body has an instance of the next as its child.
+pub fn nested(count: u32, depth: u32) -> Scene {
+    let mut list: Vec<Node> = Vec::new();
+    // Node 2p is the body of PROTO p, node 2p + 1 an instance of PROTO p + 1.
+    for p in 0..depth {
+        let next = if p + 1 < depth { vec![2 * p + 1] } else { vec![] };
+        list.extend([node(Origin::Builtin, nodes(next)), node(Origin::Proto(p + 1), vec![])]);
+    }
+    let protos = (0..depth).map(|p| proto(mention([2 * p]))).collect();
     let first = list.len() as u32;
     list.extend((0..count).map(|_| node(Origin::Proto(0), vec![])));
     scene(list, protos, mention(first..first + count))
+}
+
+/// Instances of the first of this many PROTOs, each with an instance of the next as its root, and so many more roots and
+/// as many routes.
+pub fn nested_roots(count: u32, depth: u32, more: u32) -> Scene {
+    // The first nodes are the further roots of every body, the last of them the innermost root.
+    let mut list: Vec<Node> = (0..more + 1).map(|_| node(Origin::Builtin, vec![])).collect();
+    let first = list.len() as u32;
+    list.extend((0..depth).map(|p| node(Origin::Proto(p), vec![])));
+    let route = |i: u32| Statement::Route(Route { names: [1, 2, 3, 4], from: Some(i), to: Some(more) });
+    let body = |root: u32| mention([root]).into_iter().chain(mention(0..more)).chain((0..more).map(route)).collect();
+    let mut protos: Vec<Proto> = (1..depth).map(|p| proto(body(first + p))).collect();
+    protos.push(proto(body(more)));
+    let top = list.len() as u32;
+    list.extend((0..count).map(|_| node(Origin::Proto(0), vec![])));
+    scene(list, protos, mention(top..top + count))
 }
 
 /// Each PROTO has two instances of the next.
@@ -89,17 +116,72 @@ pub fn wide(count: u32) -> Scene {
     scene(vec![node(Origin::Proto(0), fields), node(Origin::Builtin, taken)], protos, mention([0]))
 }
 
+/// Externs that name, by fragment, each its PROTO of one file.
+pub fn picked(count: u32) -> Scene {
+    let url = |i: u32| vec![(1, Some(count - 1 - i))];
+    let externs = (0..count).map(|i| Extern { name: i, interfaces: vec![], urls: url(i) }).collect();
+    let list = (0..count).map(|i| node(Origin::Extern(i), vec![])).collect();
+    let root = Doc { header: 5, nodes: list, protos: vec![], externs, top: mention(0..count) };
+    let protos = (0..count).map(|name| Proto { name, interfaces: vec![], body: mention([0]) }).collect();
+    let top = (0..count).map(Statement::Proto).collect();
+    let doc = Doc { header: 5, nodes: vec![node(Origin::Builtin, vec![])], protos, externs: vec![], top };
+    Scene { root, files: vec![File { base: 1, doc }], max_nodes: 4_000_000, max_depth: 512 }
+}
+
+/// Plain nodes side by side in the root, and in the body of a PROTO of a file that the root picks by its name. Each sheet
+/// has this many rows, two or more filled with statements that are carried unread.
+pub fn full_sheets(rows: u32) -> Scene {
+    let fill = |used: u32| (used..rows).map(Statement::Other);
+    let plain = |count: u32| (0..count).map(|_| node(Origin::Builtin, nodes(vec![])));
+    // Root: document, nodes of two rows, the instance, the extern and its url, top, statements.
+    let count = (rows - 8) / 3;
+    let list = plain(count).chain([node(Origin::Extern(0), vec![])]).collect();
+    let externs = vec![Extern { name: 3, interfaces: vec![], urls: vec![(1, Some(9))] }];
+    let top = mention(0..count + 1).into_iter().chain(fill(3 * count + 6)).collect();
+    let root = Doc { header: 5, nodes: list, protos: vec![], externs, top };
+    // File: its row, document, nodes of two rows, the PROTO, its body, top, the Proto statement, statements.
+    let protos = vec![proto(mention(0..count))];
+    let top = [Statement::Proto(0)].into_iter().chain(fill(3 * count + 5)).collect();
+    let doc = Doc { header: 5, nodes: plain(count).collect(), protos, externs: vec![], top };
+    Scene { root, files: vec![File { base: 1, doc }], max_nodes: 4_000_000, max_depth: 512 }
+}
+
+/// Instances of a body of 1,000 nodes. With 4,000 of them everything is at its cap: 4,000,000 nodes, 16,777,216 charges and
+/// 1,048,576 rows of the root, the rest of which are statements carried unread and nodes that nothing reaches.
+pub fn most(count: u32) -> Scene {
+    let (body, share) = (1000, |cap: u32| (cap as u64 * count as u64 / 4000) as u32);
+    let value = Field { name: 2, binding: Binding::Value(Value::Payload { tag: 4, number: 1 }), inferred: 0 };
+    let mut list: Vec<Node> = (0..count).map(|_| node(Origin::Proto(0), vec![])).collect();
+    list.push(node(Origin::Builtin, nodes((1..body).map(|i| count + i).collect())));
+    list.extend((1..body).map(|_| node(Origin::Builtin, vec![value.clone()])));
+    // An instance and its statement: 4 for each node but the root, 3 for it, 3 of its own and 1.
+    let charges = 3 + count * (4 * (body - 1) + 7);
+    let others = share(16_777_216) - charges;
+    let mut scene = scene(list, vec![proto(mention([count]))], mention(0..count));
+    scene.root.top.extend((0..others).map(Statement::Other));
+    let rows = 2 + count + 2 + (body - 1) * 3 + 2 + count + others;
+    scene.root.nodes.extend((rows..share(1_048_576)).map(|_| node(Origin::Builtin, vec![])));
+    scene
+}
+
 /// The scenes that `compare large` runs, by name.
 pub fn all() -> Vec<(&'static str, Scene)> {
     vec![
         ("20,000 plain nodes flat", flat(20_000)),
         ("5,000 instances of a four-node body", instances(5_000)),
+        ("60 instances of a body of 1,000 nodes", bodies(60, 1_000)),
         ("39 chains 512 deep", chains(39, 512)),
         ("a chain 513 deep", chains(1, 513)),
-        ("20 instances of 255 nested prototypes", nesting(20, 255)),
-        ("511 nested prototypes", nesting(1, 511)),
-        ("512 nested prototypes", nesting(1, 512)),
+        ("20 instances of 256 nested prototypes", nested(20, 256)),
+        ("257 nested prototypes", nested(1, 257)),
+        ("20 instances of 255 nested roots", nested_roots(20, 255, 1)),
+        ("20 nested roots with 50 more roots and routes", nested_roots(1, 20, 50)),
+        ("511 nested roots", nested_roots(1, 511, 1)),
+        ("512 nested roots", nested_roots(1, 512, 1)),
         ("doubling 14 levels", doubling(14)),
         ("1,000 interfaces by 1,000 fields", wide(1_000)),
+        ("1,000 externs by fragment", picked(1_000)),
+        ("20,000 rows in each sheet", full_sheets(20_000)),
+        ("100 instances of 1,000 nodes", most(100)),
     ]
 }

@@ -96,9 +96,9 @@ fn limits(r: &mut Random, call: &mut Call, bounds: Bounds) {
 }
 
 /// The least K up to `most` with which the call is not refused by 10: its charges, or those before another refusal.
-fn least_rows(call: &Call, most: u32) -> u32 {
+pub fn least_rows(call: &Call, most: u32) -> u32 {
     let enough = |max_rows| {
-        let answer = reckon::expand(&Call { max_rows, ..call.clone() }, None);
+        let answer = reckon::expand(&Call { max_rows, lent: [u64::MAX; 4], ..call.clone() }, None);
         !matches!(answer, Err(refusal) if refusal.number == 10)
     };
     let (mut low, mut high) = (0, most);

@@ -5,6 +5,7 @@ pub mod families;
 pub mod free;
 pub mod large;
 pub mod lent;
+pub mod stored;
 
 use crate::call::Call;
 use crate::rows::words_of;

@@ -1,0 +1,71 @@
+//! The linked static library, by its C interface. `build.rs` links `libluhetami.a` where the feature `library` is on.
+
+use crate::call::Call;
+
+/// Whether a library is linked.
+pub const LINKED: bool = cfg!(feature = "library");
+
+/// The slices lent to one call.
+#[cfg_attr(not(feature = "library"), allow(dead_code))]
+pub struct Lent<'a> {
+    pub out: &'a mut [u32],
+    pub ledger: &'a mut [u32],
+    pub scopes: &'a mut [u32],
+    pub work: &'a mut [u32],
+    pub answer: &'a mut [u32],
+}
+
+#[cfg(feature = "library")]
+extern "C" {
+    fn luhetami_expand(
+        root: *const u32,
+        root_length: usize,
+        library: *const u32,
+        library_length: usize,
+        max_nodes: u32,
+        max_depth: u32,
+        max_rows: u32,
+        out: *mut u32,
+        out_length: usize,
+        ledger: *mut u32,
+        ledger_length: usize,
+        scopes: *mut u32,
+        scopes_length: usize,
+        work: *mut u32,
+        work_length: usize,
+        answer: *mut u32,
+        answer_length: usize,
+    ) -> u32;
+}
+
+/// One call of the library with a call's limits and these sheets.
+#[cfg(feature = "library")]
+pub fn expand(call: &Call, root: &[u32], library: &[u32], lent: &mut Lent) -> u32 {
+    // Safety: every pointer comes with the length of its own slice, and the slices do not overlap.
+    unsafe {
+        luhetami_expand(
+            root.as_ptr(),
+            root.len(),
+            library.as_ptr(),
+            library.len(),
+            call.max_nodes,
+            call.max_depth,
+            call.max_rows,
+            lent.out.as_mut_ptr(),
+            lent.out.len(),
+            lent.ledger.as_mut_ptr(),
+            lent.ledger.len(),
+            lent.scopes.as_mut_ptr(),
+            lent.scopes.len(),
+            lent.work.as_mut_ptr(),
+            lent.work.len(),
+            lent.answer.as_mut_ptr(),
+            lent.answer.len(),
+        )
+    }
+}
+
+#[cfg(not(feature = "library"))]
+pub fn expand(_: &Call, _: &[u32], _: &[u32], _: &mut Lent) -> u32 {
+    unreachable!("no library is linked")
+}
