@@ -27,7 +27,7 @@ use Rattle.journal.specs.Records.{tagId, tagField}
 use Rattle.journal.specs.Logs.{scan, revOnto}
 use Rattle.reading.specs.Reading.{fieldsAt, valueAt}
 use Rattle.reading.specs.Fair.{HandleAt}
-use Rattle.reading.proofs.Chains.{fields-fixed}
+use Rattle.reading.proofs.Chains.{fields-none, fields-fixed}
 use Rattle.refine.specs.declared.Limits.{Limits}
 use Rattle.refine.specs.declared.Counts.{Counts}
 use Rattle.refine.specs.declared.Env as code
@@ -57,10 +57,6 @@ pub somes-one : {A : Type 0} (b : Option A) → somes (b ∷ []) ≡ list b
 unfolding somes
 somes-one none = refl
 somes-one (some a) = refl
-
-fields-none : (w : List ℕ) → fieldsAt w 0 ≡ []
-unfolding fieldsAt scan revOnto
-fields-none w = refl
 
 -- the record of a field with a value
 abbrev pub fieldRecord : Row → ℕ → ℕ → Record

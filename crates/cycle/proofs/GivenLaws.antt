@@ -92,10 +92,6 @@ module _ {root library dir w : List ℕ} {L : Limits} {t : Counts} {e : code.Env
         all = sym (kept-values x stored-ready refl ∙ rw (values-fixed (went y q .kept) h (hl .low), gave y q .value, is-front));
       })
 
--- ---- where it is read
-pub slot-below : {root library dir w : List ℕ} {L : Limits} {t : Counts} {e : code.Env} {s : ℕ} → Here root library dir w L t e → Slot dir s → s < length dir
-slot-below h sl = omega (arith, sl .upto, h .lent .sourced .directory .few, h .lent .sourced .directory .long)
-
 -- ---- `given`
 -- the Env of a default's scope
 abbrev pub defaultEnv : ℕ → ℕ → ℕ → code.Env

@@ -28,7 +28,7 @@ use Rattle.journal.specs.Records.{tagId, tagInterface}
 use Rattle.journal.specs.Logs.{scan, revOnto}
 use Rattle.reading.specs.Reading.{interfacesAt, valueAt}
 use Rattle.reading.specs.Fair.{HandleAt}
-use Rattle.reading.proofs.Chains.{interfaces-fixed}
+use Rattle.reading.proofs.Chains.{interfaces-none, interfaces-fixed}
 use Rattle.refine.specs.declared.Limits.{Limits}
 use Rattle.refine.specs.declared.Counts.{Counts}
 use Rattle.refine.specs.declared.Env as code
@@ -45,10 +45,6 @@ use Rattle.cycle.specs.Contract.{Here, Yields, Value, Added, one, AddsIn
 use Rattle.cycle.proofs.Run.{Run, begin, turn, last, end, went, gave, leaf, yields-young, yields-as, since, here-later}
 use Rattle.cycle.proofs.Keeps.{charged, keeping, keeping-stop}
 use Rattle.cycle.proofs.Walks.{Mapping, loop-start, loop-again, loop-stop, loop-end}
-
-interfaces-none : (w : List ℕ) → interfacesAt w 0 ≡ []
-unfolding interfacesAt scan revOnto
-interfaces-none w = refl
 
 -- the record of an interface without an IS
 abbrev pub interfaceRecord : Row → ℕ → ℕ → Record

@@ -27,10 +27,6 @@ use Rattle.parts.specs.Contract.{sourceOf, rowsOf, Lent, Declared}
 use Rattle.cycle.specs.Contract.{Here, Yields, Is, Origined}
 use Rattle.cycle.proofs.Run.{Run, begin, turn, end, go, halt, leaf, gave}
 
--- the directory has the slot
-pub slot-within : {L : Limits} {root library dir w : List ℕ} {slot : ℕ} → Lent L root library dir w → Slot dir slot → slot < length dir
-slot-within l s = omega (arith, s .upto, l .sourced .directory .few, l .sourced .directory .long)
-
 -- the rows of the sheet that a slot's document selects
 pub rows-are : (root library dir : List ℕ) (slot n : ℕ) (sheet : List ℕ) → n ≡ numberOf dir slot → sheet ≡ sheetOf root library n → rows sheet ≡ rowsOf root library dir slot
 rows-are root library dir slot n sheet en es = rw (es, en)

@@ -25,7 +25,7 @@ use Rattle.journal.specs.Records.{tagId}
 use Rattle.journal.specs.Logs.{scan, revOnto}
 use Rattle.reading.specs.Reading.{idsAt, valueAt}
 use Rattle.reading.specs.Fair.{HandleAt}
-use Rattle.reading.proofs.Chains.{ids-fixed}
+use Rattle.reading.proofs.Chains.{ids-none, ids-fixed}
 use Rattle.refine.specs.declared.Limits.{Limits}
 use Rattle.refine.specs.declared.Counts.{Counts}
 use Rattle.refine.specs.declared.Env as code
@@ -42,11 +42,6 @@ use Rattle.cycle.specs.Contract.{Here, Yields, Placed, Value, Added, one
 use Rattle.cycle.proofs.Run.{Run, begin, turn, end, went, gave, yields-young, yields-as, since, here-later}
 use Rattle.cycle.proofs.Keeps.{charged, keeping, keeping-stop}
 use Rattle.cycle.proofs.Walks.{Mapping, loop-start, loop-again, loop-stop, loop-end}
-
--- the list of the handle 0
-pub ids-none : (w : List ℕ) → idsAt w 0 ≡ []
-unfolding idsAt scan revOnto
-ids-none w = refl
 
 never : false ≡ true → ⊥
 never z = let k : _≡_ {A = ℕ} 0 1 = cc in omega arith

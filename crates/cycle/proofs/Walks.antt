@@ -14,7 +14,7 @@ use Rattle.sheet.specs.Parse.{elements}
 use Rattle.sheet.proofs.RowLaws.{rows-length}
 use Rattle.lookup.specs.Walk.{Stands}
 use Rattle.lookup.proofs.WalkLaws.{rest-drop, each-at, each-none}
-use Rattle.source.specs.Directory.{numberOf, Slot}
+use Rattle.source.specs.Directory.{numberOf}
 use Rattle.expansion.specs.Input.{Input}
 use Rattle.expansion.specs.State.{State, Comp, bindR, _>>=_, ret, mapM, foldM}
 use Rattle.refine.specs.declared.Limits.{Limits}
@@ -37,10 +37,6 @@ rows-few {L} {root} {library} {dir} {w} h slot = by (eqb (numberOf dir slot) 0)
     by : (b : Bool) → length (rows (choose b root library)) ≤ 1048576
     by true = omega (arith, rows-length root, h .small)
     by false = omega (arith, rows-length library, h .sourced .directory .small)
-
--- a slot is one of the directory's words
-pub slot-low : {L : Limits} {root library dir w : List ℕ} {slot : ℕ} → Lent L root library dir w → Slot dir slot → slot < length dir
-slot-low h s = omega (arith, s .upto, h .sourced .directory .few, h .sourced .directory .long)
 
 -- what is left of a list from a row on, those passed having given `passed`
 abbrev pub eachLeft : {X B M : Type 0} → (Input → X → Comp B) → (List Row → X) → (Input → List B → Comp M) → Part → List Row → ℕ → List B → Input → Comp M

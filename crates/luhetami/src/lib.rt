@@ -1,6 +1,6 @@
 // Expand whole (document 01): what is refused before the first step, the run, and the writing of what it gave.
 pub mod c;
-pub mod run;
+mod run;
 
 use sheet::Checked;
 use sheet::grammar::Form;
@@ -23,7 +23,7 @@ pub enum Outcome {
     },
 }
 
-pub fn refused(number: u32, first: u32, second: u32) -> Outcome
+fn refused(number: u32, first: u32, second: u32) -> Outcome
     ensures { λ a. ⌜ a ≡ Outcome.Refused number first second ⌝ }
 {
     Outcome::Refused {
@@ -34,7 +34,7 @@ pub fn refused(number: u32, first: u32, second: u32) -> Outcome
 }
 
 // Refusal 1: a limit over its cap, or a slice too short for the limits.
-pub fn lacks_room(
+fn lacks_room(
     max_nodes: u32,
     max_depth: u32,
     max_rows: u32,
@@ -67,7 +67,7 @@ pub fn lacks_room(
 }
 
 // Refusal 2: a sheet that is no multiple of 8 words, or over 1,048,576 rows.
-pub fn wrong_length(sheet: &[u32]) -> bool
+fn wrong_length(sheet: &[u32]) -> bool
     ensures { λ b. ⌜ b ≡ wrongLength (now (sheet .entry)) ⌝ }
 {
     if sheet.len() % 8 != 0 {

@@ -8,10 +8,11 @@ use Rattle.expander.proofs.row_of.Reads as row-of-reads
 use Rattle.parts.proofs.extern_proto.Reads as extern-proto-reads
 use mathlib.Core.Path.{refl}
 use denote.Ref.{now}
-use Rattle.cycle.proofs.OriginLaws.{slot-within, origin-extern, origin-other}
+use Rattle.source.proofs.SourcedLaws.{slot-within}
+use Rattle.cycle.proofs.OriginLaws.{origin-extern, origin-other}
 
 row-of-requires : tie.Need-row-of-requires
-row-of-requires c κs = slot-within (c .before .before .before .before .pre .lent) (c .before .before .before .before .pre .slot)
+row-of-requires c κs = slot-within (c .before .before .before .before .pre .lent .sourced) (c .before .before .before .before .pre .slot)
 
 extern-proto-requires : tie.Need-extern-proto-requires
 extern-proto-requires c κs = (c .before .before .before .before .before .before .before .before .pre .standing, (c .before .before .before .before .before .before .before .before .pre .lent, c .before .before .before .before .before .before .before .before .pre .slot))

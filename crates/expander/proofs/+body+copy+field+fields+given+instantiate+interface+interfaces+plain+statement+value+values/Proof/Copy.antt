@@ -66,7 +66,7 @@ use Rattle.source.proofs.target.Reads as target-reads
 use Rattle.expander.proofs.+body+copy+field+fields+given+instantiate+interface+interfaces+plain+statement+value+values.Proof.Setup.{μ-body, μ-copy, μ-field, μ-fields, μ-given, μ-instantiate, μ-interface, μ-interfaces, μ-plain, μ-statement, μ-value, μ-values, body-at, body-below, copy-at, copy-below, field-at, field-below, fields-at, fields-below, given-at, given-below, instantiate-at, instantiate-below, interface-at, interface-below, interfaces-at, interfaces-below, plain-at, plain-below, statement-at, statement-below, value-at, value-below, values-at, values-below, body-cs, copy-cs, field-cs, fields-cs, given-cs, instantiate-cs, interface-cs, interfaces-cs, plain-cs, statement-cs, value-cs, values-cs}
 use Prim.Native.Nat.{_+_, _*_, _-_}
 use lib.ListN.{length}
-use Rattle.cycle.proofs.OriginLaws.{slot-within}
+use Rattle.source.proofs.SourcedLaws.{slot-within}
 use Rattle.cycle.proofs.CopyLaws.{copy-known, copy-5, copy-9, copy-row, copy-plain, copy-slot, copy-instance}
 use native.Mathlib.Omega.{arith}
 use borrow.Author.Needs.{needs}
@@ -102,7 +102,7 @@ pub copy-enum-told-2 : (t : ℕ) → copy-lts.Need-enum-told-2 (copy-cs t) (copy
 copy-enum-told-2 t c = search needs
 
 pub copy-number-requires : (t : ℕ) → copy-lts.Need-number-requires (copy-cs t) (copy-at t) copy.Post
-copy-number-requires t c κs = slot-within (c .before .before .before .before .before .before .before .before .before .before .before .before .pre .1 .lent) (c .before .before .before .before .before .before .before .before .before .before .before .before .pre .1 .slot)
+copy-number-requires t c κs = slot-within (c .before .before .before .before .before .before .before .before .before .before .before .before .pre .1 .lent .sourced) (c .before .before .before .before .before .before .before .before .before .before .before .before .pre .1 .slot)
 
 pub copy-same-length-2 : (t : ℕ) → copy-lts.Need-same-length-2 (copy-cs t) (copy-at t) copy.Post
 copy-same-length-2 t c = search needs
@@ -117,7 +117,7 @@ pub copy-returns-3 : (t : ℕ) → copy-lts.Need-returns-3 (copy-cs t) (copy-at 
 copy-returns-3 t c = copy-9 _ _ _ _ _ _ _ (c .before .before .before .before .before .before .before .before .before .before .before .before .before .before .args .id) (c .before .before .before .before .before .before .before .before .before .before .before .before .before .before .args .depth) (c .before .before .before .before .before .before .before .before .before .before .before .before .before .before .pre .1) (c .before .before .before .before .before .before .before .before .look .ensures) (c .before .before .before .before .before .before .enum-told .given .1) (c .before .before .before .before .node .ensures) (c .before .before .row .given .1) (c .if1 .taken)
 
 pub copy-row-of-requires : (t : ℕ) → copy-lts.Need-row-of-requires (copy-cs t) (copy-at t) copy.Post
-copy-row-of-requires t c κs = slot-within (c .before .before .before .before .before .before .before .before .before .before .before .before .before .before .pre .1 .lent) (c .before .before .before .before .before .before .before .before .before .before .before .before .before .before .pre .1 .slot)
+copy-row-of-requires t c κs = slot-within (c .before .before .before .before .before .before .before .before .before .before .before .before .before .before .pre .1 .lent .sourced) (c .before .before .before .before .before .before .before .before .before .before .before .before .before .before .pre .1 .slot)
 
 pub copy-target-requires : (t : ℕ) → copy-lts.Need-target-requires (copy-cs t) (copy-at t) copy.Post
 copy-target-requires t c κs = (c .before .before .before .before .before .before .before .before .before .before .before .before .before .before .before .before .pre .1 .lent .sourced, c .before .before .before .before .before .before .before .before .before .before .before .before .before .before .before .before .pre .1 .slot)

@@ -67,13 +67,13 @@ use Rattle.expander.proofs.+body+copy+field+fields+given+instantiate+in
 use Prim.Native.Nat.{_+_, _*_, _-_}
 use lib.ListN.{length}
 use Rattle.cycle.proofs.Run.{went, here-later}
-use Rattle.cycle.proofs.Walks.{slot-low}
+use Rattle.source.proofs.SourcedLaws.{slot-within}
 use Rattle.cycle.proofs.FieldLaws.{field-is, field-stop, field-ready, field-kept}
 use native.Mathlib.Omega.{arith}
 use borrow.Author.Needs.{needs}
 
 pub field-row-of-requires : (t : ℕ) → field-lts.Need-row-of-requires (field-cs t) (field-at t) field.Post
-field-row-of-requires t c κs = slot-low (c .before .before .before .before .pre .1 .0 .lent) (c .before .before .before .before .pre .1 .0 .slot)
+field-row-of-requires t c κs = slot-within (c .before .before .before .before .pre .1 .0 .lent .sourced) (c .before .before .before .before .pre .1 .0 .slot)
 
 pub field-is-field-requires : (t : ℕ) → field-lts.Need-is-field-requires (field-cs t) (field-at t) field.Post
 field-is-field-requires t c κs = (c .before .before .before .before .before .before .before .before .pre .1 .0 .standing, (c .before .before .before .before .before .before .before .before .pre .1 .0 .env, c .before .before .before .before .before .before .before .before .pre .1 .1 .1))

@@ -71,7 +71,8 @@ use Rattle.sheet.specs.declared.part.Part.the-variants.{Fields}
 use Rattle.lookup.proofs.WalkLaws.{stands, missing}
 use Rattle.parts.specs.Contract.{rowsOf}
 use Rattle.cycle.proofs.Run.{since}
-use Rattle.cycle.proofs.Walks.{rows-few, slot-low}
+use Rattle.cycle.proofs.Walks.{rows-few}
+use Rattle.source.proofs.SourcedLaws.{slot-within}
 use Rattle.cycle.proofs.FieldLaws.{Fielding, fields-start, fields-end, fields-here, fields-again, fields-stop}
 use native.Mathlib.Omega.{arith}
 use borrow.Author.Needs.{needs}
@@ -89,7 +90,7 @@ pub fields-loop-holds : (t : ℕ) → fields-lts.Need-loop-holds (fields-cs t) (
 fields-loop-holds t c = fields-start _ _ _ _ _ _ _ (c .before .before .before .before .args .new) (c .before .before .before .before .args .row) (c .before .before .before .before .args .depth) (c .before .before .before .before .pre .1 .0)
 
 pub fields-next-requires : (t : ℕ) → fields-lts.Need-next-requires (fields-cs t) (fields-at t) fields.Post fields-Inv-loop fields-μ-loop
-fields-next-requires t c κs = slot-low (c .before .before .before .before .before .pre .1 .0 .lent) (c .before .before .before .before .before .pre .1 .0 .slot)
+fields-next-requires t c κs = slot-within (c .before .before .before .before .before .pre .1 .0 .lent .sourced) (c .before .before .before .before .before .pre .1 .0 .slot)
 
 pub fields-enum-known-q : (t : ℕ) → fields-lts.Need-enum-known-q (fields-cs t) (fields-at t) fields.Post fields-Inv-loop fields-μ-loop
 fields-enum-known-q t c = search needs

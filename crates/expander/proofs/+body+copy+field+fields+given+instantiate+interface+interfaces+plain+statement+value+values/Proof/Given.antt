@@ -66,12 +66,13 @@ use Rattle.source.proofs.target.Reads as target-reads
 use Rattle.expander.proofs.+body+copy+field+fields+given+instantiate+interface+interfaces+plain+statement+value+values.Proof.Setup.{μ-body, μ-copy, μ-field, μ-fields, μ-given, μ-instantiate, μ-interface, μ-interfaces, μ-plain, μ-statement, μ-value, μ-values, body-at, body-below, copy-at, copy-below, field-at, field-below, fields-at, fields-below, given-at, given-below, instantiate-at, instantiate-below, interface-at, interface-below, interfaces-at, interfaces-below, plain-at, plain-below, statement-at, statement-below, value-at, value-below, values-at, values-below, body-cs, copy-cs, field-cs, fields-cs, given-cs, instantiate-cs, interface-cs, interfaces-cs, plain-cs, statement-cs, value-cs, values-cs}
 use Prim.Native.Nat.{_+_, _*_, _-_}
 use lib.ListN.{length}
-use Rattle.cycle.proofs.GivenLaws.{slot-below, given-row, given-is, given-stop, given-ready, given-kept, given-none, default-stop, default-here, default-value-stop, default-ready, default-kept}
+use Rattle.source.proofs.SourcedLaws.{slot-within}
+use Rattle.cycle.proofs.GivenLaws.{given-row, given-is, given-stop, given-ready, given-kept, given-none, default-stop, default-here, default-value-stop, default-ready, default-kept}
 use native.Mathlib.Omega.{arith}
 use borrow.Author.Needs.{needs}
 
 pub given-row-of-requires : (t : ℕ) → given-lts.Need-row-of-requires (given-cs t) (given-at t) given.Post
-given-row-of-requires t c κs = slot-below (c .before .before .before .before .pre .1 .0) (c .before .before .before .before .pre .1 .1 .1 .0)
+given-row-of-requires t c κs = slot-within (c .before .before .before .before .pre .1 .0 .lent .sourced) (c .before .before .before .before .pre .1 .1 .1 .0)
 
 pub given-last-field-requires : (t : ℕ) → given-lts.Need-last-field-requires (given-cs t) (given-at t) given.Post
 given-last-field-requires t c κs = (c .before .before .before .before .before .before .pre .1 .0 .lent .sourced, c .before .before .before .before .before .before .pre .1 .0 .slot, c .before .before .before .before .before .before .pre .1 .1 .0 .below)
@@ -80,7 +81,7 @@ pub given-enum-known-f : (t : ℕ) → given-lts.Need-enum-known-f (given-cs t) 
 given-enum-known-f t c = search needs
 
 pub given-row-of-requires-2 : (t : ℕ) → given-lts.Need-row-of-requires-2 (given-cs t) (given-at t) given.Post
-given-row-of-requires-2 t c κs = slot-below (c .before .before .before .before .before .before .before .before .before .before .pre .1 .0) (c .before .before .before .before .before .before .before .before .before .before .pre .1 .0 .slot)
+given-row-of-requires-2 t c κs = slot-within (c .before .before .before .before .before .before .before .before .before .before .pre .1 .0 .lent .sourced) (c .before .before .before .before .before .before .before .before .before .before .pre .1 .0 .slot)
 
 pub given-is-given-requires : (t : ℕ) → given-lts.Need-is-given-requires (given-cs t) (given-at t) given.Post
 given-is-given-requires t c κs = (c .before .before .before .before .before .before .before .before .before .before .before .before .before .before .pre .1 .0 .standing, (c .before .before .before .before .before .before .before .before .before .before .before .before .before .before .pre .1 .0 .env, c .before .before .before .before .before .before .before .before .before .before .before .before .before .before .pre .1 .1 .1 .1 .1))
@@ -125,7 +126,7 @@ pub given-returns-4 : (t : ℕ) → given-lts.Need-returns-4 (given-cs t) (given
 given-returns-4 t c = given-none _ _ _ _ _ _ _ _ _ _ _ _ _ _ (c .before .before .before .before .before .before .before .before .before .before .before .pre .1 .0) _ (c .before .before .before .before .before .before .row-of .ensures) (c .before .before .before .before .last-field .ensures) (c .before .before .enum-told2 .given .1) (c .if2 .taken) (c .before .before .before .before .before .before .before .before .before .before .before .pre .1 .1 .1 .1 .1)
 
 pub given-number-requires : (t : ℕ) → given-lts.Need-number-requires (given-cs t) (given-at t) given.Post
-given-number-requires t c κs = slot-below (c .before .before .before .before .before .before .before .before .before .before .before .before .pre .1 .0) (c .before .before .before .before .before .before .before .before .before .before .before .before .pre .1 .1 .1 .0)
+given-number-requires t c κs = slot-within (c .before .before .before .before .before .before .before .before .before .before .before .before .pre .1 .0 .lent .sourced) (c .before .before .before .before .before .before .before .before .before .before .before .before .pre .1 .1 .1 .0)
 
 pub given-open-requires : (t : ℕ) → given-lts.Need-open-requires (given-cs t) (given-at t) given.Post
 given-open-requires t c κs = c .before .before .before .before .before .before .before .before .before .before .before .before .before .pre .1 .0 .standing

@@ -68,13 +68,13 @@ use Prim.Native.Nat.{_+_, _*_, _-_}
 use lib.ListN.{length}
 use Rattle.refine.proofs.Later.{later-standing}
 use Rattle.cycle.proofs.Run.{went}
-use Rattle.cycle.proofs.OriginLaws.{slot-within}
+use Rattle.source.proofs.SourcedLaws.{slot-within}
 use Rattle.cycle.proofs.InterfaceLaws.{interface-is, interface-stop, interface-ready, interface-kept}
 use native.Mathlib.Omega.{arith}
 use borrow.Author.Needs.{needs}
 
 pub interface-row-of-requires : (t : ℕ) → interface-lts.Need-row-of-requires (interface-cs t) (interface-at t) interface.Post
-interface-row-of-requires t c κs = slot-within (c .before .before .before .before .pre .1 .0 .lent) (c .before .before .before .before .pre .1 .0 .slot)
+interface-row-of-requires t c κs = slot-within (c .before .before .before .before .pre .1 .0 .lent .sourced) (c .before .before .before .before .pre .1 .0 .slot)
 
 pub interface-is-interface-requires : (t : ℕ) → interface-lts.Need-is-interface-requires (interface-cs t) (interface-at t) interface.Post
 interface-is-interface-requires t c κs = (c .before .before .before .before .before .before .before .before .pre .1 .0 .standing, (c .before .before .before .before .before .before .before .before .pre .1 .0 .env, (c .before .before .before .before .before .before .before .before .pre .1 .1 .1, c .before .if1 .taken)))

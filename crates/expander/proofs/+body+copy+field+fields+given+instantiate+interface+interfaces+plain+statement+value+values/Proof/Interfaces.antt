@@ -75,7 +75,7 @@ use Rattle.lookup.proofs.WalkLaws.{stands, missing}
 use Rattle.parts.specs.Contract.{rowsOf}
 use Rattle.cycle.proofs.Run.{since}
 use Rattle.cycle.proofs.Walks.{rows-few}
-use Rattle.cycle.proofs.OriginLaws.{slot-within}
+use Rattle.source.proofs.SourcedLaws.{slot-within}
 use Rattle.cycle.proofs.InterfaceLaws.{Interfacing, interfaces-start, interfaces-end, interfaces-here, interfaces-again, interfaces-stop}
 use native.Mathlib.Omega.{arith}
 use borrow.Author.Needs.{needs}
@@ -93,7 +93,7 @@ pub interfaces-loop-holds : (t : ℕ) → interfaces-lts.Need-loop-holds (interf
 interfaces-loop-holds t c = interfaces-start _ _ _ _ _ _ _ (c .before .before .before .before .args .new) (c .before .before .before .before .args .row) (c .before .before .before .before .args .depth) (c .before .before .before .before .pre .1 .0)
 
 pub interfaces-next-requires : (t : ℕ) → interfaces-lts.Need-next-requires (interfaces-cs t) (interfaces-at t) interfaces.Post interfaces-Inv-loop interfaces-μ-loop
-interfaces-next-requires t c κs = slot-within (c .before .before .before .before .before .pre .1 .0 .lent) (c .before .before .before .before .before .pre .1 .0 .slot)
+interfaces-next-requires t c κs = slot-within (c .before .before .before .before .before .pre .1 .0 .lent .sourced) (c .before .before .before .before .before .pre .1 .0 .slot)
 
 pub interfaces-enum-known-q : (t : ℕ) → interfaces-lts.Need-enum-known-q (interfaces-cs t) (interfaces-at t) interfaces.Post interfaces-Inv-loop interfaces-μ-loop
 interfaces-enum-known-q t c = search needs

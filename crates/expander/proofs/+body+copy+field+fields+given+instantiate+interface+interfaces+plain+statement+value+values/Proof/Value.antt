@@ -73,7 +73,8 @@ use Rattle.sheet.specs.declared.part.Part.the-variants.{Ids}
 use Rattle.lookup.proofs.WalkLaws.{stands, missing}
 use Rattle.parts.specs.Contract.{rowsOf}
 use Rattle.cycle.proofs.Run.{went, since, here-later}
-use Rattle.cycle.proofs.Walks.{rows-few, slot-low}
+use Rattle.cycle.proofs.Walks.{rows-few}
+use Rattle.source.proofs.SourcedLaws.{slot-within}
 use Rattle.cycle.proofs.ValueLaws.{Valuing, value-payload, value-start, value-end, value-here, value-stop, value-ready, value-halt, value-again}
 use native.Mathlib.Omega.{arith}
 use borrow.Author.Needs.{needs}
@@ -85,7 +86,7 @@ abbrev pub value-μ-loop : value-lts.MeasureT-loop
 value-μ-loop root library dir work₀ lim env row depth cur₀ h₀ at₀ work cur h at = length (rowsOf root library dir (env .slot)) - at
 
 pub value-row-of-requires : (t : ℕ) → value-lts.Need-row-of-requires (value-cs t) (value-at t) value.Post value-Inv-loop value-μ-loop
-value-row-of-requires t c κs = slot-low (c .before .before .before .before .pre .1 .0 .lent) (c .before .before .before .before .pre .1 .0 .slot)
+value-row-of-requires t c κs = slot-within (c .before .before .before .before .pre .1 .0 .lent .sourced) (c .before .before .before .before .pre .1 .0 .slot)
 
 pub value-returns : (t : ℕ) → value-lts.Need-returns (value-cs t) (value-at t) value.Post value-Inv-loop value-μ-loop
 value-returns t c = value-payload _ _ _ _ _ _ _ (c .before .before .before .before .before .before .before .args .row) (c .before .before .before .before .before .before .before .args .depth) (c .before .before .before .before .before .before .before .pre .1 .0) (c .before .before .row-of .ensures) (c .if1 .taken)
@@ -97,7 +98,7 @@ pub value-loop-holds : (t : ℕ) → value-lts.Need-loop-holds (value-cs t) (val
 value-loop-holds t c = value-start _ _ _ _ _ _ _ (c .before .before .before .before .before .before .before .args .row) (c .before .before .before .before .before .before .before .args .depth) (c .before .before .before .before .before .before .before .pre .1 .0) (c .before .before .row-of .ensures) (c .if1 .left)
 
 pub value-next-requires : (t : ℕ) → value-lts.Need-next-requires (value-cs t) (value-at t) value.Post value-Inv-loop value-μ-loop
-value-next-requires t c κs = slot-low (c .before .before .before .before .before .before .before .before .pre .1 .0 .lent) (c .before .before .before .before .before .before .before .before .pre .1 .0 .slot)
+value-next-requires t c κs = slot-within (c .before .before .before .before .before .before .before .before .pre .1 .0 .lent .sourced) (c .before .before .before .before .before .before .before .before .pre .1 .0 .slot)
 
 pub value-enum-known-q : (t : ℕ) → value-lts.Need-enum-known-q (value-cs t) (value-at t) value.Post value-Inv-loop value-μ-loop
 value-enum-known-q t c = search needs
@@ -115,7 +116,7 @@ pub value-add-at-2 : (t : ℕ) → value-lts.Need-add-at-2 (value-cs t) (value-a
 value-add-at-2 t c = omega (arith, rows-few (c .before .before .before .before .before .before .before .before .before .before .before .before .pre .1 .0 .lent) (c .before .before .before .before .before .before .before .before .before .before .before .before .args .env .slot), stands Ids _ (c .before .before .before .before .loop .at) (c .before .before .before .next .ensures) (c .before .q .given .1) .below)
 
 pub value-row-of-requires-2 : (t : ℕ) → value-lts.Need-row-of-requires-2 (value-cs t) (value-at t) value.Post value-Inv-loop value-μ-loop
-value-row-of-requires-2 t c κs = slot-low (c .before .before .before .before .before .before .before .before .before .before .before .before .pre .1 .0 .lent) (c .before .before .before .before .before .before .before .before .before .before .before .before .pre .1 .0 .slot)
+value-row-of-requires-2 t c κs = slot-within (c .before .before .before .before .before .before .before .before .before .before .before .before .pre .1 .0 .lent .sourced) (c .before .before .before .before .before .before .before .before .before .before .before .before .pre .1 .0 .slot)
 
 pub value-copy-requires : (t : ℕ) → value-lts.Need-copy-requires (value-cs t) (value-at t) value.Post value-Inv-loop value-μ-loop
 value-copy-requires t c κs = (omega (arith, c .before .before .before .before .before .before .before .before .before .before .before .before .before .before .pre .0), value-here _ _ _ _ _ _ _ (c .before .before .before .before .before .before .before .before .before .before .before .before .before .before .args .row) (c .before .before .before .before .before .before .before .before .before .before .before .before .before .before .args .depth) (c .before .before .before .before .before .before .before .before .before .before .before .before .before .before .pre .1 .0) (c .before .before .before .before .before .before .loop .inv))

@@ -73,7 +73,7 @@ use Rattle.lookup.proofs.WalkLaws.{stands, missing}
 use Rattle.parts.specs.Contract.{rowsOf}
 use Rattle.cycle.proofs.Run.{since}
 use Rattle.cycle.proofs.Walks.{rows-few}
-use Rattle.cycle.proofs.GivenLaws.{slot-below}
+use Rattle.source.proofs.SourcedLaws.{slot-within}
 use Rattle.cycle.proofs.ValuesLaws.{Storing, values-start, values-end, values-here, values-again, values-stop}
 use native.Mathlib.Omega.{arith}
 use borrow.Author.Needs.{needs}
@@ -91,7 +91,7 @@ pub values-loop-holds : (t : ℕ) → values-lts.Need-loop-holds (values-cs t) (
 values-loop-holds t c = values-start _ _ _ _ _ _ _ _ _ _ _ _ (c .before .before .before .before .pre .1 .0)
 
 pub values-next-requires : (t : ℕ) → values-lts.Need-next-requires (values-cs t) (values-at t) values.Post values-Inv-loop values-μ-loop
-values-next-requires t c κs = slot-below (c .before .before .before .before .before .pre .1 .0) (c .before .before .before .before .before .pre .1 .1 .1 .0)
+values-next-requires t c κs = slot-within (c .before .before .before .before .before .pre .1 .0 .lent .sourced) (c .before .before .before .before .before .pre .1 .1 .1 .0)
 
 pub values-enum-known-q : (t : ℕ) → values-lts.Need-enum-known-q (values-cs t) (values-at t) values.Post values-Inv-loop values-μ-loop
 values-enum-known-q t c = search needs
