@@ -12,9 +12,9 @@ use Rattle.sheet.specs.declared.part.Part.{Part}
 use Rattle.sheet.specs.Parse.{elements}
 use Rattle.lookup.specs.declared.walk.Found.{Found}
 use Rattle.lookup.specs.declared.walk.Found.the-variants.{At, Nothing}
-use Rattle.lookup.specs.Walk.{Nth, Past, From, Sought, rowsAt}
+use Rattle.lookup.specs.Walk.{Nth, Past, From, Stands, rowsAt}
 use Rattle.lookup.specs.Index.{Filled, Indexed}
-use Rattle.lookup.proofs.WalkLaws.{at-drop, from-here, stands}
+use Rattle.lookup.proofs.WalkLaws.{at-drop, from-here, first-is, past-one}
 
 -- a lookup from a place where the elements from the m-th on are found
 pub nth-shift : (t : Part) (R : List Row) (p slot m k n : ℕ) (x : Found) → elements t (drop slot R) ≡ drop m (elements t (drop p R)) → m + k ≡ n → Nth t R slot k x → Nth t R p n x
@@ -33,18 +33,18 @@ nth-shift t R p slot m k n x e z s =
     past (At q) h = h ∙ shift (k + 1) (n + 1) (omega arith)
     past Nothing h = tt
 
+-- the n-th, where what is found is the first from a place that stands for it
+nth-first : (t : Part) (R : List Row) (p q : ℕ) → Stands t R p q → Nth t R p 0 (At q)
+nth-first t R p q s = record { is = first-is t R p (At q) s; below = s .below; here = from-here t R p q s; past = past-one t R p q 0 (elements t (drop p R)) s refl }
+
 module _ (t : Part) (R : List Row) (p stride : ℕ) (slots₀ slots : List ℕ) (n : ℕ) where
   pub fill-none : Indexed t R p stride slots slots 0
   fill-none = record { filled = record { room = omega arith; slot = λ j h. absurd (omega arith) }; kept = refl }
 
-  -- what has been found stands for the elements from the (n * stride)-th on
-  abbrev pub Ready : Found → Type 0
-  Ready x = (q : ℕ) → x ≡ At q → elements t (drop q R) ≡ drop (n * stride) (elements t (drop p R))
-
-  pub fill-more : (q : ℕ) → n < length slots → elements t (drop q R) ≡ drop (n * stride) (elements t (drop p R)) → Indexed t R p stride slots₀ slots n → Indexed t R p stride slots₀ (set slots n q) (n + 1)
+  pub fill-more : (q : ℕ) → n < length slots → Nth t R p (n * stride) (At q) → Indexed t R p stride slots₀ slots n → Indexed t R p stride slots₀ (set slots n q) (n + 1)
   fill-more q h e s = record { filled = record { room = simp length-set (omega arith); slot = λ j i. go j i (ℕ-discrete j n) }; kept = drop-set-lt (n + 1) slots n q (omega arith) ∙ more }
     where
-      go : (j : ℕ) → j < n + 1 → Dec (j ≡ n) → elements t (drop (getD (set slots n q) j 0) R) ≡ drop (j * stride) (elements t (drop p R))
+      go : (j : ℕ) → j < n + 1 → Dec (j ≡ n) → Nth t R p (j * stride) (At (getD (set slots n q) j 0))
       go j i (yes z) = rw (z, getD-set-same slots n q 0 h) e
       go j i (no z) = rw (getD-set-other slots n j q 0 z) (s .filled .slot j (omega arith))
 
@@ -52,12 +52,9 @@ module _ (t : Part) (R : List Row) (p stride : ℕ) (slots₀ slots : List ℕ) 
       more = sym (drop-drop 1 n slots) ∙ ap (drop 1) (s .kept) ∙ drop-drop 1 n slots₀
 
   -- the first
-  pub ready-first : {x : Found} → n ≡ 0 → Sought t R p x → Ready x
-  ready-first h s q e = from-here t R p q (stands t R p s e) ∙ rw (h, zero-mul stride)
+  pub ready-first : {q : ℕ} → n ≡ 0 → Stands t R p q → Nth t R p (n * stride) (At q)
+  ready-first {q} h s = rw (h, zero-mul stride) (nth-first t R p q s)
 
   -- as many elements further as a slot stands for
-  pub ready-next : {q : ℕ} {x : Found} → elements t (drop q R) ≡ drop (n * stride) (elements t (drop p R)) → Nth t R q stride x → (r : ℕ) → x ≡ At r → elements t (drop r R) ≡ drop ((n + 1) * stride) (elements t (drop p R))
-  ready-next {q} {x} e s r i =
-      let w : elements t (drop r R) ≡ drop stride (elements t (drop q R)) = subst (From t R q stride) i (s .here) in
-      let y : n * stride + stride ≡ (n + 1) * stride = omega arith in
-      w ∙ ap (drop stride) e ∙ drop-drop stride (n * stride) (elements t (drop p R)) ∙ ap (λ (v : ℕ). drop v (elements t (drop p R))) y
+  pub ready-next : {q : ℕ} {x : Found} → Nth t R p (n * stride) (At q) → Nth t R q stride x → (r : ℕ) → x ≡ At r → Nth t R p ((n + 1) * stride) (At r)
+  ready-next {q} {x} e s r i = nth-shift t R p q (n * stride) stride ((n + 1) * stride) (At r) (e .here) (omega arith) (subst (Nth t R q stride) i s)

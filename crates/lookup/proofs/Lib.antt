@@ -1,4 +1,5 @@
 pub mod WalkLaws
+pub mod BareLaws
 pub mod DocLaws
 pub mod IndexLaws
 pub mod PartLaws

@@ -6,6 +6,7 @@ use Prim.Native.Nat.{ℕ, suc, _+_, _≤_, _<_}
 use lib.ListN.{length, getD, drop, getElem?}
 use Rattle.sheet.specs.declared.row.Row.{Row}
 use Rattle.sheet.specs.declared.part.Part.{Part}
+use Rattle.sheet.specs.declared.part.Part.the-variants.{Interfaces, Statements, BodyOrder}
 use Rattle.sheet.specs.Rows.{blank, rest}
 use Rattle.sheet.specs.Parse.{kindOf, elements}
 use Rattle.lookup.specs.declared.walk.Found.{Found}
@@ -21,6 +22,12 @@ pub record Stands (t : Part) (R : List Row) (p q : ℕ) : Type 0 where
 abbrev pub Sought : Part → List Row → ℕ → Found → Type 0
 Sought t R p (At q) = Stands t R p q
 Sought t R p Nothing = elements t (drop p R) ≡ []
+
+-- from row p on stand no interfaces, no statements and no body order of a node
+pub record Bare (R : List Row) (p : ℕ) : Type 0 where
+  pub interface : elements Interfaces (drop p R) ≡ []
+  pub statements : elements Statements (drop p R) ≡ []
+  pub bodyOrder : elements BodyOrder (drop p R) ≡ []
 
 -- the rows from a found place on
 abbrev pub rowsAt : List Row → Found → Option (List Row)

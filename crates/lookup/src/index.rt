@@ -11,18 +11,21 @@ ghost use Rattle.lookup.specs.Index.{Filled, Indexed};
 pub fn index(sheet: &[u32], part: Part, from: usize, stride: u32, slots: &mut [u32]) -> usize
     ensures { λ n. ⌜ Indexed part (rows (now (sheet .entry))) from stride (now (slots .entry)) (now (slots .exit)) n ⌝ }
 {
+    let Found::At(first) = walk::seek(sheet, part, from) else {
+        return 0;
+    };
     let mut n = 0;
-    let mut found = walk::seek(sheet, part, from);
+    let mut q = first;
     while n < slots.len() {
-        let Found::At(q) = found else {
-            return n;
-        };
         if 4294967295 < q {
             return n;
         }
         slots[n] = q as u32;
         n += 1;
-        found = walk::nth(sheet, part, q, stride);
+        let Found::At(next) = walk::nth(sheet, part, q, stride) else {
+            return n;
+        };
+        q = next;
     }
     n
 }
@@ -53,6 +56,12 @@ pub fn find(
     requires { ⌜ Filled part (rows (now sheet)) from stride (now slots) filled ⌝ }
     ensures { λ x. ⌜ Nth part (rows (now (sheet .entry))) from n x ⌝ }
 {
+    if stride == 1 {
+        let j = n as usize;
+        if j < filled {
+            return Found::At(slots[j] as usize);
+        }
+    }
     if 0 < filled {
         if 0 < stride {
             let j = slot_of(n, stride, filled);

@@ -2,8 +2,10 @@
 use sheet::part;
 use sheet::part::Part;
 use sheet::row;
+ghost use mathlib.Core.Path.{_≡_};
+ghost use mathlib.Core.Bool.{true};
 ghost use Rattle.sheet.specs.Rows.{rows};
-ghost use Rattle.lookup.specs.Walk.{Sought, Nth, Child};
+ghost use Rattle.lookup.specs.Walk.{Sought, Bare, Nth, Child};
 
 pub enum Found {
     At(usize),
@@ -28,6 +30,25 @@ pub fn seek(sheet: &[u32], part: Part, from: usize) -> Found
         at += 1;
     }
     Found::Nothing
+}
+
+// Whether a node has fields only, from the row after its own on.
+pub fn bare(sheet: &[u32], from: usize) -> bool
+    ensures { λ b. ⌜ (b ≡ true → Bare (rows (now (sheet .entry))) from) ⌝ }
+{
+    let count = sheet.len() / 8;
+    let mut at = from;
+    while at < count {
+        let kind = row::row_at(sheet, at).kind;
+        if !part::passes(Part::Interfaces, kind) {
+            if kind < 4 {
+                return true;
+            }
+            return 6 < kind;
+        }
+        at += 1;
+    }
+    true
 }
 
 // The n-th, from 0.

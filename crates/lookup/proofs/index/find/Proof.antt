@@ -8,10 +8,23 @@ use Rattle.lookup.proofs.index.slot_of.Reads as slot-of-reads
 use Rattle.lookup.proofs.walk.nth.Reads as nth-reads
 use Prim.Native.Nat.{_+_, _-_, _*_}
 use mathlib.Core.Path.{_≡_}
+use native.Mathlib.Nat.{mul-one}
 use denote.Ref.{now}
 use Rattle.sheet.specs.Rows.{rows}
 use Rattle.lookup.proofs.IndexLaws.{nth-shift}
 use native.Mathlib.Omega.{arith}
+
+mul-t13 : tie.Need-mul-t13
+mul-t13 c = search needs
+
+shared-slice-read-t15 : tie.Need-shared-slice-read-t15
+shared-slice-read-t15 c = search needs
+
+cast-t16 : tie.Need-cast-t16
+cast-t16 c = omega (arith, (c .shared-slice-known3 .given) (c .before .before .before .before .before .args .n))
+
+returns : tie.Need-returns
+returns c = let h = (c .before .before .before .before .before .pre .slot) (c .before .before .before .before .before .args .n) (c .before .if2 .taken) in rw (c .before .before .if1 .taken, mul-one (c .before .before .before .before .before .args .n)) at h
 
 slot-of-requires : tie.Need-slot-of-requires
 slot-of-requires c κs = search needs
@@ -32,24 +45,28 @@ shared-slice-read-nth : tie.Need-shared-slice-read-nth
 shared-slice-read-nth c = search needs
 
 cast-nth-2 : tie.Need-cast-nth-2
-cast-nth-2 c = omega (arith, (c .shared-slice-known3 .given) (c .before .slot-of .result))
+cast-nth-2 c = omega (arith, (c .shared-slice-known4 .given) (c .before .slot-of .result))
 
 nth-requires : tie.Need-nth-requires
 nth-requires c κs = search needs
 
-returns : tie.Need-returns
-returns c = let z : (c .before .before .slot-of .result) * (c .before .before .before .before .before .before .before .args .stride) + ((c .before .before .before .before .before .before .before .args .n) - (c .before .before .slot-of .result) * (c .before .before .before .before .before .before .before .args .stride)) ≡ (c .before .before .before .before .before .before .before .args .n) = omega arith in nth-shift (c .before .before .before .before .before .before .before .args .part) (rows (now (c .before .before .before .before .before .before .before .args .sheet))) (c .before .before .before .before .before .before .before .args .from) _ ((c .before .before .slot-of .result) * (c .before .before .before .before .before .before .before .args .stride)) ((c .before .before .before .before .before .before .before .args .n) - (c .before .before .slot-of .result) * (c .before .before .before .before .before .before .before .args .stride)) (c .before .before .before .before .before .before .before .args .n) (c .nth .result) ((c .before .before .before .before .before .before .before .pre .slot) (c .before .before .slot-of .result) (c .before .before .slot-of .ensures .0)) z (c .nth .ensures)
+returns-2 : tie.Need-returns-2
+returns-2 c = let z : (c .before .before .slot-of .result) * (c .before .before .before .before .before .before .before .before .args .stride) + ((c .before .before .before .before .before .before .before .before .args .n) - (c .before .before .slot-of .result) * (c .before .before .before .before .before .before .before .before .args .stride)) ≡ (c .before .before .before .before .before .before .before .before .args .n) = omega arith in nth-shift (c .before .before .before .before .before .before .before .before .args .part) (rows (now (c .before .before .before .before .before .before .before .before .args .sheet))) (c .before .before .before .before .before .before .before .before .args .from) _ ((c .before .before .slot-of .result) * (c .before .before .before .before .before .before .before .before .args .stride)) ((c .before .before .before .before .before .before .before .before .args .n) - (c .before .before .slot-of .result) * (c .before .before .before .before .before .before .before .before .args .stride)) (c .before .before .before .before .before .before .before .before .args .n) (c .nth .result) ((c .before .before .before .before .before .before .before .before .pre .slot) (c .before .before .slot-of .result) (c .before .before .slot-of .ensures .0) .here) z (c .nth .ensures)
 
 nth-requires-2 : tie.Need-nth-requires-2
 nth-requires-2 c κs = search needs
 
-returns-2 : tie.Need-returns-2
-returns-2 c = search needs
+returns-3 : tie.Need-returns-3
+returns-3 c = search needs
 
 pub find-spec : {M : Type 1} → statement M
 find-spec =
     tie.close
     (tie.spec
+    mul-t13
+    shared-slice-read-t15
+    cast-t16
+    returns
     slot-of-requires
     mul-left
     sub-left
@@ -58,6 +75,6 @@ find-spec =
     shared-slice-read-nth
     cast-nth-2
     nth-requires
-    returns
+    returns-2
     nth-requires-2
-    returns-2)
+    returns-3)
