@@ -1,7 +1,7 @@
 -- The pick within a file: the walk over the top-level Proto statements, and the lookup of their prototypes.
 use mathlib.Core.Path.{_≡_, refl, sym, ap, subst, _∙_}
 use mathlib.Core.Bool.{Bool, true, false}
-use mathlib.Core.List.{List, [], _∷_}
+use mathlib.Core.List.{List, [], _∷_, map}
 use mathlib.Core.Option.{Option, none, some}
 use Prim.Native.Nat.{ℕ, zero, suc, _+_, _≤_}
 use native.Mathlib.Omega.{arith}
@@ -21,7 +21,7 @@ use Rattle.lookup.specs.declared.walk.Found.{Found}
 use Rattle.lookup.specs.declared.walk.Found.the-variants.{At, Nothing}
 use Rattle.lookup.specs.Walk.{Stands, Nth}
 use Rattle.lookup.specs.Lookup.{documentAt}
-use Rattle.lookup.proofs.WalkLaws.{each-at, each-none, at-map, front-drop, rest-drop}
+use Rattle.lookup.proofs.WalkLaws.{each-at, each-none, at-map, front-drop, rest-drop, from-here}
 use Rattle.picks.specs.declared.file.TopProto.{TopProto}
 use Rattle.picks.specs.declared.file.TopProto.the-variants as top
 use Rattle.picks.specs.Picks.{topProtos, isNamed, firstNamed, pickIn}
@@ -54,6 +54,11 @@ module _ (R : List Row) where
     unfolding statementsOf statementOf topProtos
     proto-here e = ap topProtos (each-at statementOf h) ∙ rw (column R q (λ x. x .a) is, e, column R q (λ x. x .b) is)
 
+    -- from its row on the statements are the same
+    pub proto-from : protosFrom R p ≡ protosFrom R q
+    unfolding statementsOf
+    proto-from = ap (λ (l : List (List Row)). topProtos (map statementOf l)) (sym (from-here Statements R p q h))
+
     -- it is another
     pub proto-pass : (r .a ≡ 1 → ⊥) → protosFrom R p ≡ protosFrom R (q + 1)
     unfolding statementsOf statementOf
@@ -61,11 +66,15 @@ module _ (R : List Row) where
 
 -- what was found, by its answer
 module _ (R : List Row) (p : ℕ) {x : TopProto} (s : NextProto R p x) where
-  pub next-at : {id next : ℕ} → x ≡ top.At id next → StandsProto R p id next
+  pub next-at : {id q : ℕ} → x ≡ top.At id q → StandsProto R p id q
   next-at e = subst (NextProto R p) e s
 
   pub next-none : x ≡ top.Nothing → protosFrom R p ≡ []
   next-none e = subst (NextProto R p) e s
+
+pub next-first : (R : List Row) (p : ℕ) (x : TopProto) → NextProto R p x → idOf x ≡ first (protosFrom R p)
+next-first R p (top.At id q) s = rw (s .is)
+next-first R p top.Nothing s = rw s
 
 -- ---- how many elements a part has
 
@@ -125,14 +134,14 @@ module _ {R : List Row} {protos name : ℕ} where
     unfolding firstNamed
     first-none e file h = sym (w .is file h ∙ ap (firstNamed file name) e)
 
-    module _ {id next : ℕ} (s : StandsProto R at id next) {b : Bool} (is : b ≡ isNamed name (getElem? (protosAt R protos) id)) where
+    module _ {id q : ℕ} (s : StandsProto R at id q) {b : Bool} (is : b ≡ isNamed name (getElem? (protosAt R protos) id)) where
       -- the next has the name
-      pub first-here : b ≡ true → FirstNamed R protos name p (top.At id next)
+      pub first-here : b ≡ true → FirstNamed R protos name p (top.At id q)
       unfolding firstNamed
       first-here e file h = sym (w .is file h ∙ rw (s .is, h, sym is, e))
 
       -- it has another, or dangles
-      pub first-pass : b ≡ false → Passing R protos name p next
+      pub first-pass : b ≡ false → Passing R protos name p (q + 1)
       unfolding firstNamed
       first-pass e = record { is = λ file h. w .is file h ∙ rw (s .is, h, sym is, e) }
 
@@ -150,7 +159,7 @@ module _ (R : List Row) (document : ℕ) where
   top-at {q} s = rw (rest-drop R document, s .here, rest-drop R q)
 
   -- its prototypes are those after its first row
-  protos-are : documentAt R document .protos ≡ protosAt R (document + 1)
+  pub protos-are : documentAt R document .protos ≡ protosAt R (document + 1)
   unfolding documentOf
   protos-are = rw (rest-drop R document)
 
@@ -169,11 +178,7 @@ module _ (R : List Row) (document : ℕ) where
     -- without a fragment
     pub pick-first : (x : TopProto) → fragment ≡ none# → NextProto R p x → idOf x ≡ pickIn (documentAt R document) (optional fragment)
     unfolding pickIn
-    pick-first x z s = rw (eq-eqb _ _ z, e) (go x s)
-      where
-        go : (x : TopProto) → NextProto R p x → idOf x ≡ first (protosFrom R p)
-        go (top.At id next) s = rw (s .is)
-        go top.Nothing s = rw s
+    pick-first x z s = rw (eq-eqb _ _ z, e) (next-first R p x s)
 
     -- with a fragment
     pub pick-named : (x : TopProto) → (fragment ≡ none# → ⊥) → FirstNamed R (document + 1) fragment p x → idOf x ≡ pickIn (documentAt R document) (optional fragment)

@@ -19,6 +19,7 @@ use Rattle.lookup.specs.Lookup.{documentAt, Looked}
 use Rattle.lookup.proofs.WalkLaws.{each-at, each-none, front-drop, rest-drop}
 use Rattle.picks.specs.declared.file.TopProto.{TopProto}
 use Rattle.picks.specs.declared.file.TopProto.the-variants as top
+use Rattle.picks.specs.declared.memo.Memo.{Memo}
 use Rattle.picks.specs.declared.table.Source.{Source}
 use Rattle.picks.specs.declared.table.Table.{Table}
 use Rattle.picks.specs.declared.table.Looked as looked
@@ -44,7 +45,7 @@ module _ (R : List Row) (s : Source) (fragment : ℕ) where
     from-nothing e base = rw (ne-eqb _ _ n, sym is, e)
 
     -- a file with one
-    pub from-proto : (id : ProtoId) {next : ℕ} → x ≡ top.At (id .0) next → Leads R s fragment (Proto (s .number) id)
+    pub from-proto : (id : ProtoId) {row : ℕ} → x ≡ top.At (id .0) row → Leads R s fragment (Proto (s .number) id)
     from-proto id e base = rw (ne-eqb _ _ n, sym is, e)
 
 -- ---- the urls of an extern
@@ -72,9 +73,9 @@ then (some a) f g = refl
 
 module _ {root : List Row} {row : ℕ} {R : List Row} {before t : Table} {at : ℕ} (w : Trying root row R before t at) where
   -- no url is left
-  pub try-none : elements Urls (drop at root) ≡ [] → Tried root row R before (record { chosen = Nothing; table = t })
+  pub try-none : (m : Memo) → elements Urls (drop at root) ≡ [] → Tried root row R before (record { chosen = Nothing; table = t; memo = m })
   unfolding pickUrls
-  try-none e =
+  try-none m e =
       record { sound = w .sound; is = w .is ∙ ap (λ (l : List Url). pickUrls (filesOf R) l (basesOf t)) (each-none urlOf Urls root at e) }
 
   module _ {q : ℕ} {r : Row} {l : looked.Looked} (x : Chosen) (h : Stands Urls root at q) (is : r ≡ getD root q blank) (m : Remembered R t (r .a) l) (s : Leads R (l .source) (r .b) x) where
@@ -98,8 +99,8 @@ module _ {root : List Row} {row : ℕ} {R : List Row} {before t : Table} {at : �
         rw (sym (m .bases), pick-is)
 
     -- the next url led to a pick
-    pub try-proto : {document : ℕ} {id : ProtoId} → x ≡ Proto document id → Tried root row R before (record { chosen = x; table = l .table })
-    try-proto e = record { sound = m .sound; is = w .is ∙ step ∙ rw e }
+    pub try-proto : {document : ℕ} {id : ProtoId} (k : Memo) → x ≡ Proto document id → Tried root row R before (record { chosen = x; table = l .table; memo = k })
+    try-proto k e = record { sound = m .sound; is = w .is ∙ step ∙ rw e }
 
     -- it led to none
     pub try-next : x ≡ Nothing → Trying root row R before (l .table) (q + 1)

@@ -2,7 +2,7 @@
 use mathlib.Core.Path.{_≡_}
 use mathlib.Core.List.{List, [], _∷_, map}
 use mathlib.Core.Option.{Option, none, some}
-use Prim.Native.Nat.{ℕ, _≤_, _<_}
+use Prim.Native.Nat.{ℕ, _+_, _≤_, _<_}
 use lib.ListN.{length, drop}
 use Rattle.ast.specs.Ast.{ProtoDecl, Document}
 use Rattle.sheet.specs.declared.row.Row.{Row}
@@ -16,21 +16,22 @@ use Rattle.picks.specs.Picks.{topProtos, firstNamed}
 
 -- the id that a Proto statement names
 abbrev pub idOf : TopProto → Option ℕ
-idOf (At id next) = some id
+idOf (At id row) = some id
 idOf Nothing = none
 
 -- the ids of the Proto statements from a row on
 abbrev pub protosFrom : List Row → ℕ → List ℕ
 protosFrom R p = topProtos (statementsOf (drop p R))
 
--- the first Proto statement from row p on names an id, and the next row is past it
-pub record StandsProto (R : List Row) (p id next : ℕ) : Type 0 where
-  pub after : p < next
-  pub below : next ≤ length R
-  pub is : protosFrom R p ≡ id ∷ protosFrom R next
+-- the first Proto statement from row p on stands at row q and names an id
+pub record StandsProto (R : List Row) (p id q : ℕ) : Type 0 where
+  pub from : p ≤ q
+  pub below : q < length R
+  pub here : protosFrom R p ≡ protosFrom R q
+  pub is : protosFrom R p ≡ id ∷ protosFrom R (q + 1)
 
 abbrev pub NextProto : List Row → ℕ → TopProto → Type 0
-NextProto R p (At id next) = StandsProto R p id next
+NextProto R p (At id q) = StandsProto R p id q
 NextProto R p Nothing = protosFrom R p ≡ []
 
 -- the prototypes from a row on

@@ -16,9 +16,9 @@ ghost use Rattle.picks.specs.Picks.{isNamed, pickIn};
 ghost use Rattle.picks.specs.Table.{Capped};
 ghost use Rattle.picks.specs.File.{idOf, NextProto, protosAt, ProtosIndexed, FirstNamed};
 
-// A top-level Proto statement: the id that it names, and the row after it.
+// A top-level Proto statement: the id that it names, and its row.
 pub enum TopProto {
-    At { id: u32, next: usize },
+    At { id: u32, row: usize },
     Nothing,
 }
 
@@ -31,7 +31,7 @@ pub struct ProtoIndex {
 }
 
 // The first Proto statement from a row on.
-fn next_proto(sheet: &[u32], from: usize) -> TopProto
+pub fn next_proto(sheet: &[u32], from: usize) -> TopProto
     ensures { λ x. ⌜ NextProto (rows (now (sheet .entry))) from x ⌝ }
 {
     let mut at = from;
@@ -39,16 +39,16 @@ fn next_proto(sheet: &[u32], from: usize) -> TopProto
         let Found::At(q) = walk::seek(sheet, Part::Statements, at) else {
             return TopProto::Nothing;
         };
-        at = q + 1;
         let r = row::row_at(sheet, q);
         if r.a == 1 {
-            return TopProto::At { id: r.b, next: at };
+            return TopProto::At { id: r.b, row: q };
         }
+        at = q + 1;
     }
 }
 
 // How many prototypes there are from a row on.
-fn count(sheet: &[u32], from: usize) -> usize
+pub fn count(sheet: &[u32], from: usize) -> usize
     ensures { λ n. ⌜ n ≡ length (elements Protos (drop from (rows (now (sheet .entry))))) ⌝ }
 {
     let mut n = 0;
@@ -92,7 +92,7 @@ fn index_protos(sheet: &[u32], from: usize, slots: &mut [u32]) -> ProtoIndex
 }
 
 // The row of the prototype of an id. An id past the last is told without a walk.
-fn proto_row(sheet: &[u32], protos: ProtoIndex, slots: &[u32], id: u32) -> Found
+pub fn proto_row(sheet: &[u32], protos: ProtoIndex, slots: &[u32], id: u32) -> Found
     requires { ⌜ ProtosIndexed (rows (now sheet)) (now slots) protos ⌝ }
     ensures { λ x. ⌜ Nth Protos (rows (now (sheet .entry))) (protos .from) id x ⌝ }
 {
@@ -117,24 +117,30 @@ fn is_named(sheet: &[u32], protos: ProtoIndex, slots: &[u32], id: u32, name: u32
 }
 
 // The first Proto statement from a row on whose prototype exists and has a name.
-fn first_named(sheet: &[u32], from: usize, name: u32, protos: ProtoIndex, slots: &[u32]) -> TopProto
+pub fn first_named(
+    sheet: &[u32],
+    from: usize,
+    name: u32,
+    protos: ProtoIndex,
+    slots: &[u32],
+) -> TopProto
     requires { ⌜ ProtosIndexed (rows (now sheet)) (now slots) protos ⌝ }
     ensures { λ x. ⌜ FirstNamed (rows (now (sheet .entry))) (protos .from) name from x ⌝ }
 {
     let mut at = from;
     loop {
-        let TopProto::At { id, next } = next_proto(sheet, at) else {
+        let TopProto::At { id, row } = next_proto(sheet, at) else {
             return TopProto::Nothing;
         };
         if is_named(sheet, protos, slots, id, name) {
-            return TopProto::At { id, next };
+            return TopProto::At { id, row };
         }
-        at = next;
+        at = row + 1;
     }
 }
 
-// The pick in the document that begins at a row. With a fragment, the first top-level Proto of that name; without, the
-// first top-level Proto, dangling or not.
+// The pick in the document that begins at a row, by a walk. With a fragment, the first top-level Proto of that name;
+// without, the first top-level Proto, dangling or not.
 pub fn pick_in(sheet: &[u32], document: usize, fragment: u32, slots: &mut [u32]) -> TopProto
     requires { ⌜ Capped (now sheet) ⌝ }
     ensures { λ x. ⌜ idOf x ≡ pickIn (documentAt (rows (now (sheet .entry))) document) (optional fragment) ⌝ }

@@ -1,6 +1,8 @@
 // Picks (document 01, Modules: Picks): for each extern of the root, the document and the PROTO that its urls lead to.
 mod file;
+pub mod memo;
 pub mod table;
+pub mod words;
 
 use ast::ExternProtoId;
 use ast::ProtoId;
@@ -8,6 +10,7 @@ use file::TopProto;
 use lookup::document;
 use lookup::walk;
 use lookup::walk::Found;
+use memo::Memo;
 use sheet::part::Part;
 use sheet::row;
 use table::Source;
@@ -19,6 +22,7 @@ ghost use Rattle.sheet.specs.Rows.{rows};
 ghost use Rattle.sheet.specs.Parse.{documentOf, filesOf};
 ghost use Rattle.picks.specs.Picks.{pickAt};
 ghost use Rattle.picks.specs.Table.{Capped, Sound};
+ghost use Rattle.picks.specs.Memo.{Kept};
 ghost use Rattle.picks.specs.Chosen.{pickOf, Leads, Tried, Final};
 
 // The picked document's number and the PROTO's id in it.
@@ -27,48 +31,68 @@ pub enum Chosen {
     Nothing,
 }
 
-// The pick of an extern beside the table of bases.
+// The pick of an extern beside the table of bases and the memo of the files.
 pub struct Choice {
     pub chosen: Chosen,
     pub table: Table,
+    pub memo: Memo,
+}
+
+// What a url leads to, beside the memo.
+pub struct Led {
+    pub chosen: Chosen,
+    pub memo: Memo,
 }
 
 // What a url leads to, by the file of its base.
-fn pick_from(library: &[u32], source: Source, fragment: u32, slots: &mut [u32]) -> Chosen
-    requires { ⌜ Capped (now library) ⌝ }
-    ensures { λ x. ⌜ Leads (rows (now (library .entry))) source fragment x ⌝ }
+fn pick_from(library: &[u32], source: Source, fragment: u32, memo: Memo, slots: &mut [u32]) -> Led
+    requires { ⌜ Capped (now library) × Kept (rows (now library)) (now slots) memo ⌝ }
+    ensures { λ x. ⌜ Leads (rows (now (library .entry))) source fragment (x .chosen) × Kept (rows (now (library .entry))) (now (slots .exit)) (x .memo) ⌝ }
 {
     let number = source.number;
     if number == 0 {
-        return Chosen::Nothing;
+        return Led {
+            chosen: Chosen::Nothing,
+            memo,
+        };
     }
-    let TopProto::At { id, next: _ } = file::pick_in(library, source.row, fragment, slots) else {
-        return Chosen::Nothing;
+    let picked = memo::pick_in(library, source.row, number, fragment, memo, slots);
+    let memo = picked.memo;
+    let top = picked.top;
+    let TopProto::At { id, row: _ } = top else {
+        return Led {
+            chosen: Chosen::Nothing,
+            memo,
+        };
     };
-    Chosen::Proto {
+    let chosen = Chosen::Proto {
         document: number,
         id: ProtoId(id),
-    }
+    };
+    Led { chosen, memo }
 }
 
-// The pick of the extern at a row of the root: its urls in order, the table passed through.
+// The pick of the extern at a row of the root: its urls in order, the table and the memo passed through.
 pub fn pick_urls(
     root: &[u32],
     row: usize,
     library: &[u32],
     table: Table,
+    memo: Memo,
     slots: &mut [u32],
 ) -> Choice
-    requires { ⌜ Capped (now library) × (row < length (rows (now root))) × Sound (rows (now library)) table ⌝ }
-    ensures { λ x. ⌜ Tried (rows (now (root .entry))) row (rows (now (library .entry))) table x ⌝ }
+    requires { ⌜ Capped (now library) × (row < length (rows (now root))) × Sound (rows (now library)) table × Kept (rows (now library)) (now slots) memo ⌝ }
+    ensures { λ x. ⌜ Tried (rows (now (root .entry))) row (rows (now (library .entry))) table x × Kept (rows (now (library .entry))) (now (slots .exit)) (x .memo) ⌝ }
 {
     let mut table = table;
+    let mut memo = memo;
     let mut at = row + 1;
     loop {
         let Found::At(q) = walk::seek(root, Part::Urls, at) else {
             return Choice {
                 chosen: Chosen::Nothing,
                 table,
+                memo,
             };
         };
         at = q + 1;
@@ -76,9 +100,15 @@ pub fn pick_urls(
         let looked = table::remember(library, table, url.a);
         table = looked.table;
         let source = looked.source;
-        let chosen = pick_from(library, source, url.b, slots);
+        let led = pick_from(library, source, url.b, memo, slots);
+        memo = led.memo;
+        let chosen = led.chosen;
         if let Chosen::Proto { document: _, id: _ } = chosen {
-            return Choice { chosen, table };
+            return Choice {
+                chosen,
+                table,
+                memo,
+            };
         }
     }
 }
@@ -89,14 +119,16 @@ pub fn bases_of(root: &[u32], library: &[u32], slots: &mut [u32]) -> Table
     ensures { λ t. ⌜ Final (rows (now (root .entry))) (rows (now (library .entry))) t ⌝ }
 {
     let mut table = table::empty();
+    let mut memo = memo::fresh(slots);
     let mut at = 1;
     loop {
         let Found::At(q) = walk::seek(root, Part::Externs, at) else {
             return table;
         };
         at = q + 1;
-        let choice = pick_urls(root, q, library, table, slots);
+        let choice = pick_urls(root, q, library, table, memo, slots);
         table = choice.table;
+        memo = choice.memo;
     }
 }
 
@@ -114,6 +146,7 @@ pub fn pick(
     let Found::At(q) = document::extern_row(root, 0, id) else {
         return Chosen::Nothing;
     };
-    let choice = pick_urls(root, q, library, table, slots);
+    let memo = memo::fresh(slots);
+    let choice = pick_urls(root, q, library, table, memo, slots);
     choice.chosen
 }

@@ -1,6 +1,5 @@
-pub mod WordLaws
 pub mod DirectoryLaws
-pub mod NameLaws
+pub mod ListingLaws
 pub mod GroupLaws
 pub mod PickedLaws
 pub mod SourcedLaws

@@ -1,30 +1,35 @@
 -- What the lookups rest on: that it stays where the words of the region do, and how the cache of picks grows.
-use mathlib.Core.Path.{_≡_, sym, ap, _∙_}
+use mathlib.Core.Path.{_≡_, refl, sym, ap, _∙_}
 use mathlib.Core.List.{List, _++_}
 use mathlib.Core.Option.{Option}
 use Prim.Native.Nat.{ℕ, _+_, _-_, _*_, _≤_, _<_}
 use native.Mathlib.Omega.{arith}
 use native.Mathlib.Decide.{ℕ-discrete}
-use lib.ListN.{length, getD, take, drop, set, length-set}
-use lib.Seq.{getD-set-same, getD-set-other}
+use lib.ListN.{length, getD, take, drop, set, length-set, List·getD-append}
+use lib.Seq.{length-take-le, getD-set-same, getD-set-other, getD-take}
 use borrow.Author.Tests.{ne-eqb}
+use Rattle.sheet.specs.declared.row.Row.{Row}
 use Rattle.sheet.specs.Rows.{rows}
 use Rattle.sheet.specs.Parse.{documentOf, filesOf}
 use Rattle.lookup.specs.declared.walk.Found.{Found}
 use Rattle.lookup.specs.Index.{Filled}
 use Rattle.lookup.specs.Lookup.{sheetOf}
+use Rattle.picks.specs.declared.memo.Memo.{Memo}
 use Rattle.picks.specs.declared.table.Table.{Table}
 use Rattle.picks.specs.Picks.{Pick, pickAt}
 use Rattle.source.specs.declared.instance.Target.{Target}
 use Rattle.source.specs.declared.instance.Target.the-variants.{Plain, Of}
-use Rattle.source.specs.Words.{Outside}
+use Rattle.picks.specs.Words.{Outside}
+use Rattle.picks.specs.Memo.{Kept}
 use Rattle.source.specs.Directory.{size, numberOf, rowOf, countOf, strideOf, cacheOf, cachedOf, fromOf, endOf, namesOf, spreadOf, groupPart, groupOf, placeOf, filledOf, Slot, Copy, Directory, HeldAt}
 use Rattle.source.specs.Instance.{Targeted, targetAt, Small}
-use Rattle.source.specs.Names.{LastField, NameTable, Tabled}
+use Rattle.names.specs.Names.{LastField, NameTable, Tabled}
 use Rattle.source.specs.Sourced.{Sourced, Region, Remembered}
-use Rattle.source.proofs.WordLaws.{stays, stays-front, stays-set, stays-on, stays-wide}
+use Rattle.picks.proofs.MemoLaws.{kept-on}
+use Rattle.picks.proofs.WordLaws.{stays, stays-front, stays-set, stays-on, stays-wide}
 use Rattle.source.proofs.DirectoryLaws.{slot-on, copy-on, slot-back, directory-kept}
-use Rattle.source.proofs.NameLaws.{listed-on, names-set}
+use Rattle.names.proofs.NameLaws.{listed-on}
+use Rattle.source.proofs.ListingLaws.{names-set}
 use Rattle.source.proofs.GroupLaws.{held-filled, held-on, held-dir}
 
 module _ {root library dir w : List ℕ} (s : Sourced root library dir w) where
@@ -160,8 +165,9 @@ module _ {root library dir w : List ℕ} (s : Sourced root library dir w) {w₁ 
     };
   }
 
--- picks have been added to the cache, up to the i-th, whose words begin at a place; the region is [lo, hi)
-pub record Adding (root library dir₀ dir w₀ w : List ℕ) (lo hi i at : ℕ) : Type 0 where
+-- picks have been added to the cache, up to the i-th, whose words begin at a place; the region is [lo, hi), and the words
+-- before it are the memo's
+pub record Adding (root library dir₀ dir w₀ w : List ℕ) (m : Memo) (lo hi i at : ℕ) : Type 0 where
   pub sourced : Sourced root library dir w
   pub dirStays : Outside 197 198 dir₀ dir
   pub workStays : Outside 0 hi w₀ w
@@ -169,8 +175,33 @@ pub record Adding (root library dir₀ dir w₀ w : List ℕ) (lo hi i at : ℕ)
   pub isEnd : hi ≡ endOf dir
   pub isCached : i ≡ cachedOf dir
   pub isAt : at ≡ cacheOf dir + 2 * i
+  pub memo : Kept (rows library) (take lo w) m
 
-module _ {root library dir₀ dir w₀ w : List ℕ} {lo hi i at : ℕ} (a : Adding root library dir₀ dir w₀ w lo hi i at) where
+-- the first words of the memo's part stay its own
+memo-on : {R : List Row} {m : Memo} {ys : List ℕ} (w w′ : List ℕ) {lo : ℕ} → Kept R ys m → length ys ≡ lo → lo ≤ length w′ → ((k : ℕ) → k < lo → getD w′ k 0 ≡ getD (ys ++ drop lo w) k 0) → Kept R (take lo w′) m
+memo-on {ys = ys} w w′ {lo} k e h same =
+    let l = length-take-le lo w′ h in
+    kept-on k (omega (arith, k .within)) (λ j i. let b : j < lo = omega (arith, k .within) in getD-take lo w′ j 0 b ∙ same j b ∙ List·getD-append ys (drop lo w) 0 j (omega arith))
+
+-- the memo's words are lent before the first pick
+pub add-start : {root library dir w : List ℕ} {m : Memo} {lo hi i at : ℕ} (ys : List ℕ) → Sourced root library dir w → Kept (rows library) ys m → length ys ≡ lo → lo ≡ fromOf dir → hi ≡ endOf dir → i ≡ cachedOf dir → at ≡ cacheOf dir + 2 * i → Adding root library dir dir (ys ++ drop lo w) (ys ++ drop lo w) m lo hi i at
+add-start {dir = dir} {w} {lo = lo} {hi} ys s k e f g c a =
+    let h : lo ≤ length w = omega (arith, s .cache .from, s .cache .upto, s .within) in
+    let p = stays-front w ys lo h e in
+    let n = hi - lo in
+    let r : Region dir lo n = record { from = sym f; end = omega (arith, s .cache .from, s .cache .upto) } in
+    record {
+      sourced = sourced-kept s lo n (ys ++ drop lo w) r (omega (arith, p .long, s .cache .from, s .cache .upto, s .within)) (λ j x y. p .above j x);
+      dirStays = stays dir;
+      workStays = stays (ys ++ drop lo w);
+      isFrom = f;
+      isEnd = g;
+      isCached = c;
+      isAt = a;
+      memo = memo-on w (ys ++ drop lo w) k e (omega (arith, p .long)) (λ j x. refl);
+    }
+
+module _ {root library dir₀ dir w₀ w : List ℕ} {m : Memo} {lo hi i at : ℕ} (a : Adding root library dir₀ dir w₀ w m lo hi i at) where
   pub add-within : (lo ≤ length w) × (at ≤ hi) × (hi ≤ length w) × (size ≤ length dir)
   add-within =
       let s = a .sourced in
@@ -179,8 +210,8 @@ module _ {root library dir₀ dir w₀ w : List ℕ} {lo hi i at : ℕ} (a : Add
   pub add-copy : {t : Table} → Copy dir₀ t → Copy dir t
   add-copy c = copy-on (λ k h. a .dirStays .below k (omega arith)) (omega (arith, a .dirStays .below 194 (omega arith), a .sourced .directory .few)) c
 
-  pub add-more : {x : Target} (ys w₂ : List ℕ) → at + 2 ≤ hi → length ys ≡ lo → Targeted dir (pickAt (documentOf (rows root)) (filesOf (rows library)) i) x → (targetAt w₂ at ≡ x) × Outside at (at + 2) (ys ++ drop lo w) w₂ → Adding root library dir₀ (set dir 197 (i + 1)) w₀ w₂ lo hi (i + 1) (at + 2)
-  add-more ys w₂ h e t k =
+  pub add-more : {x : Target} {m′ : Memo} (ys w₂ : List ℕ) → at + 2 ≤ hi → length ys ≡ lo → Kept (rows library) ys m′ → Targeted dir (pickAt (documentOf (rows root)) (filesOf (rows library)) i) x → (targetAt w₂ at ≡ x) × Outside at (at + 2) (ys ++ drop lo w) w₂ → Adding root library dir₀ (set dir 197 (i + 1)) w₀ w₂ m′ lo hi (i + 1) (at + 2)
+  add-more ys w₂ h e n t k =
       let p = stays-front w ys lo (add-within .0) e in
       let dir′ = set dir 197 (i + 1) in
       let o : Outside 197 198 dir dir′ = stays-set dir 197 (i + 1) (omega arith) (omega arith) in
@@ -192,7 +223,11 @@ module _ {root library dir₀ dir w₀ w : List ℕ} {lo hi i at : ℕ} (a : Add
         isEnd = a .isEnd ∙ sym (o .above 199 (omega arith));
         isCached = sym (getD-set-same dir 197 (i + 1) 0 (omega (arith, a .sourced .directory .long)));
         isAt = omega (arith, a .isAt, o .below 196 (omega arith));
+        memo = memo-on w w₂ n e (omega (arith, p .long, k .1 .long, add-within .0)) (λ j x. k .1 .below j (omega (arith, a .isAt, a .isFrom, a .sourced .cache .from)));
       }
 
-  pub added : hi ≡ endOf dir₀ → Remembered root library dir₀ dir w₀ w
-  added e = record { sourced = a .sourced; dirStays = a .dirStays; workStays = rw e at (a .workStays) }
+  pub added : {w₋ : List ℕ} → Outside 0 lo w₋ w₀ → Remembered root library dir₀ dir w₋ w
+  added p =
+      let e : hi ≡ endOf dir₀ = a .isEnd ∙ a .dirStays .above 199 (omega arith) in
+      let h : lo ≤ hi = omega (arith, a .isFrom, a .isEnd, a .sourced .cache .from, a .sourced .cache .upto) in
+      record { sourced = a .sourced; dirStays = a .dirStays; workStays = rw e at (stays-on 0 hi p (a .workStays) (omega arith) (omega arith) (omega arith) (omega arith)) }

@@ -9,7 +9,8 @@ use Rattle.sheet.specs.declared.row.Row.{Row}
 use Rattle.sheet.specs.declared.part.Part.{Part}
 use Rattle.sheet.specs.declared.part.Part.the-variants.{Nodes, Protos, Externs}
 use Rattle.sheet.specs.Rows.{rows}
-use Rattle.sheet.specs.Parse.{elements}
+use Rattle.lookup.specs.declared.walk.Found.the-variants.{At}
+use Rattle.lookup.specs.Walk.{Nth}
 use Rattle.lookup.specs.Lookup.{sheetOf, documentsOf, documentAt}
 use Rattle.picks.specs.declared.table.Table.{Table}
 use Rattle.picks.specs.Chosen.{Final}
@@ -123,7 +124,7 @@ pub record SlotFor (dir : List ℕ) (number s : ℕ) : Type 0 where
 pub record Held (t : Part) (R : List Row) (p stride : ℕ) (w : List ℕ) (lo hi place n : ℕ) : Type 0 where
   pub from : lo ≤ place
   pub upto : place + n ≤ hi
-  pub slot : (j : ℕ) → j < n → elements t (drop (getD w (place + j) 0) R) ≡ drop (j * stride) (elements t (drop p R))
+  pub slot : (j : ℕ) → j < n → Nth t R p (j * stride) (At (getD w (place + j) 0))
 
 -- the index of a group of a slot's document
 abbrev pub HeldAt : (root library dir w : List ℕ) → (lo hi s g : ℕ) → Type 0

@@ -1,5 +1,4 @@
-pub mod Words
 pub mod Directory
 pub mod Instance
-pub mod Names
+pub mod Listing
 pub mod Sourced

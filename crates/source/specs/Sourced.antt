@@ -6,10 +6,10 @@ use lib.ListN.{length}
 use Rattle.sheet.specs.Rows.{rows}
 use Rattle.sheet.specs.Parse.{documentOf, filesOf}
 use Rattle.picks.specs.Picks.{pickAt}
-use Rattle.source.specs.Words.{Outside}
+use Rattle.picks.specs.Words.{Outside}
 use Rattle.source.specs.Directory.{size, countOf, fromOf, endOf, cacheOf, cachedOf, groupOf, Slot, Directory, HeldAt}
 use Rattle.source.specs.Instance.{Targeted, targetAt}
-use Rattle.source.specs.Names.{Names}
+use Rattle.source.specs.Listing.{Names}
 
 -- the first picks of the root's externs, in w
 pub record Cached (root library dir w : List ℕ) : Type 0 where

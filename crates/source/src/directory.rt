@@ -3,19 +3,13 @@
 // 198 where the region of work begins and 199 where it ends, 200 for each slot and group the place and size of its index,
 // 590 where the list of the tables of names begins and 591 how many places it has.
 use picks::table::Table;
+use picks::words::wide;
 ghost use mathlib.Core.Path.{_≡_};
 ghost use Prim.Native.Nat.{_*_, _≤_, _<_};
 ghost use lib.ListN.{length, drop};
 ghost use Rattle.sheet.specs.Rows.{rows};
 ghost use Rattle.picks.specs.Table.{Sound};
-ghost use Rattle.source.specs.Words.{Wide};
 ghost use Rattle.source.specs.Directory.{size, numberOf, countOf, Copy, Stored, SlotFor};
-
-pub fn wide(x: u32) -> usize
-    ensures { λ r. ⌜ Wide x r ⌝ }
-{
-    x as usize
-}
 
 // The number of a slot's document.
 pub fn number(dir: &[u32], slot: u32) -> u32

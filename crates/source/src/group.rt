@@ -1,11 +1,11 @@
 // The indexes of the groups of each document: 0 nodes, 1 prototypes, 2 externs.
-use super::directory::wide;
 use lookup::index;
 use lookup::rows;
 use lookup::walk::Found;
+use picks::words::wide;
 use sheet::part::Part;
 ghost use mathlib.Core.Path.{_≡_};
-ghost use Prim.Native.Nat.{_+_, _*_, _≤_, _<_};
+ghost use Prim.Native.Nat.{_+_, _-_, _*_, _≤_, _<_};
 ghost use lib.ListN.{length};
 ghost use Rattle.sheet.specs.Rows.{rows};
 ghost use Rattle.lookup.specs.Lookup.{sheetOf};
@@ -26,9 +26,11 @@ pub fn part_of(group: usize) -> Part
     Part::Externs
 }
 
-// So many elements to a word that the indexes of all rows fit the room. Any other number would give the same answers.
+// So many elements to a word that the indexes of all rows fit the room, where each of the 195 may have a word that stands
+// for fewer. Any other number would give the same answers.
 pub fn stride(total: usize, room: usize) -> u32
     requires { ⌜ total ≤ 2 * 1048576 ⌝ }
+    ensures { λ n. ⌜ (0 < n) × (195 < room → total < n * (room - 195)) ⌝ }
 {
     if room <= 195 {
         return (total + 1) as u32;

@@ -1,10 +1,12 @@
 // The prototype that a node is an instance of, and the cache of the picks of the root's externs.
 use super::directory;
-use super::directory::wide;
 use super::group;
 use lookup::walk::Found;
 use picks::Chosen;
+use picks::memo;
+use picks::memo::Memo;
 use picks::table::Table;
+use picks::words::wide;
 ghost use mathlib.Core.Path.{_≡_};
 ghost use Prim.Native.Nat.{ℕ, _+_, _<_};
 ghost use lib.ListN.{length};
@@ -13,7 +15,8 @@ ghost use Rattle.sheet.specs.Parse.{externProtoOf, documentOf, filesOf};
 ghost use Rattle.lookup.specs.declared.walk.Found.the-variants.{At};
 ghost use Rattle.lookup.specs.Lookup.{documentAt, Looked};
 ghost use Rattle.picks.specs.Picks.{pickAt};
-ghost use Rattle.source.specs.Words.{Outside};
+ghost use Rattle.picks.specs.Memo.{Kept};
+ghost use Rattle.picks.specs.Words.{Outside};
 ghost use Rattle.source.specs.Directory.{Directory, Copy};
 ghost use Rattle.source.specs.Instance.{Targeted, targetAt, Small};
 ghost use Rattle.source.specs.Sourced.{Sourced, Remembered};
@@ -24,6 +27,12 @@ pub enum Target {
     Of { slot: u32, proto: u32 },
 }
 
+// The pick of an extern beside the memo of the library's files.
+pub struct Aimed {
+    pub target: Target,
+    pub memo: Memo,
+}
+
 // The pick of the root's extern at a row.
 fn pick_row<'a>(
     root: &'a [u32],
@@ -31,18 +40,25 @@ fn pick_row<'a>(
     library: &'a [u32],
     dir: &[u32],
     table: Table,
+    memo: Memo,
     slots: &mut [u32],
-) -> Target
-    requires { ⌜ (row < length (rows (now root))) × Directory (now root) (now library) (now dir) × Copy (now dir) table ⌝ }
-    ensures { λ x. ⌜ ((id : ℕ) → Looked externProtoOf (documentAt (rows (now (root .entry))) 0 .externProtos) (rows (now (root .entry))) id (At row) → Targeted (now (dir .entry)) (pickAt (documentOf (rows (now (root .entry)))) (filesOf (rows (now (library .entry)))) id) x) ⌝ }
+) -> Aimed
+    requires { ⌜ (row < length (rows (now root))) × Directory (now root) (now library) (now dir) × Copy (now dir) table × Kept (rows (now library)) (now slots) memo ⌝ }
+    ensures { λ x. ⌜ ((id : ℕ) → Looked externProtoOf (documentAt (rows (now (root .entry))) 0 .externProtos) (rows (now (root .entry))) id (At row) → Targeted (now (dir .entry)) (pickAt (documentOf (rows (now (root .entry)))) (filesOf (rows (now (library .entry)))) id) (x .target)) ⌝ }
+    ensures { λ x. ⌜ Kept (rows (now (library .entry))) (now (slots .exit)) (x .memo) ⌝ }
 {
-    let choice = picks::pick_urls(root, row, library, table, slots);
+    let choice = picks::pick_urls(root, row, library, table, memo, slots);
+    let memo = choice.memo;
     let chosen = choice.chosen;
     let Chosen::Proto { document, id } = chosen else {
-        return Target::Plain;
+        return Aimed {
+            target: Target::Plain,
+            memo,
+        };
     };
     let slot = directory::slot_of(dir, document);
-    Target::Of { slot, proto: id.0 }
+    let target = Target::Of { slot, proto: id.0 };
+    Aimed { target, memo }
 }
 
 // An extern of the root.
@@ -91,11 +107,14 @@ pub fn remember<'a>(root: &'a [u32], library: &'a [u32], dir: &mut [u32], work: 
     let end = wide(dir[199]);
     let mut i = dir[197];
     let mut at = wide(dir[196]) + 2 * wide(i);
+    let mut memo = memo::fresh(&mut work[..from]);
     while at + 2 <= end {
         let Found::At(row) = root_extern(root, library, dir, work, i) else {
             return;
         };
-        let x = pick_row(root, row, library, dir, table, &mut work[..from]);
+        let aimed = pick_row(root, row, library, dir, table, memo, &mut work[..from]);
+        memo = aimed.memo;
+        let x = aimed.target;
         keep(x, work, at);
         i += 1;
         dir[197] = i;
@@ -115,5 +134,8 @@ pub fn picked<'a>(root: &'a [u32], library: &'a [u32], dir: &[u32], work: &[u32]
         return Target::Plain;
     };
     let mut none = [0u32; 1];
-    pick_row(root, row, library, dir, directory::table_of(dir), &mut none)
+    let memo = memo::fresh(&mut none);
+    let table = directory::table_of(dir);
+    let aimed = pick_row(root, row, library, dir, table, memo, &mut none);
+    aimed.target
 }

@@ -4,14 +4,14 @@
 pub mod directory;
 pub mod group;
 pub mod instance;
-pub mod names;
+mod listing;
 
 use ast::ExternProtoId;
 use ast::NodeId;
 use ast::ProtoId;
-use directory::wide;
 use instance::Target;
 use lookup::walk::Found;
+use picks::words::wide;
 ghost use Prim.Native.Nat.{_<_};
 ghost use lib.ListN.{length};
 ghost use Rattle.ast.specs.Lookups.{nodeAt, protoAt, externProtoAt};
@@ -20,7 +20,7 @@ ghost use Rattle.sheet.specs.Parse.{nodeOf, protoOf, externProtoOf, documentOf,
 ghost use Rattle.lookup.specs.Lookup.{documentsOf, sheetOf, Located};
 ghost use Rattle.source.specs.Directory.{numberOf, Slot};
 ghost use Rattle.source.specs.Instance.{originFrom, instanceIn, Targeted};
-ghost use Rattle.source.specs.Names.{LastField};
+ghost use Rattle.names.specs.Names.{LastField};
 ghost use Rattle.source.specs.Sourced.{Sourced, Fit, Opened, Prepared};
 
 // Writes the directory of the documents: the words before the region are scratch.
@@ -59,7 +59,7 @@ pub fn prepare<'a>(
     let end = at + len;
     let indexed = group::index_all(root, library, dir, work, at, end);
     let half = (end - indexed) / 2;
-    let next = names::list(root, dir, work, indexed, indexed + half);
+    let next = listing::list(root, dir, work, indexed, indexed + half);
     dir[196] = next as u32;
     dir[197] = 0;
     instance::remember(root, library, dir, work);

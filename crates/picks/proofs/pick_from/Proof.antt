@@ -4,19 +4,19 @@ use Rattle.picks.proofs.pick_from.Statement.{statement}
 use Rattle.picks.proofs.pick_from.Tie as tie
 use Rattle.picks.proofs.pick_from.Reads as reads
 use Rattle.picks.proofs.pick_from.Lts as lts
-use Rattle.picks.proofs.file.pick_in.Reads as pick-in-reads
+use Rattle.picks.proofs.memo.pick_in.Reads as pick-in-reads
 use denote.Ref.{now}
 use Rattle.sheet.specs.Rows.{rows}
 use Rattle.picks.proofs.PickLaws.{from-none, from-nothing, from-proto}
 
 returns : tie.Need-returns
-returns c = from-none (rows (now (c .before .before .before .args .library))) (c .before .before .before .args .source) (c .before .before .before .args .fragment) (c .if1 .taken)
+returns c = (from-none (rows (now (c .before .before .before .args .library))) (c .before .before .before .args .source) (c .before .before .before .args .fragment) (c .if1 .taken), c .before .before .before .pre .1)
 
 pick-in-requires : tie.Need-pick-in-requires
 pick-in-requires c κs = search needs
 
-enum-known-id : tie.Need-enum-known-id
-enum-known-id c = search needs
+enum-known-top : tie.Need-enum-known-top
+enum-known-top c = search needs
 
 enum-told : tie.Need-enum-told
 enum-told c = search needs
@@ -25,13 +25,13 @@ same-length : tie.Need-same-length
 same-length c = search needs
 
 returns-2 : tie.Need-returns-2
-returns-2 c = from-nothing (rows (now (c .before .before .before .before .before .before .before .before .before .args .library))) (c .before .before .before .before .before .before .before .before .before .args .source) (c .before .before .before .before .before .before .before .before .before .args .fragment) (c .before .before .before .before .pick-in .result) (c .before .before .before .before .before .before .if1 .left) (c .before .before .before .before .pick-in .ensures) (c .enum-told .given .1)
+returns-2 c = (from-nothing (rows (now (c .before .before .before .before .before .before .before .before .before .before .args .library))) (c .before .before .before .before .before .before .before .before .before .before .args .source) (c .before .before .before .before .before .before .before .before .before .before .args .fragment) (c .before .before .before .before .before .pick-in .result .top) (c .before .before .before .before .before .before .before .if1 .left) (c .before .before .before .before .before .pick-in .ensures .0) (c .enum-told .given .1), c .before .before .before .before .before .pick-in .ensures .1)
 
 same-length-2 : tie.Need-same-length-2
 same-length-2 c = search needs
 
 returns-3 : tie.Need-returns-3
-returns-3 c = from-proto (rows (now (c .before .before .before .before .before .before .before .before .before .before .args .library))) (c .before .before .before .before .before .before .before .before .before .before .args .source) (c .before .before .before .before .before .before .before .before .before .before .args .fragment) (c .before .before .before .before .before .pick-in .result) (c .before .before .before .before .before .before .before .if1 .left) (c .before .before .before .before .before .pick-in .ensures) _ (c .before .id .given .1)
+returns-3 c = (from-proto (rows (now (c .before .before .before .before .before .before .before .before .before .before .before .args .library))) (c .before .before .before .before .before .before .before .before .before .before .before .args .source) (c .before .before .before .before .before .before .before .before .before .before .before .args .fragment) (c .before .before .before .before .before .before .pick-in .result .top) (c .before .before .before .before .before .before .before .before .if1 .left) (c .before .before .before .before .before .before .pick-in .ensures .0) _ (c .before .top .given .1), c .before .before .before .before .before .before .pick-in .ensures .1)
 
 pub pick-from-spec : {M : Type 1} → statement M
 pick-from-spec =
@@ -39,7 +39,7 @@ pick-from-spec =
     (tie.spec
     returns
     pick-in-requires
-    enum-known-id
+    enum-known-top
     enum-told
     same-length
     returns-2

@@ -6,7 +6,7 @@ use Rattle.source.proofs.prepare.Reads as reads
 use Rattle.source.proofs.prepare.Lts as lts
 use Rattle.source.proofs.group.index_all.Reads as index-all-reads
 use Rattle.source.proofs.instance.remember.Reads as remember-reads
-use Rattle.source.proofs.names.list.Reads as list-reads
+use Rattle.source.proofs.listing.list.Reads as list-reads
 use Rattle.source.proofs.write_directory.Reads as write-directory-reads
 use mathlib.Core.Path.{_∙_}
 use lib.ListN.{length-set}

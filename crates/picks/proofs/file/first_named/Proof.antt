@@ -9,6 +9,7 @@ use Prim.Native.Nat.{_-_}
 use denote.Ref.{now}
 use lib.ListN.{length}
 use Rattle.sheet.specs.Rows.{rows}
+use Rattle.sheet.proofs.RowLaws.{rows-length}
 use Rattle.picks.proofs.FileLaws.{next-at, next-none, Passing, pass-start, first-none, first-here, first-pass}
 use native.Mathlib.Omega.{arith}
 use borrow.Author.Needs.{needs}
@@ -40,8 +41,11 @@ is-named-requires c κs = search needs
 returns-2 : tie.Need-returns-2 Inv-loop μ-loop
 returns-2 c = first-here (c .before .before .before .before .before .before .loop .inv) (next-at (rows (now (c .before .before .before .before .before .before .before .before .before .args .sheet))) (c .before .before .before .before .before .before .loop .at) (c .before .before .before .before .before .next-proto .ensures) (c .before .before .before .id .given .1)) (c .before .is-named .ensures) (c .if1 .taken)
 
+add-at : tie.Need-add-at Inv-loop μ-loop
+add-at c = omega (arith, next-at (rows (now (c .before .before .before .before .before .before .before .before .before .args .sheet))) (c .before .before .before .before .before .before .loop .at) (c .before .before .before .before .before .next-proto .ensures) (c .before .before .before .id .given .1) .below, rows-length (now (c .before .before .before .before .before .before .before .before .before .args .sheet)))
+
 loop-less : tie.Need-loop-less Inv-loop μ-loop
-loop-less c = let s = next-at (rows (now (c .before .before .before .before .before .before .before .before .before .args .sheet))) (c .before .before .before .before .before .before .loop .at) (c .before .before .before .before .before .next-proto .ensures) (c .before .before .before .id .given .1) in omega (arith, s .after, s .below)
+loop-less c = let s = next-at (rows (now (c .before .before .before .before .before .before .before .before .before .args .sheet))) (c .before .before .before .before .before .before .loop .at) (c .before .before .before .before .before .next-proto .ensures) (c .before .before .before .id .given .1) in omega (arith, s .from, s .below)
 
 loop-again : tie.Need-loop-again Inv-loop μ-loop
 loop-again c = first-pass (c .before .before .before .before .before .before .loop .inv) (next-at (rows (now (c .before .before .before .before .before .before .before .before .before .args .sheet))) (c .before .before .before .before .before .before .loop .at) (c .before .before .before .before .before .next-proto .ensures) (c .before .before .before .id .given .1)) (c .before .is-named .ensures) (c .if1 .left)
@@ -59,5 +63,6 @@ first-named-spec =
     returns
     is-named-requires
     returns-2
+    add-at
     loop-less
     loop-again)

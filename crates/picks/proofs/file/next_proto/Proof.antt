@@ -14,7 +14,7 @@ use Rattle.sheet.specs.Rows.{rows}
 use Rattle.sheet.proofs.RowLaws.{rows-length}
 use Rattle.lookup.proofs.WalkLaws.{stands, missing}
 use Rattle.picks.specs.File.{protosFrom}
-use Rattle.picks.proofs.FileLaws.{proto-none, proto-here, proto-pass}
+use Rattle.picks.proofs.FileLaws.{proto-none, proto-here, proto-from, proto-pass}
 use native.Mathlib.Omega.{arith}
 use borrow.Author.Needs.{needs}
 
@@ -39,14 +39,14 @@ enum-told c = search needs
 returns : tie.Need-returns Inv-loop μ-loop
 returns c = (c .before .before .before .loop .inv .1) ∙ proto-none (rows (now (c .before .before .before .before .before .args .sheet))) (c .before .before .before .loop .at) (missing Statements (rows (now (c .before .before .before .before .before .args .sheet))) (c .before .before .before .loop .at) (c .before .before .seek .ensures) (c .enum-told .given .1))
 
-add-at : tie.Need-add-at Inv-loop μ-loop
-add-at c = omega (arith, stands Statements (rows (now (c .before .before .before .before .before .before .args .sheet))) (c .before .before .before .before .loop .at) (c .before .before .before .seek .ensures) (c .before .q .given .1) .below, rows-length (now (c .before .before .before .before .before .before .args .sheet)))
-
 row-at-requires : tie.Need-row-at-requires Inv-loop μ-loop
 row-at-requires c κs = search needs
 
 returns-2 : tie.Need-returns-2 Inv-loop μ-loop
-returns-2 c = let s = stands Statements (rows (now (c .before .before .before .before .before .before .before .before .before .args .sheet))) (c .before .before .before .before .before .before .before .loop .at) (c .before .before .before .before .before .before .seek .ensures) (c .before .before .before .before .q .given .1) in record { after = omega (arith, s .from); below = omega (arith, s .below); is = (c .before .before .before .before .before .before .before .loop .inv .1) ∙ proto-here (rows (now (c .before .before .before .before .before .before .before .before .before .args .sheet))) s (c .before .before .row-at .ensures) (c .if1 .taken) }
+returns-2 c = let s = stands Statements (rows (now (c .before .before .before .before .before .before .before .before .before .args .sheet))) (c .before .before .before .before .before .before .before .loop .at) (c .before .before .before .before .before .before .seek .ensures) (c .before .before .before .before .q .given .1) in record { from = omega (arith, s .from); below = s .below; here = (c .before .before .before .before .before .before .before .loop .inv .1) ∙ proto-from (rows (now (c .before .before .before .before .before .before .before .before .before .args .sheet))) s (c .before .before .row-at .ensures); is = (c .before .before .before .before .before .before .before .loop .inv .1) ∙ proto-here (rows (now (c .before .before .before .before .before .before .before .before .before .args .sheet))) s (c .before .before .row-at .ensures) (c .if1 .taken) }
+
+add-at : tie.Need-add-at Inv-loop μ-loop
+add-at c = omega (arith, stands Statements (rows (now (c .before .before .before .before .before .before .before .before .before .args .sheet))) (c .before .before .before .before .before .before .before .loop .at) (c .before .before .before .before .before .before .seek .ensures) (c .before .before .before .before .q .given .1) .below, rows-length (now (c .before .before .before .before .before .before .before .before .before .args .sheet)))
 
 loop-less : tie.Need-loop-less Inv-loop μ-loop
 loop-less c = let s = stands Statements (rows (now (c .before .before .before .before .before .before .before .before .before .args .sheet))) (c .before .before .before .before .before .before .before .loop .at) (c .before .before .before .before .before .before .seek .ensures) (c .before .before .before .before .q .given .1) in omega (arith, s .from, s .below)
@@ -65,8 +65,8 @@ next-proto-spec =
     enum-known-q
     enum-told
     returns
-    add-at
     row-at-requires
     returns-2
+    add-at
     loop-less
     loop-again)

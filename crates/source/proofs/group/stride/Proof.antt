@@ -4,8 +4,8 @@ use Rattle.source.proofs.group.stride.Statement.{statement}
 use Rattle.source.proofs.group.stride.Tie as tie
 use Rattle.source.proofs.group.stride.Reads as reads
 use Rattle.source.proofs.group.stride.Lts as lts
-use native.Mathlib.Nat.{div-le-self}
-use Prim.Native.Nat.{_-_}
+use native.Mathlib.Nat.{div-le-self, lt-div-mul-add}
+use Prim.Native.Nat.{_-_, _<_}
 use native.Mathlib.Omega.{arith}
 
 add-result : tie.Need-add-result
@@ -15,7 +15,7 @@ cast-result : tie.Need-cast-result
 cast-result c = search needs
 
 returns : tie.Need-returns
-returns c = search needs
+returns c = (omega arith, λ h. absurd (omega arith))
 
 sub-result : tie.Need-sub-result
 sub-result c = search needs
@@ -30,7 +30,7 @@ cast-result-2 : tie.Need-cast-result-2
 cast-result-2 c = omega (arith, div-le-self (c .before .args .total) ((c .before .args .room) - 195))
 
 returns-2 : tie.Need-returns-2
-returns-2 c = search needs
+returns-2 c = let h : 0 < (c .before .args .room) - 195 = omega arith in (omega arith, λ g. omega (arith, lt-div-mul-add {a = c .before .args .total} h))
 
 pub stride-spec : {M : Type 1} → statement M
 stride-spec =

@@ -4,8 +4,9 @@ use Rattle.source.proofs.instance.picked.Statement.{statement}
 use Rattle.source.proofs.instance.picked.Tie as tie
 use Rattle.source.proofs.instance.picked.Reads as reads
 use Rattle.source.proofs.instance.picked.Lts as lts
+use Rattle.picks.proofs.memo.fresh.Reads as fresh-reads
+use Rattle.picks.proofs.words.wide.Reads as wide-reads
 use Rattle.source.proofs.directory.table_of.Reads as table-of-reads
-use Rattle.source.proofs.directory.wide.Reads as wide-reads
 use Rattle.source.proofs.instance.kept.Reads as kept-reads
 use Rattle.source.proofs.instance.pick_row.Reads as pick-row-reads
 use Rattle.source.proofs.instance.root_extern.Reads as root-extern-reads
@@ -54,17 +55,23 @@ enum-told c = search needs
 returns-2 : tie.Need-returns-2
 returns-2 c = target-missing (now (c .before .before .before .before .before .before .before .before .before .args .root)) (now (c .before .before .before .before .before .before .before .before .before .args .library)) (now (c .before .before .before .before .before .before .before .before .before .args .dir)) (c .before .before .before .before .before .before .before .before .before .args .id) (c .before .before .root-extern .ensures) (c .enum-told .given .1)
 
+slice-aggregate-fresh : tie.Need-slice-aggregate-fresh
+slice-aggregate-fresh c = search needs
+
+fresh-requires : tie.Need-fresh-requires
+fresh-requires c κs = search needs
+
 table-of-requires : tie.Need-table-of-requires
-table-of-requires c κs = (c .before .before .before .before .before .before .before .before .before .before .pre .directory .long, c .before .before .before .before .before .before .before .before .before .before .pre .directory .few)
+table-of-requires c κs = (c .before .before .before .before .before .before .before .before .before .before .before .before .before .pre .directory .long, c .before .before .before .before .before .before .before .before .before .before .before .before .before .pre .directory .few)
 
 slice-aggregate-pick-row : tie.Need-slice-aggregate-pick-row
 slice-aggregate-pick-row c = search needs
 
 pick-row-requires : tie.Need-pick-row-requires
-pick-row-requires c κs = (subst (Below (rows (now (c .before .before .before .before .before .before .before .before .before .before .before .before .args .root)))) (c .before .before .before .row .given .1) (c .before .before .before .before .before .root-extern .ensures .below), c .before .before .before .before .before .before .before .before .before .before .before .before .pre .directory, c .before .table-of .ensures)
+pick-row-requires c κs = (subst (Below (rows (now (c .before .before .before .before .before .before .before .before .before .before .before .before .before .before .before .args .root)))) (c .before .before .before .before .before .before .row .given .1) (c .before .before .before .before .before .before .before .before .root-extern .ensures .below), c .before .before .before .before .before .before .before .before .before .before .before .before .before .before .before .pre .directory, c .before .table-of .ensures, (c .before .before .before .fresh .ensures) (rows (now (c .before .before .before .before .before .before .before .before .before .before .before .before .before .before .before .args .library))))
 
 returns-3 : tie.Need-returns-3
-returns-3 c = (c .before .pick-row .ensures) (c .before .before .before .before .before .before .before .before .before .before .before .before .before .before .args .id) (subst (Looked externProtoOf (documentAt (rows (now (c .before .before .before .before .before .before .before .before .before .before .before .before .before .before .args .root))) 0 .externProtos) (rows (now (c .before .before .before .before .before .before .before .before .before .before .before .before .before .before .args .root))) (c .before .before .before .before .before .before .before .before .before .before .before .before .before .before .args .id)) (c .before .before .before .before .before .row .given .1) (c .before .before .before .before .before .before .before .root-extern .ensures))
+returns-3 c = (c .before .pick-row .ensures .0) (c .before .before .before .before .before .before .before .before .before .before .before .before .before .before .before .before .before .args .id) (subst (Looked externProtoOf (documentAt (rows (now (c .before .before .before .before .before .before .before .before .before .before .before .before .before .before .before .before .before .args .root))) 0 .externProtos) (rows (now (c .before .before .before .before .before .before .before .before .before .before .before .before .before .before .before .before .before .args .root))) (c .before .before .before .before .before .before .before .before .before .before .before .before .before .before .before .before .before .args .id)) (c .before .before .before .before .before .before .before .before .row .given .1) (c .before .before .before .before .before .before .before .before .before .before .root-extern .ensures))
 
 pub picked-spec : {M : Type 1} → statement M
 picked-spec =
@@ -82,6 +89,8 @@ picked-spec =
     enum-known-row
     enum-told
     returns-2
+    slice-aggregate-fresh
+    fresh-requires
     table-of-requires
     slice-aggregate-pick-row
     pick-row-requires
