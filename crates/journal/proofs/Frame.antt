@@ -8,40 +8,44 @@ use native.Mathlib.Omega.{arith}
 use lib.Dec.{eqb}
 use borrow.Author.Tests.{ne-eqb}
 use Rattle.ast.specs.Choice.{choose}
-use Rattle.journal.specs.Records.{tagPaid, tagNode, tagScope, tagRoute, cell, stays, Same, Steady, Fixed, SetWord, Paid}
+use Rattle.journal.specs.Records.{tagPaid, tagNode, tagScope, tagRoute, tagStored, cell, stays, Same, Steady, Fixed, SetWord, Paid}
 use Rattle.journal.specs.Logs.{lastOf, newestOf, countOf, scan, logUp, logDown, only}
 use Rattle.journal.proofs.Cells.{set-cell}
 use Rattle.journal.proofs.Lists.{last-same, newest-same, newest-here, newest-other, newest-span, count-same, count-here, count-other, count-span, scan-same, scan-low, scan-push, up-same, down-same, up-one, down-one, only-here, only-other, up-span, down-span}
 
 -- ---- how many words stay, by the tag
-pub stays-all : (t : ℕ) → (t ≡ tagNode → ⊥) → (t ≡ tagScope → ⊥) → (t ≡ tagRoute → ⊥) → stays t ≡ 12
-stays-all t a b c = rw (ne-eqb t tagNode a, ne-eqb t tagScope b, ne-eqb t tagRoute c)
+-- what holds of each number of words holds of that of any tag
+stays-by : (P : ℕ → Type 0) → P 3 → P 9 → P 10 → P 11 → P 12 → (t : ℕ) → P (stays t)
+stays-by P n s r d o t = by (eqb t tagNode) (eqb t tagScope) (eqb t tagRoute) (eqb t tagStored)
+  where
+    by : (x y z u : Bool) → P (choose x 3 (choose y 9 (choose z 10 (choose u 11 12))))
+    by true y z u = n
+    by false true z u = s
+    by false false true u = r
+    by false false false true = d
+    by false false false false = o
 
 pub stays-least : (t : ℕ) → 3 ≤ stays t
-stays-least t = by (eqb t tagNode) refl (eqb t tagScope) refl (eqb t tagRoute) refl
-  where
-    by : (x : Bool) → eqb t tagNode ≡ x → (y : Bool) → eqb t tagScope ≡ y → (z : Bool) → eqb t tagRoute ≡ z → 3 ≤ stays t
-    by true a y b z c = rw a (omega arith)
-    by false a true b z c = rw (a, b) (omega arith)
-    by false a false b true c = rw (a, b, c) (omega arith)
-    by false a false b false c = rw (a, b, c) (omega arith)
+stays-least = stays-by (λ k. 3 ≤ k) (omega arith) (omega arith) (omega arith) (omega arith) (omega arith)
 
 pub stays-most : (t : ℕ) → stays t ≤ 12
-stays-most t = by (eqb t tagNode) refl (eqb t tagScope) refl (eqb t tagRoute) refl
-  where
-    by : (x : Bool) → eqb t tagNode ≡ x → (y : Bool) → eqb t tagScope ≡ y → (z : Bool) → eqb t tagRoute ≡ z → stays t ≤ 12
-    by true a y b z c = rw a (omega arith)
-    by false a true b z c = rw (a, b) (omega arith)
-    by false a false b true c = rw (a, b, c) (omega arith)
-    by false a false b false c = rw (a, b, c) (omega arith)
+stays-most = stays-by (λ k. k ≤ 12) (omega arith) (omega arith) (omega arith) (omega arith) (omega arith)
 
--- all but a node's and a scope's keep ten
+-- all but a node's and a scope's keep ten; all but those and a route's eleven
 pub stays-ten : (t : ℕ) → (t ≡ tagNode → ⊥) → (t ≡ tagScope → ⊥) → 10 ≤ stays t
-stays-ten t a b = by (eqb t tagRoute) refl
+stays-ten t a b = rw (ne-eqb t tagNode a, ne-eqb t tagScope b) (by (eqb t tagRoute) (eqb t tagStored))
   where
-    by : (z : Bool) → eqb t tagRoute ≡ z → 10 ≤ stays t
-    by true c = rw (ne-eqb t tagNode a, ne-eqb t tagScope b, c) (omega arith)
-    by false c = rw (ne-eqb t tagNode a, ne-eqb t tagScope b, c) (omega arith)
+    by : (z u : Bool) → 10 ≤ choose z 10 (choose u 11 12)
+    by true u = omega arith
+    by false true = omega arith
+    by false false = omega arith
+
+pub stays-eleven : (t : ℕ) → (t ≡ tagNode → ⊥) → (t ≡ tagScope → ⊥) → (t ≡ tagRoute → ⊥) → 11 ≤ stays t
+stays-eleven t a b c = rw (ne-eqb t tagNode a, ne-eqb t tagScope b, ne-eqb t tagRoute c) (by (eqb t tagStored))
+  where
+    by : (u : Bool) → 11 ≤ choose u 11 12
+    by true = omega arith
+    by false = omega arith
 
 -- ---- a record whose words that never change are the same
 module _ {r : ℕ} {w w′ : List ℕ} (s : Steady r w w′) where

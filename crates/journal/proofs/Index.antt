@@ -12,10 +12,10 @@ use lib.Dec.{eqb}
 use borrow.Author.Tests.{eqb-true, eqb-false}
 use Rattle.journal.specs.declared.Record.{Record}
 use Rattle.journal.specs.Records.{cell, stays, Same, Fixed, Holds, Pushed, SetWord, Paid}
-use Rattle.journal.specs.Logs.{lastOf}
+use Rattle.journal.specs.Logs.{lastOf, under}
 use Rattle.journal.specs.Index.{keyed, slotOf, hit, inSlot, headed, newest, Indexed, Room, Slotted, linked, Entered}
 use Rattle.journal.proofs.Cells.{holds-kept}
-use Rattle.journal.proofs.Lists.{last-here, last-other, last-low, last-is, last-finer, newest-last, newest-zero}
+use Rattle.journal.proofs.Lists.{last-here, last-other, last-low, last-is, last-finer, newest-last, newest-zero, under-is, newest-under}
 use Rattle.journal.proofs.Frame.{steady-tag, steady-first, same-fixed, set-fixed, last-fixed}
 use Rattle.journal.proofs.Keys.{steady-keyed, Hit, hit-is, slot-here, slot-tag, slot-apart, slot-is, slot-stable, head-here, head-far, head-step, head-fixed}
 
@@ -32,16 +32,16 @@ module _ {w w′ : List ℕ} {at slots c : ℕ} (f : Fixed c w w′) (ix : Index
   fewer : (r : ℕ) → r < c → Fixed r w w′
   fewer r lr = record { steady = λ k lk. f .steady k (omega arith) }
 
-  pub links-kept : (r : ℕ) → r < c → keyed (cell w′ r 0) ≡ true → cell w′ r 10 ≡ lastOf (inSlot w′ (cell w′ r 11)) r
+  pub links-kept : (r : ℕ) → r < c → keyed (cell w′ r 0) ≡ true → cell w′ r 9 ≡ lastOf (inSlot w′ (cell w′ r 10)) r
   links-kept r lr e =
       let e′ : keyed (cell w r 0) ≡ true = was r lr e in
-      rw (steady-keyed (f .steady r lr) e′ 10 (omega arith), steady-keyed (f .steady r lr) e′ 11 (omega arith))
-      (ix .links r lr e′ ∙ sym (last-fixed (fewer r lr) (λ u. inSlot u (cell w r 11)) (slot-stable (cell w r 11))))
+      rw (steady-keyed (f .steady r lr) e′ 9 (omega arith), steady-keyed (f .steady r lr) e′ 10 (omega arith))
+      (ix .links r lr e′ ∙ sym (last-fixed (fewer r lr) (λ u. inSlot u (cell w r 10)) (slot-stable (cell w r 10))))
 
-  pub slots-kept : (r : ℕ) → r < c → keyed (cell w′ r 0) ≡ true → cell w′ r 11 ≡ slotOf slots (cell w′ r 1) (cell w′ r 2)
+  pub slots-kept : (r : ℕ) → r < c → keyed (cell w′ r 0) ≡ true → cell w′ r 10 ≡ slotOf slots (cell w′ r 1) (cell w′ r 2)
   slots-kept r lr e =
       let e′ : keyed (cell w r 0) ≡ true = was r lr e in
-      rw (steady-keyed (f .steady r lr) e′ 11 (omega arith), steady-first (f .steady r lr) 1 (omega arith), steady-first (f .steady r lr) 2 (omega arith)) (ix .slotted r lr e′)
+      rw (steady-keyed (f .steady r lr) e′ 10 (omega arith), steady-first (f .steady r lr) 1 (omega arith), steady-first (f .steady r lr) 2 (omega arith)) (ix .slotted r lr e′)
 
   pub heads-kept : (b : ℕ) → b < slots → getD w′ (at + b) 0 ≡ getD w (at + b) 0 → headed w′ b c (getD w′ (at + b) 0) ≡ lastOf (inSlot w′ b) c
   heads-kept b lb h = rw h (head-fixed f b (getD w (at + b) 0) ∙ ix .heads b lb ∙ sym (last-fixed f (λ u. inSlot u b) (slot-stable b)))
@@ -134,29 +134,29 @@ module _ (w : List ℕ) (at slots c : ℕ) (r : Record) (room : Room w at slots 
     where
       by : (t : Bool) → eqb u b ≡ t → headed w2 u (c + 1) (getD w2 (at + u) 0) ≡ lastOf (inSlot w2 u) (c + 1)
       by true e =
-          let here : inSlot w2 b c ≡ true = slot-here w2 b c keyed2 (enter-words .at11) in
+          let here : inSlot w2 b c ≡ true = slot-here w2 b c keyed2 (enter-words .at10) in
           rw (eqb-true u b e, getD-set-same w1 (at + b) c 0 (omega (arith, room .heads, sl .below)), last-here (inSlot w2 b) c here) (head-here w2 b (c + 1) c (omega arith) here)
       by false e =
           let ne : u ≡ b → ⊥ = eqb-false u b e in
-          let apart : inSlot w2 u c ≡ false = slot-apart w2 u c (λ z. ne (sym z ∙ enter-words .at11)) in
+          let apart : inSlot w2 u c ≡ false = slot-apart w2 u c (λ z. ne (sym z ∙ enter-words .at10)) in
           let word : getD w2 (at + u) 0 ≡ getD w (at + u) 0 = keeps (at + u) (λ z. ne (omega arith)) ∙ pu .above (at + u) (omega (arith, room .records)) in
           head-step w2 u c (getD w2 (at + u) 0) apart ∙ heads-kept fx ix u lu word ∙ sym (last-other (inSlot w2 u) c apart)
 
   enter-index : Indexed w2 at slots (c + 1)
   enter-index = record { some = ix .some; few = ix .few; heads = enter-heads; links = links; slotted = slotted }
     where
-      links : (n : ℕ) → n < c + 1 → keyed (cell w2 n 0) ≡ true → cell w2 n 10 ≡ lastOf (inSlot w2 (cell w2 n 11)) n
+      links : (n : ℕ) → n < c + 1 → keyed (cell w2 n 0) ≡ true → cell w2 n 9 ≡ lastOf (inSlot w2 (cell w2 n 10)) n
       links n ln e = by (eqb n c) refl
         where
-          by : (t : Bool) → eqb n c ≡ t → cell w2 n 10 ≡ lastOf (inSlot w2 (cell w2 n 11)) n
-          by true z = rw (eqb-true n c z, enter-words .at10, enter-words .at11) (enter-link ∙ sym (last-fixed fx (λ u. inSlot u b) (slot-stable b)))
+          by : (t : Bool) → eqb n c ≡ t → cell w2 n 9 ≡ lastOf (inSlot w2 (cell w2 n 10)) n
+          by true z = rw (eqb-true n c z, enter-words .at9, enter-words .at10) (enter-link ∙ sym (last-fixed fx (λ u. inSlot u b) (slot-stable b)))
           by false z = let ne : n ≡ c → ⊥ = eqb-false n c z in links-kept fx ix n (omega arith) e
 
-      slotted : (n : ℕ) → n < c + 1 → keyed (cell w2 n 0) ≡ true → cell w2 n 11 ≡ slotOf slots (cell w2 n 1) (cell w2 n 2)
+      slotted : (n : ℕ) → n < c + 1 → keyed (cell w2 n 0) ≡ true → cell w2 n 10 ≡ slotOf slots (cell w2 n 1) (cell w2 n 2)
       slotted n ln e = by (eqb n c) refl
         where
-          by : (t : Bool) → eqb n c ≡ t → cell w2 n 11 ≡ slotOf slots (cell w2 n 1) (cell w2 n 2)
-          by true z = rw (eqb-true n c z, enter-words .at11, enter-words .at1, enter-words .at2) (sl .same)
+          by : (t : Bool) → eqb n c ≡ t → cell w2 n 10 ≡ slotOf slots (cell w2 n 1) (cell w2 n 2)
+          by true z = rw (eqb-true n c z, enter-words .at10, enter-words .at1, enter-words .at2) (sl .same)
           by false z = let ne : n ≡ c → ⊥ = eqb-false n c z in slots-kept fx ix n (omega arith) e
 
   pub enter-law : Entered w w2 at slots c r
@@ -168,53 +168,56 @@ module _ (w : List ℕ) (at slots c : ℕ) (r : Record) (room : Room w at slots 
     index = enter-index;
   }
 
--- ---- the search: where it stands
-pub record Walking (w : List ℕ) (slots c t x y cur : ℕ) : Type 0 where
+-- ---- the search for what passes a test, among records of a slot: where it stands
+pub record Walking (w : List ℕ) (b : ℕ) (p : ℕ → Bool) (c cur : ℕ) : Type 0 where
   pub low : cur ≤ c
-  pub slot : 0 < cur → inSlot w (slotOf slots x y) (cur - 1) ≡ true
-  pub same : lastOf (hit w t x y) c ≡ lastOf (hit w t x y) cur
+  pub slot : 0 < cur → inSlot w b (cur - 1) ≡ true
+  pub same : lastOf p c ≡ lastOf p cur
 
-module _ (w : List ℕ) (at slots c t x y : ℕ) (ix : Indexed w at slots c) (key : keyed t ≡ true) where
+module _ (w : List ℕ) (at slots c top t x y : ℕ) (ix : Indexed w at slots c) (key : keyed t ≡ true) (tc : top ≤ c) where
   abbrev bs : ℕ
   bs = slotOf slots x y
 
-  hit-slot : (r : ℕ) → r < c → hit w t x y r ≡ true → inSlot w bs r ≡ true
+  abbrev p : ℕ → Bool
+  p = under top (hit w t x y)
+
+  hit-slot : (r : ℕ) → r < c → p r ≡ true → inSlot w bs r ≡ true
   hit-slot r lr e =
-      let h : Hit w t x y r = hit-is w t x y r e in
+      let h : Hit w t x y r = hit-is w t x y r (under-is (hit w t x y) top r e .1) in
       let k : keyed (cell w r 0) ≡ true = rw (h .tag) key in
       slot-here w bs r k (ix .slotted r lr k ∙ rw (h .one, h .two))
 
   -- down to the newest of the slot
-  down : (n : ℕ) → n ≤ c → lastOf (hit w t x y) n ≡ lastOf (hit w t x y) (lastOf (inSlot w bs) n)
-  down n le = last-finer (inSlot w bs) (hit w t x y) n (λ r lr. hit-slot r (omega arith))
+  down : (n : ℕ) → n ≤ c → lastOf p n ≡ lastOf p (lastOf (inSlot w bs) n)
+  down n le = last-finer (inSlot w bs) p n (λ r lr. hit-slot r (omega arith))
 
-  pub walk-start : (b : ℕ) → Slotted slots x y b → (cur : ℕ) → cur ≡ headed w b c (getD w (at + b) 0) → Walking w slots c t x y cur
+  pub walk-start : (b : ℕ) → Slotted slots x y b → (cur : ℕ) → cur ≡ headed w b c (getD w (at + b) 0) → Walking w bs p c cur
   walk-start b sl cur e =
       let q : cur ≡ lastOf (inSlot w bs) c = e ∙ ix .heads b (sl .below) ∙ rw (sl .same) in
       rw q (record { low = last-low (inSlot w bs) c; slot = last-is (inSlot w bs) c; same = down c (omega arith) })
 
-  module _ (cur : ℕ) (u : Walking w slots c t x y cur) where
-    pub walk-none : cur ≤ 0 → newest w t x y c ≡ none
+  module _ (cur : ℕ) (u : Walking w bs p c cur) where
+    pub walk-none : cur ≤ 0 → newest w t x y top ≡ none
     unfolding lastOf
-    walk-none le = let e : cur ≡ 0 = omega arith in newest-zero (hit w t x y) c (u .same ∙ rw e)
+    walk-none le = let e : cur ≡ 0 = omega arith in sym (newest-under (hit w t x y) top c tc) ∙ newest-zero p c (u .same ∙ rw e)
 
     module _ (lt : 0 < cur) where
       up : cur ≡ (cur - 1) + 1
       up = omega arith
 
-      pub walk-here : hit w t x y (cur - 1) ≡ true → newest w t x y c ≡ some (cur - 1)
-      walk-here e = newest-last (hit w t x y) c (cur - 1) (u .same ∙ ap (lastOf (hit w t x y)) up ∙ last-here (hit w t x y) (cur - 1) e)
+      pub walk-here : p (cur - 1) ≡ true → newest w t x y top ≡ some (cur - 1)
+      walk-here e = sym (newest-under (hit w t x y) top c tc) ∙ newest-last p c (cur - 1) (u .same ∙ ap (lastOf p) up ∙ last-here p (cur - 1) e)
 
-      next : (nx : ℕ) → nx ≡ cell w (cur - 1) 10 → nx ≡ lastOf (inSlot w bs) (cur - 1)
+      next : (nx : ℕ) → nx ≡ cell w (cur - 1) 9 → nx ≡ lastOf (inSlot w bs) (cur - 1)
       next nx e = e ∙ ix .links (cur - 1) (omega (arith, u .low)) (slot-is w bs (cur - 1) (u .slot lt) .0) ∙ rw (slot-is w bs (cur - 1) (u .slot lt) .1)
 
-      pub walk-less : (nx : ℕ) → nx ≡ cell w (cur - 1) 10 → nx < cur
+      pub walk-less : (nx : ℕ) → nx ≡ cell w (cur - 1) 9 → nx < cur
       walk-less nx e = omega (arith, next nx e, last-low (inSlot w bs) (cur - 1))
 
-      pub walk-next : (nx : ℕ) → nx ≡ cell w (cur - 1) 10 → hit w t x y (cur - 1) ≡ false → Walking w slots c t x y nx
+      pub walk-next : (nx : ℕ) → nx ≡ cell w (cur - 1) 9 → p (cur - 1) ≡ false → Walking w bs p c nx
       walk-next nx e f =
           rw (next nx e) (record {
             low = omega (arith, last-low (inSlot w bs) (cur - 1), u .low);
             slot = last-is (inSlot w bs) (cur - 1);
-            same = u .same ∙ ap (lastOf (hit w t x y)) up ∙ last-other (hit w t x y) (cur - 1) f ∙ down (cur - 1) (omega (arith, u .low));
+            same = u .same ∙ ap (lastOf p) up ∙ last-other p (cur - 1) f ∙ down (cur - 1) (omega (arith, u .low));
           })

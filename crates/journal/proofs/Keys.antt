@@ -10,40 +10,43 @@ use lib.ListN.{getD}
 use lib.Dec.{eqb, ltb}
 use borrow.Author.Tests.{eq-eqb, ne-eqb, eqb-true, lt-ltb, le-ltb, ltb-true, ltb-false}
 use Rattle.ast.specs.Choice.{choose}
-use Rattle.journal.specs.Records.{tagMap, tagExtern, cell, Steady, Fixed}
+use Rattle.journal.specs.Records.{tagMap, tagExtern, tagNode, tagStored, cell, Steady, Fixed}
+use Rattle.journal.specs.Logs.{under}
 use Rattle.journal.specs.Index.{keyed, slotOf, hit, inSlot, headed, Slotted, Headed}
-use Rattle.journal.proofs.Frame.{stays-all, steady-tag, steady-first, Stable}
+use Rattle.journal.specs.Owned.{ownedBy}
+use Rattle.journal.proofs.Lists.{under-near}
+use Rattle.journal.proofs.Frame.{stays-eleven, steady-tag, steady-first, Stable}
 
-pub slot-first : (n x y b : ℕ) → x ≡ 0 → b ≡ y → 0 < n → Slotted n x y (b % n)
+pub slot-law : (n x y a b : ℕ) → a ≡ x → b ≡ y → 0 < n → Slotted n x y ((2 * a + (b % 4 + b / 4 % 128 * 512 + b / 512 % 128 * 4 + b / 65536 * 65536)) % n)
 unfolding slotOf
-slot-first n x y b z eb h = record { same = rw (eb, z); below = mod-lt b h }
-
-pub slot-law : (n x y a b c : ℕ) → (x ≡ 0 → ⊥) → a ≡ x → b ≡ y → c ≡ y → 0 < n → Slotted n x y ((a * 61 + b % 256 + c / 256 * 4000037) % n)
-unfolding slotOf
-slot-law n x y a b c nz ea eb ec h = record { same = rw (ea, eb, ec, ne-eqb x 0 nz); below = mod-lt (a * 61 + b % 256 + c / 256 * 4000037) h }
+slot-law n x y a b ea eb h = record { same = rw (ea, eb); below = mod-lt (2 * a + (b % 4 + b / 4 % 128 * 512 + b / 512 % 128 * 4 + b / 65536 * 65536)) h }
 
 -- ---- tags
-pub keyed-low : (t : ℕ) → keyed t ≡ true → t ≤ 2
-keyed-low t e = by (eqb t tagMap) refl e
+pub keyed-low : (t : ℕ) → keyed t ≡ true → (t ≤ tagStored) × (t ≡ tagNode → ⊥)
+keyed-low t e = by (eqb t tagMap) refl (eqb t tagExtern) refl e
   where
-    by : (u : Bool) → eqb t tagMap ≡ u → choose u true (eqb t tagExtern) ≡ true → t ≤ 2
-    by true q f = omega (arith, eqb-true t tagMap q)
-    by false q f = omega (arith, eqb-true t tagExtern f)
+    by : (u : Bool) → eqb t tagMap ≡ u → (v : Bool) → eqb t tagExtern ≡ v → choose u true (choose v true (eqb t tagStored)) ≡ true → (t ≤ tagStored) × (t ≡ tagNode → ⊥)
+    by true q v s f = let z : t ≡ tagMap = eqb-true t tagMap q in (omega arith, λ n. omega arith)
+    by false q true s f = let z : t ≡ tagExtern = eqb-true t tagExtern s in (omega arith, λ n. omega arith)
+    by false q false s f = let z : t ≡ tagStored = eqb-true t tagStored f in (omega arith, λ n. omega arith)
 
-pub unkeyed : (t : ℕ) → (t ≡ tagMap → ⊥) → (t ≡ tagExtern → ⊥) → keyed t ≡ false
-unkeyed t a b = rw (ne-eqb t tagMap a, ne-eqb t tagExtern b)
+pub unkeyed : (t : ℕ) → (t ≡ tagMap → ⊥) → (t ≡ tagExtern → ⊥) → (t ≡ tagStored → ⊥) → keyed t ≡ false
+unkeyed t a b c = rw (ne-eqb t tagMap a, ne-eqb t tagExtern b, ne-eqb t tagStored c)
 
 pub keyed-map : (t : ℕ) → t ≡ tagMap → true ≡ keyed t
 keyed-map t e = rw (eq-eqb t tagMap e)
 
-pub keyed-else : (t : ℕ) → (t ≡ tagMap → ⊥) → eqb t tagExtern ≡ keyed t
-keyed-else t ne = rw (ne-eqb t tagMap ne)
+pub keyed-extern : (t : ℕ) → (t ≡ tagMap → ⊥) → t ≡ tagExtern → true ≡ keyed t
+keyed-extern t ne e = rw (ne-eqb t tagMap ne, eq-eqb t tagExtern e)
 
--- all words of a keyed record stay
-pub steady-keyed : {r : ℕ} {w w′ : List ℕ} → Steady r w w′ → keyed (cell w r 0) ≡ true → (j : ℕ) → j < 12 → cell w′ r j ≡ cell w r j
+pub keyed-else : (t : ℕ) → (t ≡ tagMap → ⊥) → (t ≡ tagExtern → ⊥) → eqb t tagStored ≡ keyed t
+keyed-else t ne ne′ = rw (ne-eqb t tagMap ne, ne-eqb t tagExtern ne′)
+
+-- all words of a keyed record but the last stay
+pub steady-keyed : {r : ℕ} {w w′ : List ℕ} → Steady r w w′ → keyed (cell w r 0) ≡ true → (j : ℕ) → j < 11 → cell w′ r j ≡ cell w r j
 steady-keyed {r} {w} s e j lj =
-    let l : cell w r 0 ≤ 2 = keyed-low (cell w r 0) e in
-    s .keeps j (rw (stays-all (cell w r 0) (λ q. omega arith) (λ q. omega arith) (λ q. omega arith)) lj)
+    let l = keyed-low (cell w r 0) e in
+    s .keeps j (omega (arith, stays-eleven (cell w r 0) (l .1) (λ q. omega (arith, l .0)) (λ q. omega (arith, l .0))))
 
 -- ---- the key of a record
 pub record Hit (w : List ℕ) (t x y r : ℕ) : Type 0 where
@@ -86,42 +89,62 @@ hit-two w t x y r ne = rw (ne-eqb (cell w r 2) y ne) (by (eqb (cell w r 0) t) (e
     by false v = refl
 
 -- the last test decides
-pub hit-law : (w : List ℕ) (t x y r a b c : ℕ) → a ≡ cell w r 0 → a ≡ t → b ≡ cell w r 1 → b ≡ x → c ≡ cell w r 2 → eqb c y ≡ hit w t x y r
+hit-last : (w : List ℕ) (t x y r a b c : ℕ) → a ≡ cell w r 0 → a ≡ t → b ≡ cell w r 1 → b ≡ x → c ≡ cell w r 2 → eqb c y ≡ hit w t x y r
 unfolding hit
-hit-law w t x y r a b c ea et eb ex ec = rw (ec, eq-eqb (cell w r 0) t (sym ea ∙ et), eq-eqb (cell w r 1) x (sym eb ∙ ex))
+hit-last w t x y r a b c ea et eb ex ec = rw (ec, eq-eqb (cell w r 0) t (sym ea ∙ et), eq-eqb (cell w r 1) x (sym eb ∙ ex))
+
+-- below a place
+module _ (w : List ℕ) (top t x y r : ℕ) (lt : r < top) where
+  pub under-tag : (cell w r 0 ≡ t → ⊥) → under top (hit w t x y) r ≡ false
+  under-tag ne = under-near (hit w t x y) top r lt ∙ hit-tag w t x y r ne
+
+  pub under-one : (cell w r 1 ≡ x → ⊥) → under top (hit w t x y) r ≡ false
+  under-one ne = under-near (hit w t x y) top r lt ∙ hit-one w t x y r ne
+
+  pub hit-law : (a b c : ℕ) → a ≡ cell w r 0 → a ≡ t → b ≡ cell w r 1 → b ≡ x → c ≡ cell w r 2 → eqb c y ≡ under top (hit w t x y) r
+  hit-law a b c ea et eb ex ec = hit-last w t x y r a b c ea et eb ex ec ∙ sym (under-near (hit w t x y) top r lt)
+
+-- an owned record of the name
+pub hit-owned : (w : List ℕ) (t x y r : ℕ) → hit w t x y r ≡ choose (ownedBy w t x r) (eqb (cell w r 2) y) false
+unfolding hit ownedBy
+hit-owned w t x y r = by (eqb (cell w r 0) t)
+  where
+    by : (u : Bool) → choose u (choose (eqb (cell w r 1) x) (eqb (cell w r 2) y) false) false ≡ choose (choose u (eqb (cell w r 1) x) false) (eqb (cell w r 2) y) false
+    by true = refl
+    by false = refl
 
 pub hit-stable : (t x y : ℕ) → Stable (λ w. hit w t x y)
 unfolding hit
 hit-stable t x y = record { same = λ r w w′ s. rw (steady-tag s, steady-first s 1 (omega arith), steady-first s 2 (omega arith)) }
 
 -- ---- the slot of a record
-pub slot-here : (w : List ℕ) (b r : ℕ) → keyed (cell w r 0) ≡ true → cell w r 11 ≡ b → inSlot w b r ≡ true
+pub slot-here : (w : List ℕ) (b r : ℕ) → keyed (cell w r 0) ≡ true → cell w r 10 ≡ b → inSlot w b r ≡ true
 unfolding inSlot
-slot-here w b r e f = rw (e, eq-eqb (cell w r 11) b f)
+slot-here w b r e f = rw (e, eq-eqb (cell w r 10) b f)
 
 pub slot-tag : (w : List ℕ) (b r : ℕ) → keyed (cell w r 0) ≡ false → inSlot w b r ≡ false
 unfolding inSlot
 slot-tag w b r e = rw e
 
-pub slot-apart : (w : List ℕ) (b r : ℕ) → (cell w r 11 ≡ b → ⊥) → inSlot w b r ≡ false
+pub slot-apart : (w : List ℕ) (b r : ℕ) → (cell w r 10 ≡ b → ⊥) → inSlot w b r ≡ false
 unfolding inSlot
-slot-apart w b r ne = rw (ne-eqb (cell w r 11) b ne) (by (keyed (cell w r 0)))
+slot-apart w b r ne = rw (ne-eqb (cell w r 10) b ne) (by (keyed (cell w r 0)))
   where
     by : (u : Bool) → choose u false false ≡ false
     by true = refl
     by false = refl
 
-pub slot-is : (w : List ℕ) (b r : ℕ) → inSlot w b r ≡ true → (keyed (cell w r 0) ≡ true) × (cell w r 11 ≡ b)
+pub slot-is : (w : List ℕ) (b r : ℕ) → inSlot w b r ≡ true → (keyed (cell w r 0) ≡ true) × (cell w r 10 ≡ b)
 unfolding inSlot
 slot-is w b r e = by (keyed (cell w r 0)) refl e
   where
-    by : (u : Bool) → keyed (cell w r 0) ≡ u → choose u (eqb (cell w r 11) b) false ≡ true → (keyed (cell w r 0) ≡ true) × (cell w r 11 ≡ b)
-    by true q f = (q, eqb-true (cell w r 11) b f)
+    by : (u : Bool) → keyed (cell w r 0) ≡ u → choose u (eqb (cell w r 10) b) false ≡ true → (keyed (cell w r 0) ≡ true) × (cell w r 10 ≡ b)
+    by true q f = (q, eqb-true (cell w r 10) b f)
     by false q f = let z : _≡_ {A = ℕ} 0 1 = cc in absurd (omega arith)
 
 pub slot-stable : (b : ℕ) → Stable (λ w. inSlot w b)
 unfolding inSlot
-slot-stable b = record { same = λ r w w′ s. rw (steady-tag s) (by (keyed (cell w r 0)) (cell w′ r 11) (cell w r 11) (λ e. steady-keyed s e 11 (omega arith))) }
+slot-stable b = record { same = λ r w w′ s. rw (steady-tag s) (by (keyed (cell w r 0)) (cell w′ r 10) (cell w r 10) (λ e. steady-keyed s e 10 (omega arith))) }
   where
     by : (u : Bool) (x y : ℕ) → (u ≡ true → x ≡ y) → choose u (eqb x b) false ≡ choose u (eqb y b) false
     by true x y h = rw (h refl)
@@ -172,7 +195,7 @@ module _ (w : List ℕ) (at b c x : ℕ) (e : x ≡ getD w (at + b) 0) where
   pub word-tag : (t : ℕ) → t ≡ cell w x 0 → keyed t ≡ false → Headed w at b c 0
   word-tag t et k = record { same = rw (← e) (sym (head-not w b c x (slot-tag w b x (rw et at k)))); low = omega arith }
 
-  module _ (s : ℕ) (es : s ≡ cell w x 11) where
+  module _ (s : ℕ) (es : s ≡ cell w x 10) where
     pub word-apart : (s ≡ b → ⊥) → Headed w at b c 0
     word-apart ne = record { same = rw (← e) (sym (head-not w b c x (slot-apart w b x (λ q. ne (es ∙ q))))); low = omega arith }
 

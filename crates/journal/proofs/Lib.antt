@@ -4,3 +4,4 @@ pub mod Frame
 pub mod Keys
 pub mod Index
 pub mod Owned
+pub mod Families

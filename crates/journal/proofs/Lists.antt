@@ -8,10 +8,10 @@ use native.Mathlib.Numerals.{add-one}
 use native.Mathlib.Omega.{arith}
 use lib.ListN.{length, set, getElem?, length-append}
 use lib.Seq.{set-append-seam, set-append-left}
-use lib.Dec.{eqb}
-use borrow.Author.Tests.{eq-eqb, ne-eqb, eqb-true, eqb-false}
+use lib.Dec.{eqb, ltb}
+use borrow.Author.Tests.{eq-eqb, ne-eqb, eqb-true, eqb-false, lt-ltb, le-ltb, ltb-true}
 use Rattle.ast.specs.Choice.{choose, first, mapO}
-use Rattle.journal.specs.Logs.{lastOf, newestOf, countOf, scan, revOnto, logUp, logDown, only}
+use Rattle.journal.specs.Logs.{lastOf, newestOf, under, countOf, scan, revOnto, logUp, logDown, only}
 
 -- a number c + (n + 1), as one more than c + n
 span : (c n : ℕ) → c + suc n ≡ suc (c + n)
@@ -160,6 +160,29 @@ pub newest-same : (p p′ : ℕ → Bool) (c : ℕ) → ((r : ℕ) → r < c →
 unfolding newestOf
 newest-same p p′ zero h = refl
 newest-same p p′ (suc c) h = rw (h c (omega arith), newest-same p p′ c (λ r l. h r (omega arith)))
+
+-- a test that only records below a place pass
+module _ (p : ℕ → Bool) (top r : ℕ) where
+  pub under-is : under top p r ≡ true → (r < top) × (p r ≡ true)
+  unfolding under
+  under-is e = by (ltb r top) refl e
+    where
+      by : (t : Bool) → ltb r top ≡ t → choose t (p r) false ≡ true → (r < top) × (p r ≡ true)
+      by true q f = (ltb-true r top q, f)
+      by false q f = let z : _≡_ {A = ℕ} 0 1 = cc in absurd (omega arith)
+
+  pub under-far : top ≤ r → under top p r ≡ false
+  unfolding under
+  under-far le = rw (le-ltb r top le)
+
+  pub under-near : r < top → under top p r ≡ p r
+  unfolding under
+  under-near lt = rw (lt-ltb r top lt)
+
+pub newest-under : (p : ℕ → Bool) (top c : ℕ) → top ≤ c → newestOf (under top p) c ≡ newestOf p top
+newest-under p top c le =
+    let z : top + (c - top) ≡ c = omega arith in
+    (rw z at (newest-span (under top p) top (c - top) (λ r l h. under-far p top r l))) ∙ newest-same p (under top p) top (λ r l. under-near p top r l)
 
 pub count-same : (p p′ : ℕ → Bool) (c : ℕ) → ((r : ℕ) → r < c → p′ r ≡ p r) → countOf p′ c ≡ countOf p c
 unfolding countOf

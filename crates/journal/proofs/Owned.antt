@@ -67,12 +67,23 @@ unfolding ownedBy
 owned-stable t s = record { same = λ r w w′ st. rw (steady-tag st, steady-first st 1 (omega arith)) }
 
 -- a record is below the last, or the last
-split : {P : Type 0} (r c : ℕ) → r < c + 1 → (r < c → P) → (r ≡ c → P) → P
+pub split : {P : Type 0} (r c : ℕ) → r < c + 1 → (r < c → P) → (r ≡ c → P) → P
 split {P} r c l f g = by (eqb r c) refl
   where
     by : (t : Bool) → eqb r c ≡ t → P
     by true q = g (eqb-true r c q)
     by false q = let ne : r ≡ c → ⊥ = eqb-false r c q in f (omega arith)
+
+-- another scope has another number
+pub scopes-apart : {w : List ℕ} {c s n : ℕ} → Owned w c → s < c → cell w s 0 ≡ tagScope → n < c → cell w n 0 ≡ tagScope → (n ≡ s → ⊥) → cell w s 6 ≡ cell w n 6 → ⊥
+scopes-apart {w} {c} {s} {n} ow ls es ln en ne y = by (ltb n s) refl
+  where
+    below : (i j : ℕ) → i < j → cell w i 0 ≡ tagScope → scopesBelow w i < scopesBelow w j
+    below i j l f = count-above (tagged w tagScope) i j l (tagged-here w tagScope i f)
+
+    by : (t : Bool) → ltb n s ≡ t → ⊥
+    by true z = omega (arith, ow .numbers s ls es, ow .numbers n ln en, below n s (ltb-true n s z) en)
+    by false z = let l : s ≤ n = ltb-false n s z in omega (arith, ow .numbers s ls es, ow .numbers n ln en, below s n (omega (arith, ne)) es)
 
 -- ---- no records
 pub owned-none : (w : List ℕ) → Owned w 0
@@ -172,7 +183,7 @@ pub owned-push : {w w′ : List ℕ} {c : ℕ} {r : Record} → Pushed w w′ c 
 owned-push p ne ow = owned-step (owned-same (p .same) ow) (λ a b. ne (rw (p .holds .at0) at a) (rw (p .holds .at0) at b))
 
 pub owned-enter : {w w′ : List ℕ} {at slots c : ℕ} {r : Record} → Entered w w′ at slots c r → keyed (r .tag) ≡ true → Owned w c → Owned w′ (c + 1)
-owned-enter {w} {w′} {at} {slots} {c} {r} p key ow = owned-step (owned-same (p .same) ow) (λ a b. omega (arith, p .holds .at0, keyed-low (r .tag) key))
+owned-enter {w} {w′} {at} {slots} {c} {r} p key ow = owned-step (owned-same (p .same) ow) (λ a b. omega (arith, p .holds .at0, keyed-low (r .tag) key .0))
 
 pub owned-scope : {w w′ : List ℕ} {c : ℕ} {r : Record} → Pushed w w′ c r → r .tag ≡ tagScope → r .f ≡ scopesBelow w c → r .i ≡ 0 → r .j ≡ 0 → r .k ≡ 0 → Owned w c → Owned w′ (c + 1)
 owned-scope {w} {w′} {c} {r} p e num z9 z10 z11 ow =
@@ -219,7 +230,7 @@ append-fixed a = head-alone (a .scope) (a .tag) (a .other)
 
 pub index-append : {w w′ : List ℕ} {at slots s c : ℕ} {r : Record} → Appended w w′ s c r → c * 12 + 12 ≤ at → Indexed w at slots c → Indexed w′ at slots (c + 1)
 index-append {w} {w′} {at} {slots} {s} {c} {r} a l ix =
-    index-step (index-keep (append-fixed a) ix (λ b lb. a .above (at + b) (omega arith))) (rw (a .holds .at0) (unkeyed (r .tag) (λ e. omega (arith, a .tag .low)) (λ e. omega (arith, a .tag .low))))
+    index-step (index-keep (append-fixed a) ix (λ b lb. a .above (at + b) (omega arith))) (rw (a .holds .at0) (unkeyed (r .tag) (λ e. omega (arith, a .tag .low)) (λ e. omega (arith, a .tag .low)) (λ e. omega (arith, a .tag .low))))
 
 module _ (w : List ℕ) (s c : ℕ) (r : Record) (pre : Ownable w s c r) (w1 w2 : List ℕ) (q : ℕ) (eq : q ≡ cell w s (headWord (r .tag))) (pu : Pushed w w1 c (after r q))
     (st : SetWord w1 w2 s (headWord (r .tag)) (c + 1)) where
@@ -251,23 +262,6 @@ module _ (w : List ℕ) (s c : ℕ) (r : Record) (pre : Ownable w s c r) (w1 w2 
   not-last : (n : ℕ) → n ≡ c → cell w2 n 0 ≡ tagScope → ⊥
   not-last n z e = let y : cell w2 c 0 ≡ tagScope = rw z at e in omega (arith, words .at0, T .low)
 
-  -- another scope has another number
-  apart : (n : ℕ) → n < c → cell w n 0 ≡ tagScope → (n ≡ s → ⊥) → cell w s 6 ≡ cell w n 6 → ⊥
-  apart n ln e ne y = by (ltb n s) refl
-    where
-      a : cell w s 6 ≡ scopesBelow w s
-      a = ow .numbers s (pre .below) (pre .scope)
-
-      b : cell w n 6 ≡ scopesBelow w n
-      b = ow .numbers n ln e
-
-      below : (i j : ℕ) → i < j → cell w i 0 ≡ tagScope → scopesBelow w i < scopesBelow w j
-      below i j l f = count-above (tagged w tagScope) i j l (tagged-here w tagScope i f)
-
-      by : (t : Bool) → ltb n s ≡ t → ⊥
-      by true z = omega (arith, a, b, below n s (ltb-true n s z) e)
-      by false z = let l : s ≤ n = ltb-false n s z in omega (arith, a, b, below s n (omega (arith, ne)) (pre .scope))
-
   append-heads : (n t : ℕ) → n < c + 1 → cell w2 n 0 ≡ tagScope → OwnedTag t → cell w2 n (headWord t) ≡ lastOwned w2 t (cell w2 n 6) (c + 1)
   append-heads n t ln e o = split n c ln (λ l. by l (eqb n s) refl (eqb t (r .tag)) refl) (λ z. absurd (not-last n z e))
     where
@@ -282,7 +276,7 @@ module _ (w : List ℕ) (s c : ℕ) (r : Record) (pre : Ownable w s c r) (w1 w2 
       by l false y true z =
           let ne : n ≡ s → ⊥ = eqb-false n s y in
           let e′ : cell w n 0 ≡ tagScope = was fx ow n tagScope l e in
-          kept l (λ a b. ne a) (owned-apart w2 t (cell w2 n 6) c (λ k. apart n l e′ ne (sym number ∙ k ∙ number-kept fx ow n l e′)))
+          kept l (λ a b. ne a) (owned-apart w2 t (cell w2 n 6) c (λ k. scopes-apart ow (pre .below) (pre .scope) l e′ ne (sym number ∙ k ∙ number-kept fx ow n l e′)))
       by l true y true z =
           rw (eqb-true n s y, eqb-true t (r .tag) z)
           (st .here ∙ add-one c

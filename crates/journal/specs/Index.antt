@@ -11,15 +11,15 @@ use Rattle.ast.specs.Choice.{choose}
 use Rattle.journal.specs.declared.Record.{Record}
 use Rattle.journal.specs.declared.Found.{Found}
 use Rattle.journal.specs.declared.Found.the-variants.{At, Nothing}
-use Rattle.journal.specs.Records.{tagMap, tagExtern, cell, Same, Holds}
+use Rattle.journal.specs.Records.{tagMap, tagExtern, tagStored, cell, Same, Holds}
 use Rattle.journal.specs.Logs.{lastOf, newestOf}
 
--- the tags of keyed records; words 1 and 2 are the rest of the key, word 10 the link, word 11 the slot
+-- the tags of keyed records; words 1 and 2 are the rest of the key, word 9 the link, word 10 the slot
 abbrev pub keyed : ℕ → Bool
-keyed t = choose (eqb t tagMap) true (eqb t tagExtern)
+keyed t = choose (eqb t tagMap) true (choose (eqb t tagExtern) true (eqb t tagStored))
 
 unfoldable pub slotOf : ℕ → ℕ → ℕ → ℕ
-slotOf slots x y = choose (eqb x 0) y (x * 61 + y % 256 + y / 256 * 4000037) % slots
+slotOf slots x y = (2 * x + (y % 4 + y / 4 % 128 * 512 + y / 512 % 128 * 4 + y / 65536 * 65536)) % slots
 
 -- record r has the key
 unfoldable pub hit : List ℕ → ℕ → ℕ → ℕ → ℕ → Bool
@@ -35,7 +35,7 @@ foundOf Nothing = none
 
 -- record r is keyed, and of slot b
 unfoldable pub inSlot : List ℕ → ℕ → ℕ → Bool
-inSlot w b r = choose (keyed (cell w r 0)) (eqb (cell w r 11) b) false
+inSlot w b r = choose (keyed (cell w r 0)) (eqb (cell w r 10) b) false
 
 -- the word x as the head of slot b: a record with one added, or 0 where x is none of that slot below c
 unfoldable pub headed : List ℕ → ℕ → ℕ → ℕ → ℕ
@@ -46,8 +46,8 @@ pub record Indexed (w : List ℕ) (at slots c : ℕ) : Type 0 where
   pub some : 0 < slots
   pub few : slots ≤ 2 ^ 32
   pub heads : (b : ℕ) → b < slots → headed w b c (getD w (at + b) 0) ≡ lastOf (inSlot w b) c
-  pub links : (r : ℕ) → r < c → keyed (cell w r 0) ≡ true → cell w r 10 ≡ lastOf (inSlot w (cell w r 11)) r
-  pub slotted : (r : ℕ) → r < c → keyed (cell w r 0) ≡ true → cell w r 11 ≡ slotOf slots (cell w r 1) (cell w r 2)
+  pub links : (r : ℕ) → r < c → keyed (cell w r 0) ≡ true → cell w r 9 ≡ lastOf (inSlot w (cell w r 10)) r
+  pub slotted : (r : ℕ) → r < c → keyed (cell w r 0) ≡ true → cell w r 10 ≡ slotOf slots (cell w r 1) (cell w r 2)
 
 -- c records, the heads at `at`, and the words behind each other; a place with one added is a word
 pub record Room (w : List ℕ) (at slots c : ℕ) : Type 0 where
@@ -76,7 +76,7 @@ pub record Headed (w : List ℕ) (at b c r : ℕ) : Type 0 where
 
 -- the record with its link and its slot
 abbrev pub linked : Record → ℕ → ℕ → Record
-linked r q b = record { tag = r .tag; a = r .a; b = r .b; c = r .c; d = r .d; e = r .e; f = r .f; g = r .g; h = r .h; i = r .i; j = q; k = b }
+linked r q b = record { tag = r .tag; a = r .a; b = r .b; c = r .c; d = r .d; e = r .e; f = r .f; g = r .g; h = r .h; i = q; j = b; k = r .k }
 
 -- record c is written with its link and its slot, and the head of the slot; nothing else
 pub record Entered (w w′ : List ℕ) (at slots c : ℕ) (r : Record) : Type 0 where

@@ -1,10 +1,10 @@
 -- What a pass over the records yields: logs, chains, and the newest record that passes a test. A place is given with one
 -- added where 0 is to say that there is none.
-use mathlib.Core.Bool.{Bool}
+use mathlib.Core.Bool.{Bool, false}
 use mathlib.Core.List.{List, [], _∷_, _++_}
 use mathlib.Core.Option.{Option, none, some}
 use Prim.Native.Nat.{ℕ, zero, suc}
-use lib.Dec.{eqb}
+use lib.Dec.{eqb, ltb}
 use Rattle.ast.specs.Choice.{choose}
 
 -- the newest record below a place that passes a test, with one added; 0 for none
@@ -16,6 +16,10 @@ lastOf p (suc r) = choose (p r) (suc r) (lastOf p r)
 unfoldable pub newestOf : (ℕ → Bool) → ℕ → Option ℕ
 newestOf p zero = none
 newestOf p (suc r) = choose (p r) (some r) (newestOf p r)
+
+-- a test that only records below a place pass
+unfoldable pub under : ℕ → (ℕ → Bool) → ℕ → Bool
+under top p r = choose (ltb r top) (p r) false
 
 -- how many records below a place pass a test
 unfoldable pub countOf : (ℕ → Bool) → ℕ → ℕ

@@ -59,7 +59,7 @@ cell w r j = getD w (r * 12 + j) 0
 
 -- how many of a record's first words never change, by its tag
 abbrev pub stays : ℕ → ℕ
-stays t = choose (eqb t tagNode) 3 (choose (eqb t tagScope) 9 (choose (eqb t tagRoute) 10 12))
+stays t = choose (eqb t tagNode) 3 (choose (eqb t tagScope) 9 (choose (eqb t tagRoute) 10 (choose (eqb t tagStored) 11 12)))
 
 -- all words of the records below c are the same
 pub record Same (c : ℕ) (w w′ : List ℕ) : Type 0 where

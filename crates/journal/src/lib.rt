@@ -3,8 +3,10 @@ ghost use mathlib.Core.Path.{_≡_};
 ghost use Prim.Native.Nat.{_+_, _*_, _<_, _≤_};
 ghost use lib.ListN.{length};
 ghost use Rattle.journal.specs.Records.{cell, Pushed, SetWord, Paid, Wide};
+ghost use Rattle.journal.specs.Logs.{under};
 ghost use Rattle.journal.specs.Index.{keyed, hit, newest, foundOf, Findable, Enterable, Slotted, Headed, Entered};
 ghost use Rattle.journal.specs.Owned.{Ownable, Appended};
+ghost use Rattle.journal.specs.Families.{Behind, Joins, Joinable, Joined};
 
 // Word 0 is the tag.
 pub struct Record {
@@ -79,15 +81,16 @@ pub fn paid(work: &mut [u32], n: usize, count: usize)
     }
 }
 
-// The slot of a key: the ids of scope 0 side by side; else 61 slots on for each scope, and far apart for each 256 ids.
+// The slot of a key. A map entry's is twice its scope's place, plus its id with two digits exchanged: the slots of a scope
+// stand near each other, and since a copy takes two records, the table is touched in proportion to the records. Scopes
+// nested in each other have places side by side: the exchange sets their ids apart.
 fn slot(slots: usize, x: u32, y: u32) -> usize
     requires { ⌜ 0 < slots ⌝ }
     ensures { λ r. ⌜ Slotted slots x y r ⌝ }
 {
-    if x == 0 {
-        return wide(y) % slots;
-    }
-    (wide(x) * 61 + wide(y) % 256 + wide(y) / 256 * 4000037) % slots
+    let id = wide(y);
+    let spread = id % 4 + id / 4 % 128 * 512 + id / 512 % 128 * 4 + id / 65536 * 65536;
+    (2 * wide(x) + spread) % slots
 }
 
 fn is_keyed(tag: u32) -> bool
@@ -96,14 +99,20 @@ fn is_keyed(tag: u32) -> bool
     if tag == 1 {
         return true;
     }
-    tag == 2
+    if tag == 2 {
+        return true;
+    }
+    tag == 9
 }
 
-// Whether record `n` has the key.
-fn hits(work: &[u32], n: usize, tag: u32, x: u32, y: u32) -> bool
+// Whether record `n` is below `top` and has the key.
+fn hits(work: &[u32], n: usize, top: usize, tag: u32, x: u32, y: u32) -> bool
     requires { ⌜ n * 12 + 12 ≤ length (now work) ⌝ }
-    ensures { λ r. ⌜ r ≡ hit (now (work .entry)) tag x y n ⌝ }
+    ensures { λ r. ⌜ r ≡ under top (hit (now (work .entry)) tag x y) n ⌝ }
 {
+    if top <= n {
+        return false;
+    }
     if word(work, n, 0) != tag {
         return false;
     }
@@ -125,10 +134,36 @@ fn head(work: &[u32], at: usize, c: usize, b: usize) -> usize
     if !is_keyed(word(work, x, 0)) {
         return 0;
     }
-    if wide(word(work, x, 11)) != b {
+    if wide(word(work, x, 10)) != b {
         return 0;
     }
     x + 1
+}
+
+// The newest record below `top` of a key.
+pub fn find_below(
+    work: &[u32],
+    at: usize,
+    slots: usize,
+    c: usize,
+    top: usize,
+    tag: u32,
+    x: u32,
+    y: u32,
+) -> Found
+    requires { ⌜ Findable (now work) at slots c tag ⌝ }
+    requires { ⌜ top ≤ c ⌝ }
+    ensures { λ r. ⌜ foundOf r ≡ newest (now (work .entry)) tag x y top ⌝ }
+{
+    let mut cur = head(work, at, c, slot(slots, x, y));
+    while 0 < cur {
+        let n = cur - 1;
+        if hits(work, n, top, tag, x, y) {
+            return Found::At(n);
+        }
+        cur = wide(word(work, n, 9));
+    }
+    Found::Nothing
 }
 
 // The newest record of a key.
@@ -136,15 +171,7 @@ pub fn find(work: &[u32], at: usize, slots: usize, c: usize, tag: u32, x: u32, y
     requires { ⌜ Findable (now work) at slots c tag ⌝ }
     ensures { λ r. ⌜ foundOf r ≡ newest (now (work .entry)) tag x y c ⌝ }
 {
-    let mut cur = head(work, at, c, slot(slots, x, y));
-    while 0 < cur {
-        let n = cur - 1;
-        if hits(work, n, tag, x, y) {
-            return Found::At(n);
-        }
-        cur = wide(word(work, n, 10));
-    }
-    Found::Nothing
+    find_below(work, at, slots, c, c, tag, x, y)
 }
 
 // A keyed record, at the head of its slot.
@@ -167,9 +194,9 @@ pub fn enter(work: &mut [u32], at: usize, slots: usize, c: usize, r: Record)
             f: r.f,
             g: r.g,
             h: r.h,
-            i: r.i,
-            j: q as u32,
-            k: b as u32,
+            i: q as u32,
+            j: b as u32,
+            k: r.k,
         },
     );
     work[at + b] = c as u32;
@@ -201,4 +228,48 @@ pub fn append(work: &mut [u32], s: usize, c: usize, r: Record)
         },
     );
     set(work, s, j, (c + 1) as u32);
+}
+
+// The family that a record behind handle `h` joins: that of the record of `h` if it is the family's newest, else `c`.
+fn family(work: &[u32], c: usize, h: u32) -> usize
+    requires { ⌜ (c * 12 ≤ length (now work)) × Behind (now work) c h ⌝ }
+    ensures { λ f. ⌜ Joins (now (work .entry)) c h f ⌝ }
+{
+    if h == 0 {
+        return c;
+    }
+    let f = wide(word(work, wide(h) - 1, 1));
+    if word(work, f, 11) != h {
+        return c;
+    }
+    f
+}
+
+// A stored value behind handle `r.h`, the newest of the family that it joins or starts.
+pub fn join(work: &mut [u32], at: usize, slots: usize, c: usize, r: Record)
+    requires { ⌜ Joinable (now work) at slots c r ⌝ }
+    ensures { λ _. ⌜ Joined (now (work .entry)) (now (work .exit)) at slots c r ⌝ }
+{
+    let f = family(work, c, r.h);
+    enter(
+        work,
+        at,
+        slots,
+        c,
+        Record {
+            tag: r.tag,
+            a: f as u32,
+            b: r.b,
+            c: r.c,
+            d: r.d,
+            e: r.e,
+            f: r.f,
+            g: r.g,
+            h: r.h,
+            i: r.i,
+            j: r.j,
+            k: r.k,
+        },
+    );
+    set(work, f, 11, (c + 1) as u32);
 }

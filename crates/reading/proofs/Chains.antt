@@ -87,7 +87,7 @@ pub order-lasting : Lasting orderRec
 order-lasting = record { same = λ r w w′ f. rw (word f 1) }
 
 pub stored-lasting : Lasting storedRec
-stored-lasting = record { same = λ r w w′ f. rw (value-lasting .same r w w′ f, word f 1) }
+stored-lasting = record { same = λ r w w′ f. rw (value-lasting .same r w w′ f, word f 2) }
 
 pub root-lasting : Lasting rootRec
 root-lasting = lasting-word 2
@@ -159,10 +159,10 @@ module _ (w : List ℕ) where
   unfolding valuesAt
   values-none = scan-end (storedRec w) (λ r. kept w r 8)
 
--- ---- a record more, of a tag whose words all stay
-module _ {c : ℕ} {w w′ : List ℕ} (f : Fixed c w w′) (r : Record) (o : Holds w′ c r) (whole : stays (r .tag) ≡ 12) where
-  put : (j v : ℕ) → j < 12 → cell w′ c j ≡ v → kept w′ c j ≡ v
-  put j v l e = kept-is w′ c (r .tag) j v (o .at0) (rw whole l) e
+-- ---- a record more, of a tag whose words stay, but for the last
+module _ {c : ℕ} {w w′ : List ℕ} (f : Fixed c w w′) (r : Record) (o : Holds w′ c r) (most : 11 ≤ stays (r .tag)) where
+  put : (j v : ℕ) → j < 11 → cell w′ c j ≡ v → kept w′ c j ≡ v
+  put j v l e = kept-is w′ c (r .tag) j v (o .at0) (omega (arith, most)) e
 
   abbrev k1 : kept w′ c 1 ≡ r .a
   k1 = put 1 (r .a) (omega arith) (o .at1)
@@ -224,4 +224,4 @@ module _ {c : ℕ} {w w′ : List ℕ} (f : Fixed c w w′) (r : Record) (o : Ho
 
     pub values-new : valuesAt w′ (c + 1) ≡ storedNew w r ∷ valuesAt w (r .h)
     unfolding valuesAt
-    values-new = back-new storedRec stored-lasting f (r .h) k8 low ∙ rw (value-new, k1)
+    values-new = back-new storedRec stored-lasting f (r .h) k8 low ∙ rw (value-new, k2)

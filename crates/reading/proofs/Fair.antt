@@ -9,10 +9,10 @@ use borrow.Author.Tests.{ne-eqb, eqb-true, lt-ltb, le-ltb}
 use Rattle.ast.specs.Choice.{choose}
 use Rattle.journal.specs.Records.{tagMap, tagNode, tagId, tagField, tagInterface, tagStored, tagScope, tagRoot, tagRoute, tagAssociation, tagInstance, cell, stays, Fixed}
 use Rattle.journal.specs.Owned.{ownedBy, lastOwned}
-use Rattle.journal.proofs.Frame.{steady-tag, steady-is, stays-all, fixed-less, last-fixed}
+use Rattle.journal.proofs.Frame.{steady-tag, steady-is, stays-eleven, fixed-less, last-fixed}
 use Rattle.journal.proofs.Owned.{owned-stable}
 use Rattle.reading.specs.Reading.{below}
-use Rattle.reading.specs.Fair.{HandleAt, NodeAt, listed, valued, NodeClosed, InstanceClosed, Fair}
+use Rattle.reading.specs.Fair.{HandleAt, NodeAt, ScopeAt, MapClosed, listed, valued, NodeClosed, InstanceClosed, Fair}
 use Rattle.reading.proofs.Logs.{below-fixed}
 
 -- ---- handles
@@ -22,6 +22,9 @@ handle-none w c t = record { low = omega arith; tag = λ l. absurd (omega arith)
 -- the last record
 pub handle-new : (w : List ℕ) (c t : ℕ) → cell w c 0 ≡ t → HandleAt w (c + 1) t (c + 1)
 handle-new w c t e = record { low = omega arith; tag = λ l. let z : c + 1 - 1 ≡ c = omega arith in rw z e }
+
+pub handle-more : {w : List ℕ} {c k t h : ℕ} → c ≤ k → HandleAt w c t h → HandleAt w k t h
+handle-more le x = record { low = omega (arith, x .low); tag = x .tag }
 
 pub node-at-more : {w : List ℕ} {c k o p : ℕ} → c ≤ k → NodeAt w c o p → NodeAt w k o p
 node-at-more le x = record { some = x .some; low = omega (arith, x .low); tag = x .tag; number = x .number }
@@ -43,6 +46,19 @@ module _ {c : ℕ} {w w′ : List ℕ} (f : Fixed c w w′) where
     tag = tag-kept (p - 1) tagNode (omega (arith, x .low, x .some)) (x .tag);
     number = below-fixed tagNode f (p - 1) (omega (arith, x .low)) ∙ x .number;
   }
+
+  pub scope-at-fixed : {k k′ s p : ℕ} → k ≤ c → k ≤ k′ → ScopeAt w k s p → ScopeAt w′ k′ s p
+  scope-at-fixed {k} {k′} {s} {p} le le′ x =
+      let l : p < c = omega (arith, x .low) in
+      record { low = omega (arith, x .low); tag = tag-kept p tagScope l (x .tag); number = steady-is (f .steady p l) tagScope (x .tag) 6 (omega arith) ∙ x .number }
+
+  map-fixed : (r : ℕ) → r < c → cell w r 0 ≡ tagMap → MapClosed w r → MapClosed w′ r
+  map-fixed r l e x =
+      let k : (j : ℕ) → j < 12 → cell w′ r j ≡ cell w r j = λ j lj. steady-is (f .steady r l) tagMap e j lj in
+      record {
+        copy = rw (k 3 (omega arith), k 4 (omega arith)) (node-at-fixed (omega arith) (omega arith) (x .copy));
+        scope = rw (k 1 (omega arith), k 5 (omega arith)) (scope-at-fixed (omega arith) (omega arith) (x .scope));
+      }
 
   instance-fixed : (r : ℕ) → r < c → cell w r 0 ≡ tagInstance → InstanceClosed w r → InstanceClosed w′ r
   instance-fixed r l e x =
@@ -70,8 +86,8 @@ module _ {c : ℕ} {w w′ : List ℕ} (f : Fixed c w w′) where
 never : false ≡ true → ⊥
 never z = let k : _≡_ {A = ℕ} 0 1 = cc in omega arith
 
-pub listed-stays : (t : ℕ) → listed t ≡ true → stays t ≡ 12
-listed-stays t e = stays-all t (λ q. never (rw q at e)) (λ q. never (rw q at e)) (λ q. never (rw q at e))
+pub listed-stays : (t : ℕ) → listed t ≡ true → 11 ≤ stays t
+listed-stays t e = stays-eleven t (λ q. never (rw q at e)) (λ q. never (rw q at e)) (λ q. never (rw q at e))
 
 pub valued-listed : (t : ℕ) → valued t ≡ true → listed t ≡ true
 valued-listed t e = by (eqb t tagField) refl (eqb t tagInterface) refl e
@@ -89,7 +105,7 @@ pub unlisted-own : (t : ℕ) → tagScope ≤ t → t ≤ tagAssociation → lis
 unlisted-own t lo hi = rw (le-ltb t tagId (omega arith), lt-ltb tagStored t (omega arith), ne-eqb t tagInstance (λ e. omega arith))
 
 -- a record that is in no such list is fair
-pub fair-plain : (w : List ℕ) (c r : ℕ) → listed (cell w r 0) ≡ false → (cell w r 0 ≡ tagMap → NodeAt w r (cell w r 3) (cell w r 4)) → (cell w r 0 ≡ tagNode → NodeClosed w c r × (cell w r 1 < below w tagScope r)) → Fair w c r
+pub fair-plain : (w : List ℕ) (c r : ℕ) → listed (cell w r 0) ≡ false → (cell w r 0 ≡ tagMap → MapClosed w r) → (cell w r 0 ≡ tagNode → NodeClosed w c r × (cell w r 1 < below w tagScope r)) → Fair w c r
 fair-plain w c r e m n = record {
   mapped = m;
   node = λ z. n z .0;
@@ -102,7 +118,7 @@ fair-plain w c r e m n = record {
 -- a record below stays fair; what a node has is shown apart
 pub fair-fixed : {c : ℕ} {w w′ : List ℕ} → Fixed c w w′ → (k r : ℕ) → r < c → (cell w r 0 ≡ tagNode → NodeClosed w′ k r) → Fair w c r → Fair w′ k r
 fair-fixed {c} {w} {w′} f k r l cl x = record {
-  mapped = λ e. let z : cell w r 0 ≡ tagMap = tag-was f r tagMap l e in rw (keep tagMap z 3 (omega arith), keep tagMap z 4 (omega arith)) (node-at-fixed f (omega arith) (omega arith) (x .mapped z));
+  mapped = λ e. let z : cell w r 0 ≡ tagMap = tag-was f r tagMap l e in map-fixed f r l z (x .mapped z);
   node = λ e. cl (tag-was f r tagNode l e);
   scoped = λ e. let z : cell w r 0 ≡ tagNode = tag-was f r tagNode l e in rw (keep tagNode z 1 (omega arith), below-fixed tagScope f r (omega arith)) (x .scoped z);
   instance = λ e. let z : cell w r 0 ≡ tagInstance = tag-was f r tagInstance l e in instance-fixed f r l z (x .instance z);
@@ -118,5 +134,5 @@ fair-fixed {c} {w} {w′} f k r l cl x = record {
     keep : (t : ℕ) → cell w r 0 ≡ t → (j : ℕ) → j < stays t → cell w′ r j ≡ cell w r j
     keep t e j lj = steady-is (f .steady r l) t e j lj
 
-    whole : listed (cell w r 0) ≡ true → (j : ℕ) → j < 12 → cell w′ r j ≡ cell w r j
-    whole e j lj = f .steady r l .keeps j (rw (listed-stays (cell w r 0) e) lj)
+    whole : listed (cell w r 0) ≡ true → (j : ℕ) → j < 11 → cell w′ r j ≡ cell w r j
+    whole e j lj = f .steady r l .keeps j (omega (arith, listed-stays (cell w r 0) e))

@@ -12,10 +12,12 @@ use Rattle.journal.specs.declared.Record.{Record}
 use Rattle.journal.specs.Records.{tagNode, tagRoot, tagRoute, tagAssociation, tagInstance, cell, Same, Fixed, SetWord}
 use Rattle.journal.specs.Logs.{only}
 use Rattle.journal.specs.Owned.{tagged, ownedBy, Appended}
+use Rattle.journal.specs.Families.{Joined}
 use Rattle.journal.proofs.Cells.{set-cell}
 use Rattle.journal.proofs.Frame.{steady-tag, same-fixed, set-fixed}
 use Rattle.journal.proofs.Lists.{up-same, up-span, up-one, only-here, only-other, up-count, up-patch, scan-end}
 use Rattle.journal.proofs.Owned.{tagged-here, tagged-other, tagged-is, tagged-stable, owned-is, owned-stable, append-fixed}
+use Rattle.journal.proofs.Families.{join-fixed}
 use Rattle.reading.specs.Reading.{kept, rootRec, routeRec, associationRec, instanceRec, merged, instancesAt, nodeBy, nodeRec, nodesOf, below}
 use Rattle.reading.specs.Fair.{HandleAt, NodeClosed, AllFair}
 use Rattle.reading.specs.Calm.{EndsKept, NodeKept, Calm, Unrecorded}
@@ -150,6 +152,14 @@ calm-append {w} {w′} {s} {c} {r} a = record {
   where
     apart : (n t : ℕ) → (t ≡ 10 → ⊥) → cell w n 0 ≡ t → n ≡ s → ⊥
     apart n t ne e z = ne (sym e ∙ rw z (a .scope))
+
+-- a stored record, and the newest of its family
+pub calm-join : {w w′ : List ℕ} {at slots c : ℕ} {r : Record} → Joined w w′ at slots c r → Calm c w w′
+calm-join {w} a = record {
+  fixed = join-fixed a;
+  ends = record { from = λ n q l lq e t o. a .other n 10 (omega arith) (omega arith) (λ z y. omega arith); to = λ n q l lq e t o. a .other n 11 (omega arith) (omega arith) (λ z y. omega arith) };
+  nodes = λ n l e. record { keeps = λ j x b. a .other n j l b (λ z y. omega arith) };
+}
 
 -- a remapped end of a route of such a scope
 pub calm-end : {c : ℕ} {w w′ : List ℕ} {n j v : ℕ} → SetWord w w′ n j v → 10 ≤ j → j < 12 → cell w n 0 ≡ tagRoute → Unrecorded w c (cell w n 1) → Calm c w w′

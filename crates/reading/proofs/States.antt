@@ -30,7 +30,7 @@ module _ {r : ℕ} {w w′ : List ℕ} (f : Fixed (suc r) w w′) where
   word j = kept-fixed f r j (omega arith)
 
 pub entry-lasting : Lasting entryRec
-entry-lasting = record { same = λ r w w′ f. rw (word f 1, word f 2, word f 3) }
+entry-lasting = record { same = λ r w w′ f. rw (word f 5, word f 2, word f 3) }
 
 pub ledger-lasting : Lasting ledgerRec
 ledger-lasting = record { same = λ r w w′ f. rw (word f 1, word f 2) }
@@ -165,13 +165,13 @@ module _ (root library : List ℕ) {c : ℕ} {w w′ : List ℕ} (q : Calm c w w
 
     -- a map entry
     module _ (e : r .tag ≡ tagMap) where
-      map-new : mapOf w′ (c + 1) ≡ record { scope = r .a; id = r .b; out = r .c } ∷ mapOf w c
+      map-new : mapOf w′ (c + 1) ≡ record { scope = r .e; id = r .b; out = r .c } ∷ mapOf w c
       unfolding mapOf
       map-new =
           down-new (λ u. tagged u tagMap) (tagged-stable tagMap) entryRec entry-lasting (q .fixed) (tagged-here w′ tagMap c (o .at0 ∙ e))
-          ∙ rw (put 1 (r .a) (rw e (omega arith)) (o .at1), put 2 (r .b) (rw e (omega arith)) (o .at2), put 3 (r .c) (rw e (omega arith)) (o .at3))
+          ∙ rw (put 5 (r .e) (rw e (omega arith)) (o .at5), put 2 (r .b) (rw e (omega arith)) (o .at2), put 3 (r .c) (rw e (omega arith)) (o .at3))
 
-      pub state-map : stateOf root library w′ (c + 1) ≡ addEntry (r .a) (r .b) (r .c) (oneMore before)
+      pub state-map : stateOf root library w′ (c + 1) ≡ addEntry (r .e) (r .b) (r .c) (oneMore before)
       state-map =
           rw (
             map-new,

@@ -22,6 +22,17 @@ pub record NodeAt (w : List ℕ) (c o place : ℕ) : Type 0 where
   pub tag : cell w (place - 1) 0 ≡ tagNode
   pub number : below w tagNode (place - 1) ≡ o
 
+-- place is the record of the scope of number s
+pub record ScopeAt (w : List ℕ) (c s place : ℕ) : Type 0 where
+  pub low : place < c
+  pub tag : cell w place 0 ≡ tagScope
+  pub number : cell w place 6 ≡ s
+
+-- a map entry: its copy, and its scope, by place and by number
+pub record MapClosed (w : List ℕ) (r : ℕ) : Type 0 where
+  pub copy : NodeAt w r (cell w r 3) (cell w r 4)
+  pub scope : ScopeAt w r (cell w r 5) (cell w r 1)
+
 -- the tags of the records of lists that nodes, values and instances have: word 8 is the one before
 abbrev pub listed : ℕ → Bool
 listed t = choose (ltb t tagId) false (choose (ltb tagStored t) (eqb t tagInstance) true)
@@ -46,7 +57,7 @@ pub record InstanceClosed (w : List ℕ) (r : ℕ) : Type 0 where
   pub isMap : cell w r 5 ≡ lastOwned w tagAssociation (cell w r 1) r
 
 pub record Fair (w : List ℕ) (c r : ℕ) : Type 0 where
-  pub mapped : cell w r 0 ≡ tagMap → NodeAt w r (cell w r 3) (cell w r 4)
+  pub mapped : cell w r 0 ≡ tagMap → MapClosed w r
   pub node : cell w r 0 ≡ tagNode → NodeClosed w c r
   pub scoped : cell w r 0 ≡ tagNode → cell w r 1 < below w tagScope r
   pub instance : cell w r 0 ≡ tagInstance → InstanceClosed w r

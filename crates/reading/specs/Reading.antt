@@ -110,10 +110,10 @@ orderAt w h = chain (orderRec w) w h h
 -- ---- the values of an instance's interfaces, newest first: name, value
 
 abbrev pub storedRec : List ℕ → ℕ → ℕ × FieldValue
-storedRec w r = (kept w r 1, valueRec w r)
+storedRec w r = (kept w r 2, valueRec w r)
 
 abbrev pub storedNew : List ℕ → Record → ℕ × FieldValue
-storedNew w r = (r .a, valueNew w r)
+storedNew w r = (r .b, valueNew w r)
 
 unfoldable pub valuesAt : List ℕ → ℕ → Values
 valuesAt w h = back (storedRec w) w h h
@@ -212,7 +212,7 @@ externRec root library w r = externBy root library (kept w r 1) (kept w r 4)
 -- ---- the state that the first c records stand for
 
 abbrev pub entryRec : List ℕ → ℕ → Entry
-entryRec w r = record { scope = kept w r 1; id = kept w r 2; out = kept w r 3 }
+entryRec w r = record { scope = kept w r 5; id = kept w r 2; out = kept w r 3 }
 
 abbrev pub ledgerRec : List ℕ → ℕ → ℕ × ℕ
 ledgerRec w r = (kept w r 1, kept w r 2)
