@@ -45,7 +45,7 @@ module _ (w : List ℕ) (c name bound target inferred ty class payload h : ℕ) 
   unfolding somes
   field-kept t e y z w′ t′ v k = record {
     handle = rw (k .counts, k .handle) (handle-new w′ (t .charges) tagField (k .pushed .holds .at0));
-    list = rw (k .handle) (fields-new (same-fixed (k .pushed .same)) (fieldRecord name bound target inferred ty class payload h) (k .pushed .holds) refl (omega (arith, hd .low)) (λ q. omega (arith, load q .low)) ∙ rw z);
+    list = rw (k .handle) (fields-new (same-fixed (k .pushed .same)) (fieldRecord name bound target inferred ty class payload h) (k .pushed .holds) (omega arith) (omega (arith, hd .low)) (λ q. omega (arith, load q .low)) ∙ rw z);
   }
 
 -- behind the fields of a moment before

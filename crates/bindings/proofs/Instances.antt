@@ -23,6 +23,7 @@ use Rattle.journal.proofs.Lists.{up-get, up-count, up-same, only-here, scan-pus
 use Rattle.journal.proofs.Index.{index-push}
 use Rattle.journal.proofs.Keys.{unkeyed}
 use Rattle.journal.proofs.Owned.{tagged-here, owned-push, owned-is, owned-stable}
+use Rattle.journal.proofs.Families.{families-one}
 use Rattle.reading.specs.Reading.{kept, below, rootRec, bodyRouteRec, routeRec, associationRec, Instanced, instanceRec, merged, mergedRoots, mergedRoutes, instancesAt, nodeBy, nodeRec, nodesOf, mapOf, isMapOf, bodyOf}
 use Rattle.reading.specs.Fair.{HandleAt, NodeAt, NodeClosed, InstanceClosed, Fair}
 use Rattle.reading.proofs.Words.{kept-is, kept-fixed}
@@ -157,8 +158,9 @@ module _ (L : Limits) (w : List ℕ) (t : Counts) (e : code.Env) (name def out p
       (count-other (calm2 .fixed) rec (pu .holds) tagScope (so1 .scopes) (silent .scope))
       (count-other (calm2 .fixed) rec (pu .holds) tagExtern (so1 .externs) (silent .extern))
       (alone c (Fair w2 (c + 1)) fair2)
-      (index-push pu (omega arith) (unkeyed tagInstance (silent .map) (silent .extern)) (so1 .index))
+      (index-push pu (omega arith) (unkeyed tagInstance (silent .map) (silent .extern) (λ z. omega arith)) (so1 .index))
       (owned-push pu (λ a b. omega arith) (so1 .owned))
+      (families-one (pu .same) (λ z. omega (arith, pu .holds .at0)) (so1 .families))
 
   later2 : (young : ℕ) → young ≤ e .scope → Later L young w1 t w2 t2
   later2 young le =

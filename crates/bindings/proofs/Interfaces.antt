@@ -40,7 +40,7 @@ module _ (w : List ℕ) (c : ℕ) (r : Row) (target ty class payload h : ℕ) (h
   pub interface-kept : (t : Counts) → t .charges ≡ c → (y : InterfaceDecl) → interfaceNew w (interfaceRecord r target ty class payload h) ≡ y → (w′ : List ℕ) (t′ : Counts) (v : ℕ) → KeptAt w t (interfaceRecord r target ty class payload h) w′ t′ v → InterfacesAfter w h y w′ t′ v
   interface-kept t e y z w′ t′ v k = record {
     handle = rw (k .counts, k .handle) (handle-new w′ (t .charges) tagInterface (k .pushed .holds .at0));
-    list = rw (k .handle) (interfaces-new (same-fixed (k .pushed .same)) (interfaceRecord r target ty class payload h) (k .pushed .holds) refl (omega (arith, hd .low)) (λ q. omega (arith, load q .low)) ∙ rw z);
+    list = rw (k .handle) (interfaces-new (same-fixed (k .pushed .same)) (interfaceRecord r target ty class payload h) (k .pushed .holds) (omega arith) (omega (arith, hd .low)) (λ q. omega (arith, load q .low)) ∙ rw z);
   }
 
 -- behind the interfaces of a moment before

@@ -16,6 +16,7 @@ use Rattle.journal.proofs.Frame.{set-fixed}
 use Rattle.journal.proofs.Lists.{last-low, last-is}
 use Rattle.journal.proofs.Index.{index-set}
 use Rattle.journal.proofs.Owned.{owned-here, owned-is, owned-set}
+use Rattle.journal.proofs.Families.{families-set}
 use Rattle.reading.specs.Reading.{mapOf}
 use Rattle.reading.proofs.Fair.{fair-fixed, closed-fixed}
 use Rattle.reading.proofs.Logs.{below-fixed}
@@ -64,6 +65,7 @@ module _ {L : Limits} {w w′ : List ℕ} {t : Counts} {r j v : ℕ} (st : Stand
       fair = record { each = λ n ln. fair-fixed (set-fixed (t .charges) s hi (rw e lo)) (t .charges) n ln (λ z. closed-fixed (set-fixed (t .charges) s hi (rw e lo)) n (omega arith) (λ i a b. set-cell w w′ r j v hi s n i b (λ q y. let k : cell w r 0 ≡ tagNode = rw q at z in omega arith)) (so .fair .each n ln .node z)) (so .fair .each n ln) };
       index = index-set s hi (rw e lo) (omega (arith, so .charges)) (so .index);
       owned = owned-set s hi (rw e lo) (λ z. omega arith) (so .owned);
+      families = families-set s hi (rw e lo) (λ z. omega arith) (so .families);
     };
   }
 

@@ -10,13 +10,10 @@ use Rattle.expansion.specs.State.{Comp, bindR, _>>=_, ret}
 use Rattle.expansion.specs.Values.{Values, valueOf, clone}
 use Rattle.expansion.specs.PlainCopy.{isValue}
 use Rattle.expansion.specs.Instances.{cloneOption, store}
-use Rattle.journal.specs.declared.Record.{Record}
 use Rattle.journal.specs.Records.{tagStored}
-use Rattle.journal.proofs.Frame.{same-fixed}
 use Rattle.reading.specs.Reading.{valueAt, valuesAt}
 use Rattle.reading.specs.Fair.{HandleAt}
-use Rattle.reading.proofs.Chains.{values-fixed, values-new}
-use Rattle.reading.proofs.Fair.{handle-new}
+use Rattle.reading.proofs.Chains.{values-fixed}
 use Rattle.refine.specs.declared.Limits.{Limits}
 use Rattle.refine.specs.declared.Counts.{Counts}
 use Rattle.refine.specs.declared.Env as code
@@ -24,7 +21,7 @@ use Rattle.refine.specs.declared.Answer.{Answer}
 use Rattle.refine.specs.declared.Answer.the-variants.{Done, Refused}
 use Rattle.refine.specs.Sound.{Source, inputOf, Standing, Later, envOf}
 use Rattle.refine.specs.Does.{at, Doing}
-use Rattle.refine.specs.Contract.{Keepable, KeptAt, Kept}
+use Rattle.refine.specs.Contract.{Storable, StoredAt, Storing}
 use Rattle.refine.proofs.Later.{later-standing, later-handle}
 use Rattle.refine.proofs.Calculus.{start, turn, finish, step, stop, inner}
 use Rattle.bindings.specs.declared.Given.{Given}
@@ -35,10 +32,6 @@ use Rattle.bindings.proofs.Steps.{anySource, done-later, if-map, pays, 
 joined : (target : ℕ) (o : Option Values) → andThen o (valueOf target) ≡ andThen (mapO (valueOf target) o) (λ y. y)
 joined target none = refl
 joined target (some vs) = refl
-
-abbrev pub storedRecord : ℕ → ℕ → ℕ → ℕ → ℕ → Record
-storedRecord name ty class payload h =
-    record { tag = tagStored; a = name; b = 0; c = 0; d = 0; e = ty; f = class; g = payload; h = h; i = 0; j = 0; k = 0 }
 
 module _ (L : Limits) (w : List ℕ) (t : Counts) (e : code.Env) (target name h : ℕ) (st : Standing L w t) (hd : HandleAt w (t .charges) tagStored h) {w2 : List ℕ} {g : Given} (gv : Giving L w t e target w2 g) where
   abbrev put : Source → Option FieldValue → Comp Values
@@ -80,10 +73,10 @@ module _ (L : Limits) (w : List ℕ) (t : Counts) (e : code.Env) (target name h 
     l2 : Later L 0 w t w2 s2
     l2 = done-later (gw .cloning .does anySource 0) refl
 
-    pub stored-keepable : Standing L w2 s2 × Keepable w2 (s2 .charges) (storedRecord name ty class payload h)
-    stored-keepable = (later-standing l2 st, record { least = omega arith; most = omega arith; before = later-handle l2 hd; value = λ z. gw .ids })
+    pub storable : Standing L w2 s2 × Storable w2 (s2 .charges) class payload h
+    storable = (later-standing l2 st, record { before = later-handle l2 hd; value = gw .ids })
 
-    pub given-stored : {w3 : List ℕ} {b : Answer} → Kept L w2 s2 (storedRecord name ty class payload h) w3 b → GivenDone L w t e target name h w3 b
+    pub given-stored : {w3 : List ℕ} {b : Answer} → Storing L w2 s2 name ty class payload h w3 b → GivenDone L w t e target name h w3 b
     unfolding cloneOption store bindR
     given-stored {w3} {b} k = record {
       does = λ S young.
@@ -91,16 +84,9 @@ module _ (L : Limits) (w : List ℕ) (t : Counts) (e : code.Env) (target name h 
           (paid-there ((name, valueAt w ty class payload) ∷ valuesAt w h)
           (step (λ v′. put S (some v′)) (inner (clone (inputOf S L) (valueAt w ty class payload)) (λ v′. ret (some v′)) (put S) (next S young (some (some (valueAt w ty class payload))) (gw .cloning .value))) (gw .cloning .does S young) refl))
           (k .does S young)
-          (if-map (λ t′ v p. KeptAt w2 s2 (storedRecord name ty class payload h) w3 t′ v) (λ t′ v p. (name, valueAt w ty class payload) ∷ valuesAt w h ≡ valuesAt w3 v) (λ t′ v p x. list t′ v x) b (k .done));
-      done = if-map (λ t′ v p. KeptAt w2 s2 (storedRecord name ty class payload h) w3 t′ v) (λ t′ v p. HandleAt w3 (t′ .charges) tagStored v) (λ t′ v p x. rw (x .counts, x .handle) (handle-new w3 (s2 .charges) tagStored (x .pushed .holds .at0))) b (k .done);
+          (if-map (λ t′ v p. StoredAt w2 name ty class payload h w3 t′ v) (λ t′ v p. (name, valueAt w ty class payload) ∷ valuesAt w h ≡ valuesAt w3 v) (λ t′ v p x. sym (x .list ∙ rw (gw .same, values-fixed (l2 .kept) h (hd .low)))) b (k .done));
+      done = if-map (λ t′ v p. StoredAt w2 name ty class payload h w3 t′ v) (λ t′ v p. HandleAt w3 (t′ .charges) tagStored v) (λ t′ v p x. x .handle) b (k .done);
     }
-      where
-        list : (t′ : Counts) (v : ℕ) → KeptAt w2 s2 (storedRecord name ty class payload h) w3 t′ v → (name, valueAt w ty class payload) ∷ valuesAt w h ≡ valuesAt w3 v
-        list t′ v x =
-            rw (x .handle)
-            (sym
-            (values-new (same-fixed (x .pushed .same)) (storedRecord name ty class payload h) (x .pushed .holds) refl (omega (arith, l2 .grew, hd .low)) (λ q. gw .ids q .low)
-            ∙ rw (gw .same, values-fixed (l2 .kept) h (hd .low))))
 
   pub given-full : {n i j : ℕ} → g ≡ Given.Refused n i j → GivenDone L w t e target name h w2 (Refused n i j)
   unfolding cloneOption

@@ -18,7 +18,7 @@ use Rattle.journal.specs.declared.Found.the-variants.{At, Nothing}
 use Rattle.journal.specs.Records.{tagId, tagStored, cell}
 use Rattle.journal.proofs.Lists.{scan-low}
 use Rattle.reading.specs.Reading.{kept, idsIn, idsAt, valueAt, valueRec}
-use Rattle.reading.specs.Fair.{HandleAt, Fair, Walkable}
+use Rattle.reading.specs.Fair.{HandleAt, Fair}
 use Rattle.reading.proofs.Words.{kept-is}
 use Rattle.reading.proofs.Chains.{value-fixed}
 use Rattle.reading.proofs.Fair.{handle-fixed}
@@ -76,14 +76,6 @@ module _ (L : Limits) (w : List ℕ) (t : Counts) (e : code.Env) (target : ℕ) 
   outside n = record { words = refl; value = rw (not-true (e .body) n) }
 
   module _ (st : Standing L w t) (env : EnvAt w (t .charges) e) where
-    -- the stored values may be walked
-    pub walkable : Walkable w tagStored (e .values)
-    walkable = record {
-      room = omega (arith, env .values .low, env .place, st .sound .charges, st .ready .room);
-      tag = env .values .tag;
-      linked = λ r l q. rw q at (st .sound .fair .each r (omega (arith, env .values .low, env .place)) .linked (rw q));
-    }
-
     module _ (left : not (e .body) ≡ false) (f : Found) (v : Valued w (e .values) target f) where
       body : e .body ≡ true
       body = not-false (e .body) left

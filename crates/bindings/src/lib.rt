@@ -95,7 +95,7 @@ fn target_value(work: &mut [u32], lim: Limits, st: Counts, env: Env, target: u32
     if !env.body {
         return Given::Outside;
     }
-    let Found::At(v) = refine::value_of(work, env.values, target) else {
+    let Found::At(v) = refine::value_of(work, lim, st, env.values, target) else {
         return Given::Without;
     };
     let ty = journal::word(work, v, 5);
@@ -323,25 +323,7 @@ pub fn is_given(
             ty,
             class,
             payload,
-        } => refine::keep(
-            work,
-            lim,
-            t,
-            Record {
-                tag: 9,
-                a: name,
-                b: 0,
-                c: 0,
-                d: 0,
-                e: ty,
-                f: class,
-                g: payload,
-                h,
-                i: 0,
-                j: 0,
-                k: 0,
-            },
-        ),
+        } => refine::store(work, lim, t, name, ty, class, payload, h),
         Given::Refused {
             number,
             first,
@@ -360,12 +342,11 @@ fn remap_routes(work: &mut [u32], lim: Limits, st: Counts, env: Env)
     requires { ⌜ Remappable (now work) (st .charges) env ⌝ }
     ensures { λ _. ⌜ Remapped lim (now (work .entry)) st (env .scope) (now (work .exit)) ⌝ }
 {
-    let scope = env.scope;
     let mut cur = wide(journal::word(work, env.place, 10));
     while 0 < cur {
         let r = cur - 1;
-        let from = refine::remap(work, lim, st, scope, journal::word(work, r, 6));
-        let to = refine::remap(work, lim, st, scope, journal::word(work, r, 7));
+        let from = refine::remap(work, lim, st, env, journal::word(work, r, 6));
+        let to = refine::remap(work, lim, st, env, journal::word(work, r, 7));
         journal::set(work, r, 10, from);
         journal::set(work, r, 11, to);
         cur = wide(journal::word(work, r, 8));

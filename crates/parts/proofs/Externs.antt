@@ -34,6 +34,7 @@ use Rattle.journal.specs.Index.{newest, foundOf, Entered, linked}
 use Rattle.journal.specs.Owned.{tagged}
 use Rattle.journal.proofs.Lists.{count-low}
 use Rattle.journal.proofs.Owned.{owned-enter}
+use Rattle.journal.proofs.Families.{families-one}
 use Rattle.reading.specs.Reading.{externMapOf, externsOf}
 use Rattle.reading.specs.Fair.{Fair}
 use Rattle.reading.proofs.Lookups.{extern-lookup}
@@ -115,6 +116,7 @@ module _ (L : Limits) {w w′ : List ℕ} {t : Counts} (so : Sound L w t) (r : R
       (alone (t .charges) (Fair w′ (t .charges + 1)) new-fair)
       (p .index)
       (owned-enter p (rw is) (so .owned))
+      (families-one (p .same) (λ e. omega (arith, p .holds .at0, is)) (so .families))
 
   entered-later : (young : ℕ) → Later L young w t w′ one
   entered-later young =

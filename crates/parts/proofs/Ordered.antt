@@ -24,11 +24,11 @@ use Rattle.expansion.specs.PlainCopy.{keptOrder}
 use Rattle.journal.specs.declared.Record.{Record}
 use Rattle.journal.specs.declared.Found.{Found}
 use Rattle.journal.specs.declared.Found.the-variants.{At, Nothing}
-use Rattle.journal.specs.Records.{tagStored, tagOrder, cell, Pushed}
+use Rattle.journal.specs.Records.{tagOrder, cell, Pushed}
 use Rattle.journal.specs.Index.{foundOf}
 use Rattle.journal.proofs.Frame.{same-fixed}
 use Rattle.reading.specs.Reading.{valuesAt, valueRec, orderAt, orderNew}
-use Rattle.reading.specs.Fair.{HandleAt, Walkable}
+use Rattle.reading.specs.Fair.{HandleAt}
 use Rattle.reading.proofs.Fair.{handle-none, handle-new}
 use Rattle.reading.proofs.Chains.{order-none, order-new}
 use Rattle.source.specs.Directory.{numberOf}
@@ -44,17 +44,10 @@ use Rattle.refine.proofs.Later.{later-standing, later-env, env-later}
 use Rattle.refine.proofs.Calculus.{start, turn, finish, step, stop, inner}
 use Rattle.parts.specs.declared.Taken.{Taken}
 use Rattle.parts.specs.Contract.{rowsOf, nodeIn, isSome, keptStatement, keptTarget, keptBinding, keptField, fieldKept, Took, Takes, Ordering}
-use Rattle.source.proofs.NameLaws.{fields-at, fields-none}
+use Rattle.names.proofs.NameLaws.{fields-at, fields-none}
 use Rattle.parts.proofs.Said.{statements-at, statements-end}
 
 -- ---- a field that is kept
-pub stored-walk : {L : Limits} {w : List ℕ} {t : Counts} {e : code.Env} → Standing L w t → EnvAt w (t .charges) e → Walkable w tagStored (e .values)
-stored-walk {L} {w} {t} {e} st x = record {
-  room = omega (arith, x .values .low, x .place, st .ready .room, st .sound .charges);
-  tag = x .values .tag;
-  linked = λ r l q. rw q at (st .sound .fair .each r (omega (arith, x .values .low, x .place)) .linked (rw q));
-}
-
 off : (b : Bool) → not b ≡ true → b ≡ false
 off true e = sym e
 off false e = refl
@@ -321,7 +314,7 @@ module _ (L : Limits) (root library dir w₀ : List ℕ) (t₀ : Counts) (e : co
         order-more {t′} {v} {p} u =
             let z : KeptAt w t (orderRecord (r .a) h) w′ t′ v = rw u at (kp .done) in
             let la : Later L 0 w t w′ t′ = rw u at (kp .does (record { root = []; library = []; depth = 0 }) 0 .later) in
-            let list : orderAt w′ v ≡ orderAt w h ++ (m ∷ []) = rw (z .handle) (order-new (same-fixed (z .pushed .same)) (orderRecord (r .a) h) (z .pushed .holds) refl (x .handle .low)) in
+            let list : orderAt w′ v ≡ orderAt w h ++ (m ∷ []) = rw (z .handle) (order-new (same-fixed (z .pushed .same)) (orderRecord (r .a) h) (z .pushed .holds) (omega arith) (x .handle .low)) in
             record {
               left = λ S young fs ss ef es.
                   let k = took S young fs ss ef es in

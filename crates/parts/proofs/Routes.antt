@@ -65,7 +65,7 @@ module _ (w w′ : List ℕ) (t : Counts) (r : Record) (is : r .tag ≡ tagState
       let z : c + 1 - 1 ≡ c = omega arith in
       record {
         handle = rw e (handle-new w′ c tagStatement (p .holds .at0 ∙ is));
-        list = rw z (statements-new (same-fixed (p .same)) r (p .holds) (rw is) (h .low) ∙ rw stated-new);
+        list = rw z (statements-new (same-fixed (p .same)) r (p .holds) (rw is (omega arith)) (h .low) ∙ rw stated-new);
       }
 
 -- ---- a Route

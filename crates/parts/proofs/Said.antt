@@ -33,10 +33,10 @@ use Rattle.refine.specs.declared.Counts.{Counts}
 use Rattle.refine.specs.declared.Env as code
 use Rattle.refine.specs.declared.Answer.{Answer}
 use Rattle.refine.specs.declared.Answer.the-variants.{Done, Refused}
-use Rattle.refine.specs.Sound.{Source, inputOf, Sound, Standing, Later}
+use Rattle.refine.specs.Sound.{Source, inputOf, Sound, Standing, Later, EnvAt}
 use Rattle.refine.specs.Does.{Decode, nothing, number, at, IfDone, Does, Doing}
 use Rattle.refine.specs.Contract.{Keepable, Kept}
-use Rattle.refine.proofs.Later.{later-refl, later-trans, later-standing, later-handle}
+use Rattle.refine.proofs.Later.{later-refl, later-trans, later-standing, later-handle, later-env}
 use Rattle.refine.proofs.Calculus.{start, turn, finish, step, stop, each, each-end, last, paying}
 use Rattle.parts.specs.Contract.{sourceOf, Lent, rowsOf, nodeIn, Declared, statementAt, Stated, Routed, ExternStated, isSome, keptStatement, OneKept, OneStating, StatementsKept, Stating}
 use Rattle.parts.proofs.Lending.{lent-later}
@@ -51,7 +51,7 @@ pub map-append : {A B : Type 0} (f : A → B) (xs ys : List A) → map f (xs ++ 
 map-append f [] ys = refl
 map-append f (x ∷ xs) ys = ap (λ (l : List _). f x ∷ l) (map-append f xs ys)
 
-somes-more : {A : Type 0} (xs ys : List (Option A)) → somes (xs ++ ys) ≡ somes xs ++ somes ys
+pub somes-more : {A : Type 0} (xs ys : List (Option A)) → somes (xs ++ ys) ≡ somes xs ++ somes ys
 unfolding somes
 somes-more [] ys = refl
 somes-more (none ∷ xs) ys = somes-more xs ys
@@ -62,7 +62,7 @@ unfolding bindR
 regrouped xs x (refusal n i j) = refl
 regrouped xs x (ok l st) = rw (append-assoc xs (x ∷ []) l)
 
-said-same : (l : List Row) → statementOf l ≡ statementOf (front l ∷ [])
+pub said-same : (l : List Row) → statementOf l ≡ statementOf (front l ∷ [])
 unfolding statementOf routeOf
 said-same l = refl
 
@@ -205,18 +205,20 @@ module _ (L : Limits) (root library dir w₀ : List ℕ) (t₀ : Counts) (e : co
     pub doing : (D young : ℕ) (E : Env) → E .scope ≡ e .scope → src E ≡ numberOf dir (e .slot)
         → Doing (sourceOf root library D) L young (mapM (copy D E) source) w₀ t₀ (mapM (copy D E) (statementsOf (drop place R)) >>= (λ l. ret (before ++ l))) w t
     pub standing : Standing L w t
+    pub env : EnvAt w (t .charges) e
     pub lent : Lent L root library dir w
     pub handle : HandleAt w (t .charges) tagStatement h
     pub list : statementsAt w h ≡ somes before
     pub kept : map isSome before ++ map keptStatement (statementsOf (drop place R)) ≡ map keptStatement source
     pub long : length w ≡ length w₀
 
-  pub said-start : Standing L w₀ t₀ → Lent L root library dir w₀ → SaidSoFar w₀ t₀ 0 (row + 1)
+  pub said-start : Standing L w₀ t₀ → EnvAt w₀ (t₀ .charges) e → Lent L root library dir w₀ → SaidSoFar w₀ t₀ 0 (row + 1)
   unfolding somes
-  said-start st le = record {
+  said-start st env le = record {
     before = [];
     doing = λ D young E es ed. rw (← from-row) (last (start (sourceOf root library D) young (mapM (copy D E) source) (st .sound)));
     standing = st;
+    env = env;
     lent = le;
     handle = handle-none w₀ (t₀ .charges) tagStatement;
     list = statements-none w₀;
@@ -258,6 +260,7 @@ module _ (L : Limits) (root library dir w₀ : List ℕ) (t₀ : Counts) (e : co
                 (mapM (copy D E) (statementsOf (drop (q + 1) R)) >>= (λ l. ret ((x .before ++ (o .out ∷ [])) ++ l)))
                 (regroup (mapM (copy D E) (statementsOf (drop (q + 1) R)) (at (sourceOf root library D) w′ t′)));
             standing = later-standing la (x .standing);
+            env = later-env la (x .env);
             lent = lent-later la (x .lent);
             handle = k .handle;
             list = k .list ∙ rw (x .list) (sym (somes-more (x .before) (o .out ∷ [])));

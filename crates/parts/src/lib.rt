@@ -93,7 +93,7 @@ pub fn extern_proto<'a>(
     if lim.rows - c <= n {
         return refine::too_many();
     }
-    let out = st.externs;
+    let out = st.externs as u32;
     journal::enter(
         work,
         lim.rows * 12,
@@ -118,7 +118,7 @@ pub fn extern_proto<'a>(
     let t = Counts {
         nodes: st.nodes,
         scopes: st.scopes,
-        externs: out + 1,
+        externs: st.externs + 1,
         charges: c + 1 + n,
     };
     Answer::Done {
@@ -129,13 +129,14 @@ pub fn extern_proto<'a>(
 }
 
 // The Route statement of a row, its ends remapped, behind those of a handle.
-pub fn route(work: &mut [u32], lim: Limits, st: Counts, scope: u32, r: Row, h: u32) -> Answer
+pub fn route(work: &mut [u32], lim: Limits, st: Counts, env: Env, r: Row, h: u32) -> Answer
     requires { ⌜ Standing lim (now work) st ⌝ }
+    requires { ⌜ EnvAt (now work) (st .charges) env ⌝ }
     requires { ⌜ HandleAt (now work) (st .charges) tagStatement h ⌝ }
-    ensures { λ a. ⌜ Routed lim (now (work .entry)) st scope r h (now (work .exit)) a ⌝ }
+    ensures { λ a. ⌜ Routed lim (now (work .entry)) st (env .scope) r h (now (work .exit)) a ⌝ }
 {
-    let from = refine::remap(work, lim, st, scope, r.f);
-    let to = refine::remap(work, lim, st, scope, r.g);
+    let from = refine::remap(work, lim, st, env, r.f);
+    let to = refine::remap(work, lim, st, env, r.g);
     refine::keep(
         work,
         lim,
@@ -218,13 +219,14 @@ fn statement<'a>(
     h: u32,
 ) -> Answer
     requires { ⌜ Standing lim (now work) st ⌝ }
+    requires { ⌜ EnvAt (now work) (st .charges) env ⌝ }
     requires { ⌜ Lent lim (now root) (now library) (now dir) (now work) ⌝ }
     requires { ⌜ Slot (now dir) (env .slot) ⌝ }
     requires { ⌜ HandleAt (now work) (st .charges) tagStatement h ⌝ }
     ensures { λ a. ⌜ OneStating lim (now (root .entry)) (now (library .entry)) (now (dir .entry)) (now (work .entry)) st env r h (now (work .exit)) a ⌝ }
 {
     if r.a == 3 {
-        return route(work, lim, st, env.scope, r, h);
+        return route(work, lim, st, env, r, h);
     }
     if r.a == 2 {
         return extern_statement(root, library, dir, work, lim, st, env.slot, r.b, h);
@@ -248,6 +250,7 @@ pub fn statements<'a>(
     row: usize,
 ) -> Answer
     requires { ⌜ Standing lim (now work) st ⌝ }
+    requires { ⌜ EnvAt (now work) (st .charges) env ⌝ }
     requires { ⌜ Lent lim (now root) (now library) (now dir) (now work) ⌝ }
     requires { ⌜ Slot (now dir) (env .slot) ⌝ }
     requires { ⌜ row < length (rows (sheetOf (now root) (now library) (numberOf (now dir) (env .slot)))) ⌝ }
@@ -302,7 +305,7 @@ fn field_kept(work: &[u32], lim: Limits, st: Counts, env: Env, r: Row) -> bool
     if !env.body {
         return true;
     }
-    let journal::Found::At(_) = refine::value_of(work, env.values, r.c) else {
+    let journal::Found::At(_) = refine::value_of(work, lim, st, env.values, r.c) else {
         return false;
     };
     true

@@ -7,16 +7,13 @@ use Rattle.expansion.specs.State.{start}
 use Rattle.journal.specs.Logs.{logUp, logDown, countOf}
 use Rattle.journal.proofs.Index.{index-none}
 use Rattle.journal.proofs.Owned.{owned-none}
+use Rattle.journal.proofs.Families.{families-none}
 use Rattle.reading.specs.Reading.{mapOf, ledgerOf, scopesOf, nodesOf, externsOf, externMapOf, isMapOf}
 use Rattle.refine.specs.declared.Limits.{Limits}
-use Rattle.refine.specs.declared.Counts.{Counts}
-use Rattle.refine.specs.Sound.{Source, headsAt, Sound}
+use Rattle.refine.specs.Sound.{Source, headsAt, nothingYet, Sound}
 use Rattle.refine.specs.Does.{at}
 
-abbrev pub noCounts : Counts
-noCounts = record { nodes = 0; scopes = 0; externs = 0; charges = 0 }
-
-pub sound-none : (L : Limits) (w : List ℕ) → 0 < L .slots → L .slots ≤ 2 ^ 32 → Sound L w noCounts
+pub sound-none : (L : Limits) (w : List ℕ) → 0 < L .slots → L .slots ≤ 2 ^ 32 → Sound L w nothingYet
 unfolding countOf
 sound-none L w some few = record {
   charges = omega arith;
@@ -26,8 +23,9 @@ sound-none L w some few = record {
   fair = record { each = λ r l. absurd (omega arith) };
   index = index-none w (headsAt L) (L .slots) some few;
   owned = owned-none w;
+  families = families-none w;
 }
 
-pub state-none : (S : Source) (w : List ℕ) → at S w noCounts ≡ start
+pub state-none : (S : Source) (w : List ℕ) → at S w nothingYet ≡ start
 unfolding mapOf ledgerOf scopesOf nodesOf externsOf externMapOf isMapOf logUp logDown
 state-none S w = refl

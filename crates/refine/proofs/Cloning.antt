@@ -12,6 +12,7 @@ use Rattle.expansion.specs.Values.{clone}
 use Rattle.journal.specs.Records.{tagPaid, tagExtern, tagNode, tagId, tagScope, cell, Paid}
 use Rattle.journal.proofs.Index.{index-paid}
 use Rattle.journal.proofs.Owned.{owned-paid}
+use Rattle.journal.proofs.Families.{families-paid}
 use Rattle.reading.specs.Reading.{idsAt, valueAt, below}
 use Rattle.reading.specs.Fair.{HandleAt, Fair, Walkable}
 use Rattle.reading.proofs.Chains.{value-fixed}
@@ -61,7 +62,7 @@ module _ {L : Limits} {w : List ℕ} {t : Counts} (so : Sound L w t) {n : ℕ} (
       (so .nodes ∙ sym (other tagNode (λ z. omega arith)))
       (so .scopes ∙ sym (other tagScope (λ z. omega arith)))
       (so .externs ∙ sym (other tagExtern (λ z. omega arith)))
-      fair (index-paid p (omega arith) (so .index)) (owned-paid p (so .owned)))
+      fair (index-paid p (omega arith) (so .index)) (owned-paid p (so .owned)) (families-paid p (so .families)))
 
   pub paid-state : (S : Source) → at S w′ (charged t n) ≡ more n (at S w t)
   paid-state S = state-silent (S .root) (S .library) calm (so .fair) n (λ r l h. paid-silent (cell w′ r 0) (p .tags r l h))

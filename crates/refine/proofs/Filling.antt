@@ -8,11 +8,12 @@ use lib.ListN.{length, getD, set}
 use lib.Dec.{eqb, ltb}
 use borrow.Author.Tests.{eqb-true, eqb-false, ltb-true, ltb-false}
 use Rattle.expansion.specs.State.{ok, withNodes}
-use Rattle.journal.specs.Records.{tagExtern, tagNode, tagField, tagInterface, tagStatement, tagOrder, tagScope, tagRoute, tagInstance, cell, Fixed, Pushed}
+use Rattle.journal.specs.Records.{tagExtern, tagNode, tagField, tagInterface, tagStatement, tagOrder, tagStored, tagScope, tagRoute, tagInstance, cell, Fixed, Pushed}
 use Rattle.journal.specs.Owned.{headWord}
 use Rattle.journal.proofs.Frame.{stays-most}
 use Rattle.journal.proofs.Index.{index-keep}
 use Rattle.journal.proofs.Owned.{owned-keep}
+use Rattle.journal.proofs.Families.{families-keep}
 use Rattle.reading.specs.Reading.{nodeBy, nodeRec, nodesOf, below}
 use Rattle.reading.specs.Fair.{HandleAt, NodeAt, NodeClosed}
 use Rattle.reading.proofs.Fair.{handle-none, handle-fixed, fair-fixed, closed-fixed}
@@ -73,6 +74,7 @@ module _ {n : ℕ} {w w′ : List ℕ} (x : OnlyNode n w w′) where
       fair = record { each = λ r l. fair-fixed (node-fixed c) c r l (λ e. which r (λ z. rw z closed) (λ ne. closed-fixed (node-fixed c) r (omega arith) (λ j a b. x .other r j ne b) (so .fair .each r l .node e))) (so .fair .each r l) };
       index = index-keep (node-fixed c) (so .index) (λ b lb. heads (headsAt L + b) (omega arith));
       owned = owned-keep (node-fixed c) (so .owned) (λ r g l e o. x .other r (headWord g) (another r tagScope (λ z. omega arith) e) (omega (arith, o .high)));
+      families = families-keep (node-fixed c) (λ r l e. x .other r 11 (another r tagStored (λ z. omega arith) e) (omega arith)) (so .families);
     }
 
     pub node-later : (young : ℕ) → Later L young w t w′ t

@@ -11,6 +11,7 @@ use Rattle.journal.specs.declared.Record.{Record}
 use Rattle.journal.specs.Records.{tagNode, tagScope, tagExtern, cell, Fixed, Holds}
 use Rattle.journal.specs.Index.{Indexed}
 use Rattle.journal.specs.Owned.{Owned}
+use Rattle.journal.specs.Families.{Families}
 use Rattle.reading.specs.Reading.{below}
 use Rattle.reading.specs.Fair.{Fair, AllFair}
 use Rattle.reading.proofs.Fair.{fair-fixed, closed-fixed}
@@ -36,8 +37,9 @@ module _ {L : Limits} {w w′ : List ℕ} {t : Counts} (so : Sound L w t) (q : C
       by r l false e = new r (ltb-false r (t .charges) e) l
 
   pub sound-more : t .charges + n ≤ L .rows → nodes ≡ below w′ tagNode (t .charges + n) → scopes ≡ below w′ tagScope (t .charges + n) → externs ≡ below w′ tagExtern (t .charges + n)
-      → ((r : ℕ) → t .charges ≤ r → r < t .charges + n → Fair w′ (t .charges + n) r) → Indexed w′ (headsAt L) (L .slots) (t .charges + n) → Owned w′ (t .charges + n) → Sound L w′ (grown t n nodes scopes externs)
-  sound-more room a b e new ix ow = record { charges = room; nodes = a; scopes = b; externs = e; fair = fair-more new; index = ix; owned = ow }
+      → ((r : ℕ) → t .charges ≤ r → r < t .charges + n → Fair w′ (t .charges + n) r) → Indexed w′ (headsAt L) (L .slots) (t .charges + n) → Owned w′ (t .charges + n) → Families w′ (t .charges + n)
+      → Sound L w′ (grown t n nodes scopes externs)
+  sound-more room a b e new ix ow fs = record { charges = room; nodes = a; scopes = b; externs = e; fair = fair-more new; index = ix; owned = ow; families = fs }
 
   pub later-more : (young : ℕ) → t .scopes ≤ scopes → ((m : ℕ) → headsAt L + L .slots ≤ m → getD w′ m 0 ≡ getD w m 0) → length w′ ≡ length w
       → ((r : ℕ) → t .charges ≤ r → r < t .charges + n → OfBody (cell w′ r 0) → young ≤ cell w′ r 1) → Sound L w′ (grown t n nodes scopes externs) → Later L young w t w′ (grown t n nodes scopes externs)

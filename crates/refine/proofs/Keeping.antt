@@ -8,13 +8,14 @@ use native.Mathlib.Omega.{arith}
 use lib.ListN.{length}
 use Rattle.journal.specs.declared.Record.{Record}
 use Rattle.journal.specs.Records.{tagExtern, tagNode, tagScope, cell, stays, Fixed, Pushed}
-use Rattle.journal.proofs.Frame.{same-fixed, stays-all}
+use Rattle.journal.proofs.Frame.{same-fixed, stays-eleven}
 use Rattle.journal.proofs.Keys.{unkeyed}
 use Rattle.journal.proofs.Index.{index-push}
 use Rattle.journal.proofs.Owned.{owned-push}
-use Rattle.reading.specs.Reading.{idsAt, fieldsAt, fieldNew, interfacesAt, interfaceNew, statementsAt, statementNew, orderAt, orderNew, valuesAt, storedNew}
+use Rattle.journal.proofs.Families.{families-one}
+use Rattle.reading.specs.Reading.{idsAt, fieldsAt, fieldNew, interfacesAt, interfaceNew, statementsAt, statementNew, orderAt, orderNew}
 use Rattle.reading.specs.Fair.{HandleAt, valued, Fair}
-use Rattle.reading.proofs.Chains.{ids-new, fields-new, interfaces-new, statements-new, order-new, values-new}
+use Rattle.reading.proofs.Chains.{ids-new, fields-new, interfaces-new, statements-new, order-new}
 use Rattle.reading.proofs.Fair.{handle-fixed, handle-new}
 use Rattle.reading.proofs.Nodes.{calm-same}
 use Rattle.reading.specs.Calm.{Calm}
@@ -72,8 +73,9 @@ module _ (L : Limits) (w : List ℕ) (t : Counts) (r : Record) (st : Standing L 
       (count-other (calm .fixed) r (p .holds) tagScope (so .scopes) (silent .scope))
       (count-other (calm .fixed) r (p .holds) tagExtern (so .externs) (silent .extern))
       (alone c (Fair w′ (c + 1)) fair)
-      (index-push p (omega arith) (unkeyed (r .tag) (silent .map) (silent .extern)) (so .index))
+      (index-push p (omega arith) (unkeyed (r .tag) (silent .map) (silent .extern) (λ e. omega (arith, k .most))) (so .index))
       (owned-push p (λ a b. omega (arith, k .most)) (so .owned))
+      (families-one (p .same) (λ e. omega (arith, p .holds .at0, k .most)) (so .families))
 
   later : (young : ℕ) → Later L young w t w′ (charged t 1)
   later young =
@@ -92,8 +94,8 @@ module _ {w : List ℕ} {t : Counts} {r : Record} {w′ : List ℕ} {t′ : Coun
   pub kept-handle : HandleAt w′ (t′ .charges) (r .tag) v
   kept-handle = rw (x .counts, x .handle) (handle-new w′ (t .charges) (r .tag) (x .pushed .holds .at0))
 
-  whole : stays (r .tag) ≡ 12
-  whole = stays-all (r .tag) (λ e. omega (arith, k .least)) (λ e. omega (arith, k .most)) (λ e. omega (arith, k .most))
+  most : 11 ≤ stays (r .tag)
+  most = stays-eleven (r .tag) (λ e. omega (arith, k .least)) (λ e. omega (arith, k .most)) (λ e. omega (arith, k .most))
 
   fx : Fixed (t .charges) w w′
   fx = same-fixed (x .pushed .same)
@@ -102,21 +104,18 @@ module _ {w : List ℕ} {t : Counts} {r : Record} {w′ : List ℕ} {t′ : Coun
   payload e q = k .value e q .low
 
   pub kept-ids : idsAt w′ v ≡ idsAt w (r .h) ++ (r .a ∷ [])
-  kept-ids = rw (x .handle) (ids-new fx r (x .pushed .holds) whole (k .before .low))
+  kept-ids = rw (x .handle) (ids-new fx r (x .pushed .holds) most (k .before .low))
 
   pub kept-statements : statementsAt w′ v ≡ statementsAt w (r .h) ++ (statementNew r ∷ [])
-  kept-statements = rw (x .handle) (statements-new fx r (x .pushed .holds) whole (k .before .low))
+  kept-statements = rw (x .handle) (statements-new fx r (x .pushed .holds) most (k .before .low))
 
   pub kept-order : orderAt w′ v ≡ orderAt w (r .h) ++ (orderNew r ∷ [])
-  kept-order = rw (x .handle) (order-new fx r (x .pushed .holds) whole (k .before .low))
+  kept-order = rw (x .handle) (order-new fx r (x .pushed .holds) most (k .before .low))
 
   -- a record with a value
   module _ (e : valued (r .tag) ≡ true) where
     pub kept-fields : fieldsAt w′ v ≡ fieldsAt w (r .h) ++ (fieldNew w r ∷ [])
-    kept-fields = rw (x .handle) (fields-new fx r (x .pushed .holds) whole (k .before .low) (payload e))
+    kept-fields = rw (x .handle) (fields-new fx r (x .pushed .holds) most (k .before .low) (payload e))
 
     pub kept-interfaces : interfacesAt w′ v ≡ interfacesAt w (r .h) ++ (interfaceNew w r ∷ [])
-    kept-interfaces = rw (x .handle) (interfaces-new fx r (x .pushed .holds) whole (k .before .low) (payload e))
-
-    pub kept-values : valuesAt w′ v ≡ storedNew w r ∷ valuesAt w (r .h)
-    kept-values = rw (x .handle) (values-new fx r (x .pushed .holds) whole (k .before .low) (payload e))
+    kept-interfaces = rw (x .handle) (interfaces-new fx r (x .pushed .holds) most (k .before .low) (payload e))

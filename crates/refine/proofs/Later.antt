@@ -7,18 +7,18 @@ use Prim.Native.Nat.{ℕ, _+_, _-_, _≤_, _<_}
 use native.Mathlib.Omega.{arith}
 use lib.Dec.{ltb}
 use borrow.Author.Tests.{ltb-true, ltb-false}
-use Rattle.journal.specs.Records.{tagScope, tagRoot, tagRoute, tagInstance, cell}
+use Rattle.journal.specs.Records.{tagStored, tagScope, tagRoot, tagRoute, tagInstance, cell}
 use Rattle.journal.specs.Owned.{tagged, ownedBy, ownedLog, Owned}
 use Rattle.journal.proofs.Frame.{fixed-refl, fixed-trans, fixed-less, steady-tag, steady-first, steady-is}
 use Rattle.journal.proofs.Lists.{count-above}
 use Rattle.journal.proofs.Owned.{tagged-here, owned-is, owned-stable}
 use Rattle.expansion.specs.Values.{Env}
 use Rattle.reading.specs.Reading.{kept, rootRec, bodyRouteRec, bodyOf, below}
-use Rattle.reading.specs.Fair.{HandleAt, NodeAt}
+use Rattle.reading.specs.Fair.{HandleAt, NodeAt, ScopeAt}
 use Rattle.reading.proofs.Words.{Lasting}
 use Rattle.reading.proofs.Chains.{values-fixed, root-lasting, bodyRoute-lasting}
 use Rattle.reading.proofs.Logs.{up-stays}
-use Rattle.reading.proofs.Fair.{handle-fixed, node-at-fixed}
+use Rattle.reading.proofs.Fair.{handle-more, handle-fixed, node-at-fixed}
 use Rattle.reading.specs.Calm.{Unrecorded}
 use Rattle.reading.proofs.States.{scope-lasting}
 use Rattle.refine.specs.declared.Limits.{Limits}
@@ -29,6 +29,13 @@ use Rattle.refine.specs.Sound.{Sound, Standing, OfBody, Later, EnvAt, en
 -- an Env's scope is one of the journal's
 pub env-known : {w : List ℕ} {c : ℕ} {e : code.Env} → Owned w c → EnvAt w c e → e .scope < below w tagScope c
 env-known {w} {c} {e} ow y = rw (← y .number, ow .numbers (e .place) (y .place) (y .tag)) (count-above (tagged w tagScope) (e .place) c (y .place) (tagged-here w tagScope (e .place) (y .tag)))
+
+pub env-scope : {w : List ℕ} {c : ℕ} {e : code.Env} → EnvAt w c e → ScopeAt w c (e .scope) (e .place)
+env-scope y = record { low = y .place; tag = y .tag; number = y .number }
+
+-- its values are stored
+pub env-values : {w : List ℕ} {c : ℕ} {e : code.Env} → EnvAt w c e → HandleAt w c tagStored (e .values)
+env-values y = handle-more (omega (arith, y .place)) (y .values)
 
 -- ---- how it goes together
 pub later-refl : {L : Limits} {w : List ℕ} {t : Counts} (young : ℕ) → Sound L w t → Later L young w t w t

@@ -4,6 +4,7 @@ pub mod Calculus
 pub mod Grow
 pub mod Charges
 pub mod Keeping
+pub mod Storing
 pub mod Owning
 pub mod Mapping
 pub mod Opening

@@ -22,6 +22,7 @@ use Rattle.journal.specs.Owned.{tagged, OwnedTag, ownedBy, ownedLog}
 use Rattle.journal.proofs.Lists.{count-low, count-more, up-span, up-zero, only-other}
 use Rattle.journal.proofs.Index.{index-push}
 use Rattle.journal.proofs.Owned.{owned-scope, owned-is}
+use Rattle.journal.proofs.Families.{families-one}
 use Rattle.reading.specs.Reading.{kept, scopeBy, scopeRec, scopesOf, valuesAt, rootRec, bodyRouteRec, bodyOf, below}
 use Rattle.reading.specs.Fair.{HandleAt, Fair}
 use Rattle.reading.proofs.Words.{kept-is}
@@ -78,7 +79,7 @@ module _ {L : Limits} {w : List ℕ} {t : Counts} (so : Sound L w t) (kind docum
       (count-other (calm .fixed) put (p .holds) tagNode (so .nodes) (λ z. omega arith))
       (count-new (calm .fixed) put (p .holds) tagScope (so .scopes) refl)
       (count-other (calm .fixed) put (p .holds) tagExtern (so .externs) (λ z. omega arith))
-      (alone c (Fair w′ (c + 1)) fair) (index-push p (omega arith) refl (so .index)) (owned-scope p refl (so .scopes) refl refl refl (so .owned))
+      (alone c (Fair w′ (c + 1)) fair) (index-push p (omega arith) refl (so .index)) (owned-scope p refl (so .scopes) refl refl refl (so .owned)) (families-one (p .same) (λ e. omega (arith, p .holds .at0)) (so .families))
 
   later : (young : ℕ) → Later L young w t w′ t1
   later young =

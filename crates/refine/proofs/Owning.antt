@@ -14,6 +14,7 @@ use Rattle.expansion.specs.PlainCopy.{pushAssociation, associate}
 use Rattle.journal.specs.declared.Record.{Record}
 use Rattle.journal.specs.Records.{tagExtern, tagNode, tagScope, tagRoot, tagRoute, tagAssociation, cell, stays, Fixed, Holds}
 use Rattle.journal.specs.Owned.{ownedBy, ownedLog, headWord, after, Appended}
+use Rattle.journal.proofs.Families.{families-append}
 use Rattle.journal.proofs.Owned.{append-fixed, index-append, owned-here, owned-tag, owned-stable}
 use Rattle.reading.specs.Reading.{kept, rootRec, bodyRouteRec, routeNew, bodyOf}
 use Rattle.reading.specs.Fair.{Fair}
@@ -67,7 +68,7 @@ module _ (L : Limits) (w : List ℕ) (t : Counts) (e : code.Env) (r : Record) (s
       (count-other (calm .fixed) put (p .holds) tagNode (so .nodes) (λ z. omega (arith, u .tag .low)))
       (count-other (calm .fixed) put (p .holds) tagScope (so .scopes) (λ z. omega (arith, u .tag .low)))
       (count-other (calm .fixed) put (p .holds) tagExtern (so .externs) (λ z. omega (arith, u .tag .low)))
-      (alone c (Fair w′ (c + 1)) fair) (index-append p (omega arith) (so .index)) (p .owned)
+      (alone c (Fair w′ (c + 1)) fair) (index-append p (omega arith) (so .index)) (p .owned) (families-append p (so .families))
 
   later : (young : ℕ) → (OfBody (cell w′ c 0) → young ≤ cell w′ c 1) → Later L young w t w′ (charged t 1)
   later young new =

@@ -18,6 +18,7 @@ use Rattle.journal.specs.Records.{tagExtern, tagNode, tagScope, cell, Pushed}
 use Rattle.journal.specs.Index.{Enterable, Entered}
 use Rattle.journal.proofs.Index.{index-push}
 use Rattle.journal.proofs.Owned.{owned-push}
+use Rattle.journal.proofs.Families.{families-one}
 use Rattle.reading.specs.Reading.{nodeRec, nodesOf, ledgerOf, below}
 use Rattle.reading.specs.Fair.{NodeAt, NodeClosed, Fair}
 use Rattle.reading.proofs.Fair.{fair-plain, handle-none}
@@ -34,7 +35,7 @@ use Rattle.refine.specs.Sound.{Source, inputOf, headsAt, Sound, Standing
 use Rattle.refine.specs.Does.{number, at}
 use Rattle.refine.specs.Contract.{entryOf, blankOf, Reserved}
 use Rattle.refine.proofs.Grow.{grown, sound-more, later-more, alone, count-other, count-new}
-use Rattle.refine.proofs.Later.{env-known, later-trans, later-node}
+use Rattle.refine.proofs.Later.{env-known, later-trans, later-node, later-env}
 use Rattle.refine.proofs.Charges.{charge-full, charge-some}
 use Rattle.refine.proofs.Keeping.{not-of-body}
 use Rattle.refine.proofs.Mapping.{entry-later, entry-state}
@@ -110,6 +111,7 @@ module _ (L : Limits) (w : List ℕ) (t : Counts) (e : code.Env) (id : ℕ) (st 
           (alone c (Fair w1 (c + 1)) (fair-plain w1 (c + 1) c (rw (p .holds .at0)) (λ z. absurd (omega (arith, p .holds .at0))) (λ z. (closed, known))))
           (index-push p (omega arith) refl (so .index))
           (owned-push p (λ a b. omega arith) (so .owned))
+          (families-one (p .same) (λ z. omega (arith, p .holds .at0)) (so .families))
 
       later1 : (young : ℕ) → Later L young w t w1 t1
       later1 young =
@@ -129,11 +131,14 @@ module _ (L : Limits) (w : List ℕ) (t : Counts) (e : code.Env) (id : ℕ) (st 
           let z : c + 1 - 1 ≡ c = omega arith in
           record { some = omega arith; low = omega arith; tag = rw z (p .holds .at0); number = rw z (below-fixed tagNode (calm .fixed) c (omega arith) ∙ sym (so .nodes)) }
 
+      env1 : EnvAt w1 (c + 1) e
+      env1 = later-env (later1 0) env
+
       -- there is room for the map entry
-      pub reserve-enter : Enterable w1 (headsAt L) (L .slots) (t .charges + 1) (entryOf (e .scope) id (t .nodes) (t .charges + 1))
+      pub reserve-enter : Enterable w1 (headsAt L) (L .slots) (t .charges + 1) (entryOf e id (t .nodes) (t .charges + 1))
       reserve-enter = record { room = record { records = omega arith; heads = rw long1 (st .ready .room); narrow = omega (arith, st .ready .rows) }; index = sound .index; key = refl }
 
-      module _ (w2 : List ℕ) (long2 : length w2 ≡ length w1) (q : Entered w1 w2 (headsAt L) (L .slots) (t .charges + 1) (entryOf (e .scope) id (t .nodes) (t .charges + 1))) where
+      module _ (w2 : List ℕ) (long2 : length w2 ≡ length w1) (q : Entered w1 w2 (headsAt L) (L .slots) (t .charges + 1) (entryOf e id (t .nodes) (t .charges + 1))) where
         abbrev t2 : Counts
         t2 = grown t 2 (t .nodes + 1) (t .scopes) (t .externs)
 
@@ -141,11 +146,11 @@ module _ (L : Limits) (w : List ℕ) (t : Counts) (e : code.Env) (id : ℕ) (st 
         two = omega arith
 
         later2 : (young : ℕ) → Later L young w1 t1 w2 t2
-        later2 young = rw two at (entry-later sound (e .scope) id (t .nodes) (c + 1) node (omega arith) long2 q young)
+        later2 young = rw two at (entry-later sound e env1 id (t .nodes) (c + 1) node (omega arith) long2 q young)
 
         state2 : (S : Source) → at S w2 t2 ≡ addNode (e .scope) id (oneMore (oneMore (at S w t)))
         state2 S =
-            let x : at S w2 t2 ≡ addEntry (e .scope) id (t .nodes) (oneMore (at S w1 t1)) = rw two at (entry-state sound (e .scope) id (t .nodes) (c + 1) node (omega arith) long2 q S) in
+            let x : at S w2 t2 ≡ addEntry (e .scope) id (t .nodes) (oneMore (at S w1 t1)) = rw two at (entry-state sound e env1 id (t .nodes) (c + 1) node (omega arith) long2 q S) in
             x ∙ ap (λ (s : State). addEntry (e .scope) id (t .nodes) (oneMore s)) (state1 S) ∙ rw (← count)
 
         pub reserve-done : Reserved L w t e id w2 (Done t2 (t .nodes) (t .charges + 1))

@@ -1,7 +1,7 @@
 -- What the steps that write one record ask and give.
 use mathlib.Core.Path.{_≡_}
 use mathlib.Core.Bool.{true}
-use mathlib.Core.List.{List}
+use mathlib.Core.List.{List, _∷_}
 use Prim.Native.Nat.{ℕ, _+_, _*_, _≤_, _<_}
 use lib.ListN.{length}
 use Rattle.ast.specs.Choice.{mapO, andThen}
@@ -14,7 +14,7 @@ use Rattle.expansion.specs.Instances.{openScope, addEntry}
 use Rattle.journal.specs.declared.Record.{Record}
 use Rattle.journal.specs.declared.Found.{Found}
 use Rattle.journal.specs.declared.Found.the-variants.{At}
-use Rattle.journal.specs.Records.{tagMap, tagNode, tagId, tagStored, tagScope, tagAssociation, cell, Pushed}
+use Rattle.journal.specs.Records.{tagMap, tagNode, tagId, tagOrder, tagStored, tagScope, tagAssociation, cell, Pushed}
 use Rattle.journal.specs.Index.{foundOf}
 use Rattle.journal.specs.Owned.{OwnedTag, Appended}
 use Rattle.reading.specs.Reading.{valueAt, valueRec, valuesAt, scopeBy, scopeRec, mapOf}
@@ -30,10 +30,10 @@ use Rattle.refine.specs.Does.{nothing, number, IfDone, Does}
 abbrev pub charged : Counts → ℕ → Counts
 charged t n = record { nodes = t .nodes; scopes = t .scopes; externs = t .externs; charges = t .charges + n }
 
--- ---- a record of a list of a node, a value or an instance's values
+-- ---- a record of a list of a node or a value
 pub record Keepable (w : List ℕ) (c : ℕ) (r : Record) : Type 0 where
   pub least : tagId ≤ r .tag
-  pub most : r .tag ≤ tagStored
+  pub most : r .tag ≤ tagOrder
   pub before : HandleAt w c (r .tag) (r .h)
   pub value : valued (r .tag) ≡ true → r .f ≡ 2 → HandleAt w c tagId (r .g)
 
@@ -47,6 +47,20 @@ pub record KeptAt (w : List ℕ) (t : Counts) (r : Record) (w′ : List ℕ) (t�
 pub record Kept (L : Limits) (w : List ℕ) (t : Counts) (r : Record) (w′ : List ℕ) (a : Answer) : Type 0 where
   pub does : (S : Source) (young : ℕ) → Does S L young nothing (charge (inputOf S L)) w t w′ a
   pub done : IfDone (λ t′ v p. KeptAt w t r w′ t′ v) a
+
+-- ---- a stored value, behind those of h
+pub record Storable (w : List ℕ) (c class payload h : ℕ) : Type 0 where
+  pub before : HandleAt w c tagStored h
+  pub value : class ≡ 2 → HandleAt w c tagId payload
+
+-- v is the handle of the stored values with it
+pub record StoredAt (w : List ℕ) (name ty class payload h : ℕ) (w′ : List ℕ) (t′ : Counts) (v : ℕ) : Type 0 where
+  pub handle : HandleAt w′ (t′ .charges) tagStored v
+  pub list : valuesAt w′ v ≡ (name, valueAt w ty class payload) ∷ valuesAt w h
+
+pub record Storing (L : Limits) (w : List ℕ) (t : Counts) (name ty class payload h : ℕ) (w′ : List ℕ) (a : Answer) : Type 0 where
+  pub does : (S : Source) (young : ℕ) → Does S L young nothing (charge (inputOf S L)) w t w′ a
+  pub done : IfDone (λ t′ v p. StoredAt w name ty class payload h w′ t′ v) a
 
 -- ---- a record of a scope's own lists
 pub record Ownership (w : List ℕ) (c : ℕ) (e : code.Env) (r : Record) : Type 0 where
@@ -65,8 +79,8 @@ pub record Owning (L : Limits) (w : List ℕ) (t : Counts) (e : code.Env) (r : R
   pub done : IfDone (λ t′ v p. OwnedAt w t e r w′ t′) a
 
 -- ---- a map entry: the copy of a source id, a node
-abbrev pub entryOf : ℕ → ℕ → ℕ → ℕ → Record
-entryOf scope id out place = record { tag = tagMap; a = scope; b = id; c = out; d = place; e = 0; f = 0; g = 0; h = 0; i = 0; j = 0; k = 0 }
+abbrev pub entryOf : code.Env → ℕ → ℕ → ℕ → Record
+entryOf env id out place = record { tag = tagMap; a = env .place; b = id; c = out; d = place; e = env .scope; f = 0; g = 0; h = 0; i = 0; j = 0; k = 0 }
 
 pub record MappedAt (t : Counts) (out place : ℕ) (t′ : Counts) (v p : ℕ) : Type 0 where
   pub counts : t′ ≡ charged t 1

@@ -13,6 +13,7 @@ use Rattle.expansion.specs.Values.{Env}
 use Rattle.journal.specs.Records.{tagExtern, tagNode, tagStored, tagScope, tagRoot, tagRoute, tagInstance, cell, Fixed}
 use Rattle.journal.specs.Index.{Indexed}
 use Rattle.journal.specs.Owned.{Owned}
+use Rattle.journal.specs.Families.{Families}
 use Rattle.reading.specs.Reading.{below, scopeRec, valuesAt}
 use Rattle.reading.specs.Fair.{HandleAt, AllFair}
 use Rattle.refine.specs.declared.Limits.{Limits}
@@ -42,6 +43,11 @@ pub record Sound (L : Limits) (w : List ℕ) (t : Counts) : Type 0 where
   pub fair : AllFair w (t .charges)
   pub index : Indexed w (headsAt L) (L .slots) (t .charges)
   pub owned : Owned w (t .charges)
+  pub families : Families w (t .charges)
+
+-- no record stands yet
+abbrev pub nothingYet : Counts
+nothingYet = record { nodes = 0; scopes = 0; externs = 0; charges = 0 }
 
 -- room for what a run may write
 pub record Ready (L : Limits) (w : List ℕ) : Type 0 where

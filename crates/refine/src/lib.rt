@@ -9,7 +9,7 @@ ghost use Rattle.journal.specs.Records.{tagId, tagStored, Wide, Pushed};
 ghost use Rattle.reading.specs.Reading.{idsAt};
 ghost use Rattle.reading.specs.Fair.{HandleAt, NodeAt, Walkable};
 ghost use Rattle.refine.specs.Sound.{Standing, EnvAt};
-ghost use Rattle.refine.specs.Contract.{charged as counted, Keepable, Kept, Ownership, Owning, Mapped, Reserved, Opened, Looked, EndOf, contentsOf, Fillable, Valued, Cloned};
+ghost use Rattle.refine.specs.Contract.{charged as counted, Keepable, Kept, Storable, Storing, Ownership, Owning, Mapped, Reserved, Opened, Looked, EndOf, contentsOf, Fillable, Valued, Cloned};
 
 const NONE: u32 = 4294967295;
 
@@ -24,7 +24,7 @@ pub struct Limits {
 pub struct Counts {
     pub nodes: u32,
     pub scopes: u32,
-    pub externs: u32,
+    pub externs: usize,
     pub charges: usize,
 }
 
@@ -101,6 +101,53 @@ pub fn keep(work: &mut [u32], lim: Limits, st: Counts, r: Record) -> Answer
     }
 }
 
+// A charge and the stored value of a name, behind those of `h`; the value is its handle.
+pub fn store(
+    work: &mut [u32],
+    lim: Limits,
+    st: Counts,
+    name: u32,
+    ty: u32,
+    class: u32,
+    payload: u32,
+    h: u32,
+) -> Answer
+    requires { ⌜ Standing lim (now work) st ⌝ }
+    requires { ⌜ Storable (now work) (st .charges) class payload h ⌝ }
+    ensures { λ a. ⌜ Storing lim (now (work .entry)) st name ty class payload h (now (work .exit)) a ⌝ }
+{
+    let c = st.charges;
+    if lim.rows <= c {
+        return too_many();
+    }
+    journal::join(
+        work,
+        lim.rows * 12,
+        lim.slots,
+        c,
+        Record {
+            tag: 9,
+            a: 0,
+            b: name,
+            c: 0,
+            d: 0,
+            e: ty,
+            f: class,
+            g: payload,
+            h,
+            i: 0,
+            j: 0,
+            k: 0,
+        },
+    );
+    let v = (c + 1) as u32;
+    Answer::Done {
+        st: charged(st, 1),
+        value: v,
+        place: 0,
+    }
+}
+
 // A charge and a record of a scope's own lists: an extra root, a route, an association.
 pub fn own(work: &mut [u32], lim: Limits, st: Counts, env: Env, r: Record) -> Answer
     requires { ⌜ Standing lim (now work) st ⌝ }
@@ -125,14 +172,15 @@ pub fn map(
     work: &mut [u32],
     lim: Limits,
     st: Counts,
-    scope: u32,
+    env: Env,
     id: u32,
     out: u32,
     place: u32,
 ) -> Answer
     requires { ⌜ Standing lim (now work) st ⌝ }
+    requires { ⌜ EnvAt (now work) (st .charges) env ⌝ }
     requires { ⌜ NodeAt (now work) (st .charges) out place ⌝ }
-    ensures { λ a. ⌜ Mapped lim (now (work .entry)) st scope id out place (now (work .exit)) a ⌝ }
+    ensures { λ a. ⌜ Mapped lim (now (work .entry)) st (env .scope) id out place (now (work .exit)) a ⌝ }
 {
     let at = st.charges;
     if lim.rows <= at {
@@ -145,11 +193,11 @@ pub fn map(
         at,
         Record {
             tag: 1,
-            a: scope,
+            a: env.place as u32,
             b: id,
             c: out,
             d: place,
-            e: 0,
+            e: env.scope,
             f: 0,
             g: 0,
             h: 0,
@@ -183,13 +231,12 @@ pub fn reserve(work: &mut [u32], lim: Limits, st: Counts, env: Env, id: u32) -> 
     if lim.rows - c < 2 {
         return too_many();
     }
-    let scope = env.scope;
     journal::push(
         work,
         c,
         Record {
             tag: 3,
-            a: scope,
+            a: env.scope,
             b: id,
             c: 0,
             d: NONE,
@@ -210,11 +257,11 @@ pub fn reserve(work: &mut [u32], lim: Limits, st: Counts, env: Env, id: u32) -> 
         c + 1,
         Record {
             tag: 1,
-            a: scope,
+            a: env.place as u32,
             b: id,
             c: new,
             d: place,
-            e: 0,
+            e: env.scope,
             f: 0,
             g: 0,
             h: 0,
@@ -287,22 +334,32 @@ pub fn open(
 }
 
 // The map entry of a source id in a scope: word 3 is its copy, word 4 the copy's place.
-pub fn look(work: &[u32], lim: Limits, st: Counts, scope: u32, id: u32) -> Found
+pub fn look(work: &[u32], lim: Limits, st: Counts, env: Env, id: u32) -> Found
     requires { ⌜ Standing lim (now work) st ⌝ }
-    ensures { λ f. ⌜ Looked (now (work .entry)) (st .charges) scope id f ⌝ }
+    requires { ⌜ EnvAt (now work) (st .charges) env ⌝ }
+    ensures { λ f. ⌜ Looked (now (work .entry)) (st .charges) (env .scope) id f ⌝ }
 {
-    journal::find(work, lim.rows * 12, lim.slots, st.charges, 1, scope, id)
+    journal::find(
+        work,
+        lim.rows * 12,
+        lim.slots,
+        st.charges,
+        1,
+        env.place as u32,
+        id,
+    )
 }
 
 // A route's end: its copy in the scope, or none.
-pub fn remap(work: &[u32], lim: Limits, st: Counts, scope: u32, id: u32) -> u32
+pub fn remap(work: &[u32], lim: Limits, st: Counts, env: Env, id: u32) -> u32
     requires { ⌜ Standing lim (now work) st ⌝ }
-    ensures { λ o. ⌜ EndOf (now (work .entry)) (st .charges) scope id o ⌝ }
+    requires { ⌜ EnvAt (now work) (st .charges) env ⌝ }
+    ensures { λ o. ⌜ EndOf (now (work .entry)) (st .charges) (env .scope) id o ⌝ }
 {
     if id == NONE {
         return NONE;
     }
-    let Found::At(r) = look(work, lim, st, scope, id) else {
+    let Found::At(r) = look(work, lim, st, env, id) else {
         return NONE;
     };
     journal::word(work, r, 3)
@@ -349,18 +406,32 @@ pub fn fill(
     );
 }
 
-// The stored value of a name, newest first.
-pub fn value_of(work: &[u32], values: u32, name: u32) -> Found
-    requires { ⌜ Walkable (now work) tagStored values ⌝ }
+// The stored value of a name, newest first: one by one for the first few, then family by family.
+pub fn value_of(work: &[u32], lim: Limits, st: Counts, values: u32, name: u32) -> Found
+    requires { ⌜ Standing lim (now work) st ⌝ }
+    requires { ⌜ HandleAt (now work) (st .charges) tagStored values ⌝ }
     ensures { λ f. ⌜ Valued (now (work .entry)) values name f ⌝ }
 {
     let mut cur = wide(values);
-    while 0 < cur {
+    let mut few: usize = 8;
+    while 0 < few {
+        if cur == 0 {
+            return Found::Nothing;
+        }
         let r = cur - 1;
-        if journal::word(work, r, 1) == name {
+        if journal::word(work, r, 2) == name {
             return Found::At(r);
         }
         cur = wide(journal::word(work, r, 8));
+        few -= 1;
+    }
+    while 0 < cur {
+        let f = journal::word(work, cur - 1, 1);
+        let x = journal::find_below(work, lim.rows * 12, lim.slots, st.charges, cur, 9, f, name);
+        let Found::Nothing = x else {
+            return x;
+        };
+        cur = wide(journal::word(work, wide(f), 8));
     }
     Found::Nothing
 }

@@ -5,8 +5,8 @@ use Rattle.bindings.proofs.is_given.Tie as tie
 use Rattle.bindings.proofs.is_given.Reads as reads
 use Rattle.bindings.proofs.is_given.Lts as lts
 use Rattle.bindings.proofs.target_value.Reads as target-value-reads
-use Rattle.refine.proofs.keep.Reads as keep-reads
-use Rattle.bindings.proofs.Stored.{given-outside, given-without, stored-keepable, given-stored, given-full}
+use Rattle.refine.proofs.store.Reads as store-reads
+use Rattle.bindings.proofs.Stored.{given-outside, given-without, storable, given-stored, given-full}
 
 target-value-requires : tie.Need-target-value-requires
 target-value-requires c κs = (c .before .before .pre .0, c .before .before .pre .1 .0)
@@ -20,8 +20,8 @@ enum-told-2 c = search needs
 enum-known-t : tie.Need-enum-known-t
 enum-known-t c = search needs
 
-keep-requires : tie.Need-keep-requires
-keep-requires c κs = stored-keepable _ _ _ _ (c .before .before .before .before .before .before .before .before .before .args .target) (c .before .before .before .before .before .before .before .before .before .args .name) (c .before .before .before .before .before .before .before .before .before .args .h) (c .before .before .before .before .before .before .before .before .before .pre .0) (c .before .before .before .before .before .before .before .before .before .pre .1 .1) (c .before .before .before .before .before .before .target-value .ensures) (c .before .before .t .given .1)
+store-requires : tie.Need-store-requires
+store-requires c κs = storable _ _ _ _ (c .before .before .before .before .before .before .before .before .before .args .target) (c .before .before .before .before .before .before .before .before .before .args .name) (c .before .before .before .before .before .before .before .before .before .args .h) (c .before .before .before .before .before .before .before .before .before .pre .0) (c .before .before .before .before .before .before .before .before .before .pre .1 .1) (c .before .before .before .before .before .before .target-value .ensures) (c .before .before .t .given .1)
 
 enum-known-number : tie.Need-enum-known-number
 enum-known-number c = search needs
@@ -42,7 +42,7 @@ same-length-3 : tie.Need-same-length-3
 same-length-3 c = search needs
 
 returns-3 : tie.Need-returns-3
-returns-3 c = given-stored _ _ _ _ (c .before .before .before .before .before .before .before .before .before .before .before .before .args .target) (c .before .before .before .before .before .before .before .before .before .before .before .before .args .name) (c .before .before .before .before .before .before .before .before .before .before .before .before .args .h) (c .before .before .before .before .before .before .before .before .before .before .before .before .pre .0) (c .before .before .before .before .before .before .before .before .before .before .before .before .pre .1 .1) (c .before .before .before .before .before .before .before .before .before .target-value .ensures) (c .before .before .before .before .before .t .given .1) (c .before .before .keep .ensures)
+returns-3 c = given-stored _ _ _ _ (c .before .before .before .before .before .before .before .before .before .before .before .before .args .target) (c .before .before .before .before .before .before .before .before .before .before .before .before .args .name) (c .before .before .before .before .before .before .before .before .before .before .before .before .args .h) (c .before .before .before .before .before .before .before .before .before .before .before .before .pre .0) (c .before .before .before .before .before .before .before .before .before .before .before .before .pre .1 .1) (c .before .before .before .before .before .before .before .before .before .target-value .ensures) (c .before .before .before .before .before .t .given .1) (c .before .before .store .ensures)
 
 same-length-4 : tie.Need-same-length-4
 same-length-4 c = search needs
@@ -58,7 +58,7 @@ is-given-spec =
     enum-told
     enum-told-2
     enum-known-t
-    keep-requires
+    store-requires
     enum-known-number
     same-length
     returns

@@ -7,15 +7,16 @@ use Rattle.bindings.proofs.wide.Reads as wide-reads
 use Rattle.journal.proofs.set.Reads as set-reads
 use Rattle.journal.proofs.word.Reads as word-reads
 use Rattle.refine.proofs.remap.Reads as remap-reads
+use Rattle.refine.proofs.Later.{later-env}
 use Rattle.bindings.proofs.Routes.{Remapping, scope-room, remapping-start, remapping-standing, remapping-room, remapping-next, remapping-less, remapping-end}
 use native.Mathlib.Omega.{arith}
 use borrow.Author.Needs.{needs}
 
 abbrev Inv-loop : tie.InvT-loop
-Inv-loop work₀ lim st scope cur₀ work cur = Remapping lim work₀ st scope work cur
+Inv-loop work₀ lim st env cur₀ work cur = Remapping lim work₀ st (env .scope) work cur
 
 abbrev μ-loop : tie.MeasureT-loop
-μ-loop work₀ lim st scope cur₀ work cur = cur
+μ-loop work₀ lim st env cur₀ work cur = cur
 
 word-requires : tie.Need-word-requires Inv-loop μ-loop
 word-requires c κs = (scope-room _ _ _ (c .before .before .pre .0) (c .before .before .pre .1), omega arith)
@@ -33,13 +34,13 @@ word-requires-2 : tie.Need-word-requires-2 Inv-loop μ-loop
 word-requires-2 c κs = (remapping-room _ _ _ (c .before .before .before .before .before .before .before .pre .0) (c .before .before .loop .inv) (c .before .loop-test .taken), omega arith)
 
 remap-requires : tie.Need-remap-requires Inv-loop μ-loop
-remap-requires c κs = remapping-standing _ _ _ (c .before .before .before .before .before .before .before .before .pre .0) (c .before .before .before .loop .inv)
+remap-requires c κs = (remapping-standing _ _ _ (c .before .before .before .before .before .before .before .before .pre .0) (c .before .before .before .loop .inv), later-env (c .before .before .before .loop .inv .later) (c .before .before .before .before .before .before .before .before .pre .1 .env))
 
 word-requires-3 : tie.Need-word-requires-3 Inv-loop μ-loop
 word-requires-3 c κs = (remapping-room _ _ _ (c .before .before .before .before .before .before .before .before .before .before .pre .0) (c .before .before .before .before .before .loop .inv) (c .before .before .before .before .loop-test .taken), omega arith)
 
 remap-requires-2 : tie.Need-remap-requires-2 Inv-loop μ-loop
-remap-requires-2 c κs = remapping-standing _ _ _ (c .before .before .before .before .before .before .before .before .before .before .before .pre .0) (c .before .before .before .before .before .before .loop .inv)
+remap-requires-2 c κs = (remapping-standing _ _ _ (c .before .before .before .before .before .before .before .before .before .before .before .pre .0) (c .before .before .before .before .before .before .loop .inv), later-env (c .before .before .before .before .before .before .loop .inv .later) (c .before .before .before .before .before .before .before .before .before .before .before .pre .1 .env))
 
 set-requires : tie.Need-set-requires Inv-loop μ-loop
 set-requires c κs = (remapping-room _ _ _ (c .before .before .before .before .before .before .before .before .before .before .before .before .before .pre .0) (c .before .before .before .before .before .before .before .before .loop .inv) (c .before .before .before .before .before .before .before .loop-test .taken), omega arith)

@@ -5,17 +5,18 @@ use Rattle.bindings.proofs.target_value.Tie as tie
 use Rattle.bindings.proofs.target_value.Reads as reads
 use Rattle.bindings.proofs.target_value.Lts as lts
 use Rattle.bindings.proofs.class_of.Reads as class-of-reads
+use Rattle.journal.proofs.word.Reads as word-reads
 use Rattle.refine.proofs.clone.Reads as clone-reads
 use Rattle.refine.proofs.value_of.Reads as value-of-reads
-use Rattle.journal.proofs.word.Reads as word-reads
-use Rattle.bindings.proofs.Targets.{outside, walkable, without, in-room, payload, cloned, refused}
+use Rattle.refine.proofs.Later.{env-values}
+use Rattle.bindings.proofs.Targets.{outside, without, in-room, payload, cloned, refused}
 use native.Mathlib.Omega.{arith}
 
 returns : tie.Need-returns
 returns c = record { case = outside (c .before .before .before .args .lim) _ (c .before .before .before .args .st) _ _ (c .if1 .taken) }
 
 value-of-requires : tie.Need-value-of-requires
-value-of-requires c κs = walkable _ _ _ _ 0 (c .before .before .before .before .pre .0) (c .before .before .before .before .pre .1)
+value-of-requires c κs = (c .before .before .before .before .pre .0, env-values (c .before .before .before .before .pre .1))
 
 enum-known-v : tie.Need-enum-known-v
 enum-known-v c = search needs

@@ -6,7 +6,8 @@ use Rattle.parts.proofs.field_kept.Reads as reads
 use Rattle.parts.proofs.field_kept.Lts as lts
 use Rattle.refine.proofs.value_of.Reads as value-of-reads
 use denote.Ref.{now}
-use Rattle.parts.proofs.Ordered.{stored-walk, kept-value, kept-outside, kept-none, kept-some}
+use Rattle.refine.proofs.Later.{env-values}
+use Rattle.parts.proofs.Ordered.{kept-value, kept-outside, kept-none, kept-some}
 
 returns : tie.Need-returns
 returns c = kept-value (now (c .before .before .before .args .work)) (c .before .before .before .args .env) (c .before .before .before .args .r) (c .if1 .taken)
@@ -15,7 +16,7 @@ returns-2 : tie.Need-returns-2
 returns-2 c = kept-outside (now (c .before .before .before .before .before .args .work)) (c .before .before .before .before .before .args .env) (c .before .before .before .before .before .args .r) (c .before .before .if1 .left) (c .if2 .taken)
 
 value-of-requires : tie.Need-value-of-requires
-value-of-requires c κs = stored-walk (c .before .before .before .before .before .pre .0) (c .before .before .before .before .before .pre .1)
+value-of-requires c κs = (c .before .before .before .before .before .pre .0, env-values (c .before .before .before .before .before .pre .1))
 
 enum-told : tie.Need-enum-told
 enum-told c = search needs

@@ -30,13 +30,13 @@ abbrev μ-loop : tie.MeasureT-loop
 μ-loop root library dir work₀ lim env row cur₀ h₀ at₀ work cur h at = length (rowsOf root library dir (env .slot)) - at
 
 add-at : tie.Need-add-at Inv-loop μ-loop
-add-at c = omega (arith, c .before .before .before .before .pre .1 .1 .1, rows-few (c .before .before .before .before .pre .1 .0) (numberOf (now (c .before .before .before .before .args .dir)) (c .before .before .before .before .args .env .slot)) refl)
+add-at c = omega (arith, c .before .before .before .before .pre .1 .1 .1 .1, rows-few (c .before .before .before .before .pre .1 .1 .0) (numberOf (now (c .before .before .before .before .args .dir)) (c .before .before .before .before .args .env .slot)) refl)
 
 loop-holds : tie.Need-loop-holds Inv-loop μ-loop
-loop-holds c = said-start _ _ _ _ _ _ _ _ (c .before .before .before .before .pre .0) (c .before .before .before .before .pre .1 .0)
+loop-holds c = said-start _ _ _ _ _ _ _ _ (c .before .before .before .before .pre .0) (c .before .before .before .before .pre .1 .0) (c .before .before .before .before .pre .1 .1 .0)
 
 number-requires : tie.Need-number-requires Inv-loop μ-loop
-number-requires c κs = omega (arith, c .before .before .before .before .before .pre .1 .1 .0 .upto, c .before .before .before .before .before .pre .1 .0 .sourced .directory .few, c .before .before .before .before .before .pre .1 .0 .sourced .directory .long)
+number-requires c κs = omega (arith, c .before .before .before .before .before .pre .1 .1 .1 .0 .upto, c .before .before .before .before .before .pre .1 .1 .0 .sourced .directory .few, c .before .before .before .before .before .pre .1 .1 .0 .sourced .directory .long)
 
 select-requires : tie.Need-select-requires Inv-loop μ-loop
 select-requires c κs = search needs
@@ -54,16 +54,16 @@ same-length : tie.Need-same-length Inv-loop μ-loop
 same-length c = c .before .before .before .before .before .loop .inv .long
 
 returns : tie.Need-returns Inv-loop μ-loop
-returns c = said-end _ _ _ _ _ _ _ _ (c .before .before .before .before .before .loop .inv) (rw (sheet-is (c .before .before .before .before .before .before .before .before .before .before .pre .1 .0) _ (c .before .before .before .before .before .before .before .before .before .before .args .env .slot) (c .before .before .before .select .ensures) (c .before .before .before .before .number .ensures)) at (missing Statements (rows (now (c .before .before .before .select .result))) (c .before .before .before .before .before .loop .at) (c .before .before .seek .ensures) (c .enum-told .given .1)))
+returns c = said-end _ _ _ _ _ _ _ _ (c .before .before .before .before .before .loop .inv) (rw (sheet-is (c .before .before .before .before .before .before .before .before .before .before .pre .1 .1 .0) _ (c .before .before .before .before .before .before .before .before .before .before .args .env .slot) (c .before .before .before .select .ensures) (c .before .before .before .before .number .ensures)) at (missing Statements (rows (now (c .before .before .before .select .result))) (c .before .before .before .before .before .loop .at) (c .before .before .seek .ensures) (c .enum-told .given .1)))
 
 add-at-2 : tie.Need-add-at-2 Inv-loop μ-loop
-add-at-2 c = omega (arith, rows-few (c .before .before .before .before .before .before .before .before .before .before .before .pre .1 .0) (c .before .before .before .before .before .number .result) (c .before .before .before .before .select .ensures), stands Statements (rows (now (c .before .before .before .before .select .result))) (c .before .before .before .before .before .before .loop .at) (c .before .before .before .seek .ensures) (c .before .q .given .1) .below)
+add-at-2 c = omega (arith, rows-few (c .before .before .before .before .before .before .before .before .before .before .before .pre .1 .1 .0) (c .before .before .before .before .before .number .result) (c .before .before .before .before .select .ensures), stands Statements (rows (now (c .before .before .before .before .select .result))) (c .before .before .before .before .before .before .loop .at) (c .before .before .before .seek .ensures) (c .before .q .given .1) .below)
 
 row-at-requires : tie.Need-row-at-requires Inv-loop μ-loop
 row-at-requires c κs = search needs
 
 statement-requires : tie.Need-statement-requires Inv-loop μ-loop
-statement-requires c κs = (c .before .before .before .before .before .before .before .before .loop .inv .standing, (c .before .before .before .before .before .before .before .before .loop .inv .lent, (c .before .before .before .before .before .before .before .before .before .before .before .before .before .pre .1 .1 .0, c .before .before .before .before .before .before .before .before .loop .inv .handle)))
+statement-requires c κs = (c .before .before .before .before .before .before .before .before .loop .inv .standing, (c .before .before .before .before .before .before .before .before .loop .inv .env, (c .before .before .before .before .before .before .before .before .loop .inv .lent, (c .before .before .before .before .before .before .before .before .before .before .before .before .before .pre .1 .1 .1 .0, c .before .before .before .before .before .before .before .before .loop .inv .handle))))
 
 enum-known-a : tie.Need-enum-known-a Inv-loop μ-loop
 enum-known-a c = search needs
@@ -75,13 +75,13 @@ same-length-2 : tie.Need-same-length-2 Inv-loop μ-loop
 same-length-2 c = (c .before .before .before .before .statement .kept .1 .1 .1 .0) ∙ (c .before .before .before .before .before .before .before .before .before .before .before .before .before .loop .inv .long)
 
 returns-2 : tie.Need-returns-2 Inv-loop μ-loop
-returns-2 c = said-stop _ _ _ _ _ _ _ _ (c .before .before .before .before .before .before .before .before .before .before .before .before .before .loop .inv) (rw (sheet-is (c .before .before .before .before .before .before .before .before .before .before .before .before .before .before .before .before .before .before .pre .1 .0) _ (c .before .before .before .before .before .before .before .before .before .before .before .before .before .before .before .before .before .before .args .env .slot) (c .before .before .before .before .before .before .before .before .before .before .before .select .ensures) (c .before .before .before .before .before .before .before .before .before .before .before .before .number .ensures)) at (stands Statements (rows (now (c .before .before .before .before .before .before .before .before .before .before .before .select .result))) (c .before .before .before .before .before .before .before .before .before .before .before .before .before .loop .at) (c .before .before .before .before .before .before .before .before .before .before .seek .ensures) (c .before .before .before .before .before .before .before .before .q .given .1))) (rw (sheet-is (c .before .before .before .before .before .before .before .before .before .before .before .before .before .before .before .before .before .before .pre .1 .0) _ (c .before .before .before .before .before .before .before .before .before .before .before .before .before .before .before .before .before .before .args .env .slot) (c .before .before .before .before .before .before .before .before .before .before .before .select .ensures) (c .before .before .before .before .before .before .before .before .before .before .before .before .number .ensures)) at (c .before .before .before .before .before .row-at .ensures)) (c .before .before .before .before .statement .ensures) (c .enum-told2 .given .1)
+returns-2 c = said-stop _ _ _ _ _ _ _ _ (c .before .before .before .before .before .before .before .before .before .before .before .before .before .loop .inv) (rw (sheet-is (c .before .before .before .before .before .before .before .before .before .before .before .before .before .before .before .before .before .before .pre .1 .1 .0) _ (c .before .before .before .before .before .before .before .before .before .before .before .before .before .before .before .before .before .before .args .env .slot) (c .before .before .before .before .before .before .before .before .before .before .before .select .ensures) (c .before .before .before .before .before .before .before .before .before .before .before .before .number .ensures)) at (stands Statements (rows (now (c .before .before .before .before .before .before .before .before .before .before .before .select .result))) (c .before .before .before .before .before .before .before .before .before .before .before .before .before .loop .at) (c .before .before .before .before .before .before .before .before .before .before .seek .ensures) (c .before .before .before .before .before .before .before .before .q .given .1))) (rw (sheet-is (c .before .before .before .before .before .before .before .before .before .before .before .before .before .before .before .before .before .before .pre .1 .1 .0) _ (c .before .before .before .before .before .before .before .before .before .before .before .before .before .before .before .before .before .before .args .env .slot) (c .before .before .before .before .before .before .before .before .before .before .before .select .ensures) (c .before .before .before .before .before .before .before .before .before .before .before .before .number .ensures)) at (c .before .before .before .before .before .row-at .ensures)) (c .before .before .before .before .statement .ensures) (c .enum-told2 .given .1)
 
 loop-less : tie.Need-loop-less Inv-loop μ-loop
-loop-less c = let s = rw (sheet-is (c .before .before .before .before .before .before .before .before .before .before .before .before .before .before .before .before .before .before .before .pre .1 .0) _ (c .before .before .before .before .before .before .before .before .before .before .before .before .before .before .before .before .before .before .before .args .env .slot) (c .before .before .before .before .before .before .before .before .before .before .before .before .select .ensures) (c .before .before .before .before .before .before .before .before .before .before .before .before .before .number .ensures)) at (stands Statements (rows (now (c .before .before .before .before .before .before .before .before .before .before .before .before .select .result))) (c .before .before .before .before .before .before .before .before .before .before .before .before .before .before .loop .at) (c .before .before .before .before .before .before .before .before .before .before .before .seek .ensures) (c .before .before .before .before .before .before .before .before .before .q .given .1)) in omega (arith, s .from, s .below)
+loop-less c = let s = rw (sheet-is (c .before .before .before .before .before .before .before .before .before .before .before .before .before .before .before .before .before .before .before .pre .1 .1 .0) _ (c .before .before .before .before .before .before .before .before .before .before .before .before .before .before .before .before .before .before .before .args .env .slot) (c .before .before .before .before .before .before .before .before .before .before .before .before .select .ensures) (c .before .before .before .before .before .before .before .before .before .before .before .before .before .number .ensures)) at (stands Statements (rows (now (c .before .before .before .before .before .before .before .before .before .before .before .before .select .result))) (c .before .before .before .before .before .before .before .before .before .before .before .before .before .before .loop .at) (c .before .before .before .before .before .before .before .before .before .before .before .seek .ensures) (c .before .before .before .before .before .before .before .before .before .q .given .1)) in omega (arith, s .from, s .below)
 
 loop-again : tie.Need-loop-again Inv-loop μ-loop
-loop-again c = said-more _ _ _ _ _ _ _ _ (c .before .before .before .before .before .before .before .before .before .before .before .before .before .before .loop .inv) (rw (sheet-is (c .before .before .before .before .before .before .before .before .before .before .before .before .before .before .before .before .before .before .before .pre .1 .0) _ (c .before .before .before .before .before .before .before .before .before .before .before .before .before .before .before .before .before .before .before .args .env .slot) (c .before .before .before .before .before .before .before .before .before .before .before .before .select .ensures) (c .before .before .before .before .before .before .before .before .before .before .before .before .before .number .ensures)) at (stands Statements (rows (now (c .before .before .before .before .before .before .before .before .before .before .before .before .select .result))) (c .before .before .before .before .before .before .before .before .before .before .before .before .before .before .loop .at) (c .before .before .before .before .before .before .before .before .before .before .before .seek .ensures) (c .before .before .before .before .before .before .before .before .before .q .given .1))) (rw (sheet-is (c .before .before .before .before .before .before .before .before .before .before .before .before .before .before .before .before .before .before .before .pre .1 .0) _ (c .before .before .before .before .before .before .before .before .before .before .before .before .before .before .before .before .before .before .before .args .env .slot) (c .before .before .before .before .before .before .before .before .before .before .before .before .select .ensures) (c .before .before .before .before .before .before .before .before .before .before .before .before .before .number .ensures)) at (c .before .before .before .before .before .before .row-at .ensures)) (c .before .before .before .before .before .statement .ensures) (c .before .a .given .1)
+loop-again c = said-more _ _ _ _ _ _ _ _ (c .before .before .before .before .before .before .before .before .before .before .before .before .before .before .loop .inv) (rw (sheet-is (c .before .before .before .before .before .before .before .before .before .before .before .before .before .before .before .before .before .before .before .pre .1 .1 .0) _ (c .before .before .before .before .before .before .before .before .before .before .before .before .before .before .before .before .before .before .before .args .env .slot) (c .before .before .before .before .before .before .before .before .before .before .before .before .select .ensures) (c .before .before .before .before .before .before .before .before .before .before .before .before .before .number .ensures)) at (stands Statements (rows (now (c .before .before .before .before .before .before .before .before .before .before .before .before .select .result))) (c .before .before .before .before .before .before .before .before .before .before .before .before .before .before .loop .at) (c .before .before .before .before .before .before .before .before .before .before .before .seek .ensures) (c .before .before .before .before .before .before .before .before .before .q .given .1))) (rw (sheet-is (c .before .before .before .before .before .before .before .before .before .before .before .before .before .before .before .before .before .before .before .pre .1 .1 .0) _ (c .before .before .before .before .before .before .before .before .before .before .before .before .before .before .before .before .before .before .before .args .env .slot) (c .before .before .before .before .before .before .before .before .before .before .before .before .select .ensures) (c .before .before .before .before .before .before .before .before .before .before .before .before .before .number .ensures)) at (c .before .before .before .before .before .before .row-at .ensures)) (c .before .before .before .before .before .statement .ensures) (c .before .a .given .1)
 
 pub statements-spec : {M : Type 1} → statement M
 statements-spec =

@@ -10,11 +10,14 @@ use Rattle.refine.proofs.Looking.{look-law}
 mul-find : tie.Need-mul-find
 mul-find c = search needs
 
+cast-find : tie.Need-cast-find
+cast-find c = search needs
+
 find-requires : tie.Need-find-requires
 find-requires c κs = search needs
 
 returns : tie.Need-returns
-returns c = look-law _ _ _ _ (c .before .before .before .pre .sound .fair) _ (c .find .ensures)
+returns c = look-law (c .before .before .before .before .pre .0 .sound) _ (c .before .before .before .before .pre .1) _ _ (c .find .ensures)
 
 pub look-spec : {M : Type 1} → statement M
-look-spec = tie.close (tie.spec mul-find find-requires returns)
+look-spec = tie.close (tie.spec mul-find cast-find find-requires returns)

@@ -18,6 +18,9 @@ returns c = map-full _ _ _ _ _ _ _ (c .before .if1 .taken) _ (c .too-many .ensur
 mul-enter : tie.Need-mul-enter
 mul-enter c = search needs
 
+cast-t14 : tie.Need-cast-t14
+cast-t14 c = search needs
+
 enter-requires : tie.Need-enter-requires
 enter-requires c κs = search needs
 
@@ -28,7 +31,7 @@ same-length : tie.Need-same-length
 same-length c = search needs
 
 returns-2 : tie.Need-returns-2
-returns-2 c = map-done (c .before .before .before .before .before .before .before .before .before .pre .0 .sound) _ _ _ _ (c .before .before .before .before .before .before .before .before .before .pre .1) (c .before .before .before .before .before .before .if1 .left) (c .before .before .before .enter .kept .0) (c .before .before .before .enter .ensures) _ (c .charged .ensures)
+returns-2 c = map-done (c .before .before .before .before .before .before .before .before .before .before .pre .0 .sound) _ (c .before .before .before .before .before .before .before .before .before .before .pre .1 .0) _ _ _ (c .before .before .before .before .before .before .before .before .before .before .pre .1 .1) (c .before .before .before .before .before .before .before .if1 .left) (c .before .before .before .enter .kept .0) (c .before .before .before .enter .ensures) _ (c .charged .ensures)
 
 pub map-spec : {M : Type 1} → statement M
 map-spec =
@@ -37,6 +40,7 @@ map-spec =
     too-many-requires
     returns
     mul-enter
+    cast-t14
     enter-requires
     charged-requires
     same-length

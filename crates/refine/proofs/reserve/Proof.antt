@@ -40,20 +40,23 @@ mul-enter c = search needs
 add-enter : tie.Need-add-enter
 add-enter c = search needs
 
+cast-t19 : tie.Need-cast-t19
+cast-t19 c = search needs
+
 enter-requires : tie.Need-enter-requires
-enter-requires c κs = reserve-enter _ _ _ (c .before .before .before .before .before .before .before .before .before .before .before .before .args .env) _ (c .before .before .before .before .before .before .before .before .before .before .before .before .pre .0) (c .before .before .before .before .before .before .before .before .before .before .before .before .pre .1) _ (c .before .before .before .before .before .before .before .before .before .before .wide .ensures .same) (c .before .before .before .before .before .before .before .before .if1 .left) (c .before .before .before .before .before .before .if2 .left) _ (c .before .before .before .before .push .kept .0) (c .before .before .before .before .push .ensures)
+enter-requires c κs = reserve-enter _ _ _ (c .before .before .before .before .before .before .before .before .before .before .before .before .before .args .env) _ (c .before .before .before .before .before .before .before .before .before .before .before .before .before .pre .0) (c .before .before .before .before .before .before .before .before .before .before .before .before .before .pre .1) _ (c .before .before .before .before .before .before .before .before .before .before .before .wide .ensures .same) (c .before .before .before .before .before .before .before .before .before .if1 .left) (c .before .before .before .before .before .before .before .if2 .left) _ (c .before .before .before .before .before .push .kept .0) (c .before .before .before .before .before .push .ensures)
 
-add-t20 : tie.Need-add-t20
-add-t20 c = search needs
+add-t19 : tie.Need-add-t19
+add-t19 c = search needs
 
-add-t11 : tie.Need-add-t11
-add-t11 c = search needs
+add-t10 : tie.Need-add-t10
+add-t10 c = search needs
 
 same-length : tie.Need-same-length
 same-length c = search needs
 
 returns-3 : tie.Need-returns-3
-returns-3 c = reserve-done _ _ _ _ _ (c .before .before .before .before .before .before .before .before .before .before .before .before .before .before .before .pre .0) (c .before .before .before .before .before .before .before .before .before .before .before .before .before .before .before .pre .1) _ (c .before .before .before .before .before .before .before .before .before .before .before .before .before .wide .ensures .same) (c .before .before .before .before .before .before .before .before .before .before .before .if1 .left) (c .before .before .before .before .before .before .before .before .before .if2 .left) _ (c .before .before .before .before .before .before .before .push .kept .0) (c .before .before .before .before .before .before .before .push .ensures) _ (c .before .before .enter .kept .0) (c .before .before .enter .ensures)
+returns-3 c = reserve-done _ _ _ _ _ (c .before .before .before .before .before .before .before .before .before .before .before .before .before .before .before .before .pre .0) (c .before .before .before .before .before .before .before .before .before .before .before .before .before .before .before .before .pre .1) _ (c .before .before .before .before .before .before .before .before .before .before .before .before .before .before .wide .ensures .same) (c .before .before .before .before .before .before .before .before .before .before .before .before .if1 .left) (c .before .before .before .before .before .before .before .before .before .before .if2 .left) _ (c .before .before .before .before .before .before .before .before .push .kept .0) (c .before .before .before .before .before .before .before .before .push .ensures) _ (c .before .before .enter .kept .0) (c .before .before .enter .ensures)
 
 pub reserve-spec : {M : Type 1} → statement M
 reserve-spec =
@@ -69,8 +72,9 @@ reserve-spec =
     cast-place
     mul-enter
     add-enter
+    cast-t19
     enter-requires
-    add-t20
-    add-t11
+    add-t19
+    add-t10
     same-length
     returns-3)
