@@ -22,7 +22,6 @@ use Rattle.expansion.specs.Charges.{charge, paid}
 use Rattle.expansion.specs.Values.{Env, value}
 use Rattle.expansion.specs.PlainCopy.{isValue, copyField, copyBinding, somes, withValue}
 use Rattle.expansion.specs.Copy.{copy}
-use Rattle.journal.specs.declared.Record.{Record}
 use Rattle.journal.specs.Records.{tagId, tagField}
 use Rattle.journal.specs.Logs.{scan, revOnto}
 use Rattle.reading.specs.Reading.{fieldsAt, valueAt}
@@ -39,28 +38,21 @@ use Rattle.refine.specs.Contract.{Keepable, KeptAt, Kept}
 use Rattle.refine.proofs.Later.{env-later, later-handle}
 use Rattle.refine.proofs.Keeping.{kept-handle, kept-fields}
 use Rattle.parts.specs.Contract.{sourceOf, rowsOf, nodeIn}
+use Rattle.parts.proofs.Said.{somes-more}
 use Rattle.bindings.specs.Contract.{isFieldOf, boundField, FieldsAfter, FieldDone}
-use Rattle.cycle.specs.Contract.{Here, Yields, Value, Added, list, AddsField, FieldAdded, Fielded, Valued}
+use Rattle.cycle.specs.Contract.{fieldRecord, Here, Yields, Value, Added, list, AddsField, FieldAdded, Fielded, Valued}
 use Rattle.cycle.proofs.Run.{Run, begin, turn, last, end, went, gave, leaf, yields-young, yields-as, since, here-later}
 use Rattle.cycle.proofs.Keeps.{charged, paid-then, keeping, keeping-stop}
 use Rattle.cycle.proofs.Walks.{Mapping, loop-start, loop-again, loop-stop, loop-end}
 
 -- ---- lists of those kept
-pub somes-more : {A : Type 0} (bs : List (Option A)) (b : Option A) → somes (bs ++ (b ∷ [])) ≡ somes bs ++ list b
-unfolding somes
-somes-more [] none = refl
-somes-more [] (some a) = refl
-somes-more (none ∷ bs) b = somes-more bs b
-somes-more (some a ∷ bs) b = ap (λ l. a ∷ l) (somes-more bs b)
-
 pub somes-one : {A : Type 0} (b : Option A) → somes (b ∷ []) ≡ list b
 unfolding somes
 somes-one none = refl
 somes-one (some a) = refl
 
--- the record of a field with a value
-abbrev pub fieldRecord : Row → ℕ → ℕ → Record
-fieldRecord r v h = record { tag = tagField; a = r .a; b = 0; c = 0; d = r .d; e = r .e; f = r .f; g = v; h = h; i = 0; j = 0; k = 0 }
+pub somes-last : {A : Type 0} (bs : List (Option A)) (b : Option A) → somes (bs ++ (b ∷ [])) ≡ somes bs ++ list b
+somes-last bs b = somes-more bs (b ∷ []) ∙ ap (λ l. somes bs ++ l) (somes-one b)
 
 pub field-keepable : {w : List ℕ} {c v h : ℕ} (r : Row) → HandleAt w c tagField h → (r .f ≡ 2 → HandleAt w c tagId v) → Keepable w c (fieldRecord r v h)
 field-keepable r x y = record { least = omega arith; most = omega arith; before = x; value = λ z q. y q }
@@ -96,7 +88,7 @@ module _ (root library dir w : List ℕ) (L : Limits) (t : Counts) (e : code.Env
         same = subst (λ (E : Env). Yields root library L (t₁ .scopes) (λ I. copyField I (copy I depth E) E new (fieldOf (drop q R))) (AddsField (fieldsAt w₁ l)) w₁ t₁ w₂ a) (env-later (since (x .run)) (h .env)) y
 
         pub fields-again : {t₂ : Counts} {v o : ℕ} → a ≡ Done t₂ v o → Fielding w₂ t₂ v (q + 1)
-        fields-again eq = loop-again s x same (since (x .run) .scoped) somes-more eq
+        fields-again eq = loop-again s x same (since (x .run) .scoped) somes-last eq
 
         pub fields-stop : {n i j : ℕ} → a ≡ Refused n i j → Fielded root library dir w L t e new row depth w₂ a
         fields-stop eq = loop-stop s x same (since (x .run) .scoped) eq []

@@ -18,7 +18,7 @@ use Rattle.lookup.specs.declared.walk.Found.the-variants.{At, Nothing}
 use Rattle.lookup.specs.Walk.{rowsAt}
 use Rattle.lookup.proofs.WalkLaws.{front-drop}
 use Rattle.source.specs.Directory.{numberOf, Slot}
-use Rattle.source.specs.Names.{LastField}
+use Rattle.names.specs.Names.{LastField}
 use Rattle.expansion.specs.Input.{Input}
 use Rattle.expansion.specs.Scopes.{Scope}
 use Rattle.expansion.specs.State.{State, Result, refusal, ok, Comp, bindR, _>>=_, _>>_, ret}
@@ -27,8 +27,7 @@ use Rattle.expansion.specs.Values as values
 use Rattle.expansion.specs.Values.{Values, Env, value, src}
 use Rattle.expansion.specs.Instances.{openScope, takeDefault, cloneOption, interfaceValue, store}
 use Rattle.expansion.specs.Copy.{copy}
-use Rattle.journal.specs.declared.Record.{Record}
-use Rattle.journal.specs.Records.{tagId, tagStored}
+use Rattle.journal.specs.Records.{tagStored}
 use Rattle.reading.specs.Reading.{valuesAt}
 use Rattle.reading.specs.Fair.{HandleAt}
 use Rattle.reading.proofs.Chains.{values-fixed}
@@ -39,23 +38,15 @@ use Rattle.refine.specs.declared.Answer.{Answer}
 use Rattle.refine.specs.declared.Answer.the-variants.{Done, Refused}
 use Rattle.refine.specs.Sound.{inputOf, Standing, Later, envOf}
 use Rattle.refine.specs.Does.{at, IfDone}
-use Rattle.refine.specs.Contract.{Keepable, Kept, OpenedAt, Opened}
+use Rattle.refine.specs.Contract.{Storable, StoredAt, Storing, OpenedAt, Opened}
 use Rattle.refine.proofs.Later.{later-standing, later-handle}
-use Rattle.refine.proofs.Keeping.{kept-handle, kept-values}
 use Rattle.refine.proofs.Opening.{open-env, env-open}
 use Rattle.parts.specs.Contract.{sourceOf, rowsOf, nodeIn}
 use Rattle.parts.proofs.Lending.{lent-later}
 use Rattle.bindings.specs.Contract.{GivenDone}
 use Rattle.cycle.specs.Contract.{Here, AtRow, Yields, Is, Value, Stored, pickOf, givenBy, Given, Valued}
 use Rattle.cycle.proofs.Run.{Run, begin, turn, end, go, halt, through, went, gave, leaf, yields-young, yields-as}
-use Rattle.cycle.proofs.Keeps.{charged, keeping, keeping-stop}
-
--- the record of a stored value
-abbrev pub storedRecord : ℕ → ℕ → ℕ → ℕ → ℕ → Record
-storedRecord name ty class v h = record { tag = tagStored; a = name; b = 0; c = 0; d = 0; e = ty; f = class; g = v; h = h; i = 0; j = 0; k = 0 }
-
-stored-keepable : {w : List ℕ} {c v h : ℕ} (name ty class : ℕ) → HandleAt w c tagStored h → (class ≡ 2 → HandleAt w c tagId v) → Keepable w c (storedRecord name ty class v h)
-stored-keepable name ty class x y = record { least = omega arith; most = omega arith; before = x; value = λ z q. y q }
+use Rattle.cycle.proofs.Keeps.{charged, stored-yields, charging, keeping-stop}
 
 -- what a value is stored as
 abbrev put : ℕ → Values → FieldValue → Values
@@ -83,14 +74,13 @@ module _ {root library dir w : List ℕ} {L : Limits} {t : Counts} {e : code.Env
     stored-stop u q = keeping-stop (here .standing .sound) (put name (valuesAt u h)) y q
 
     module _ (hl : HandleAt w (t .charges) tagStored h) {s : Counts} {v p : ℕ} (q : a ≡ Done s v p) where
-      stored-ready : Keepable w′ (s .charges) (storedRecord name (r .e) (r .f) v h)
-      stored-ready = stored-keepable name (r .e) (r .f) (later-handle (went y q) hl) (λ z. gave y q .ids (rw is-front z))
+      stored-ready : Storable w′ (s .charges) (r .f) v h
+      stored-ready = record { before = later-handle (went y q) hl; value = λ z. gave y q .ids (rw is-front z) }
 
-      stored-kept : {w″ : List ℕ} {b : Answer} → Kept L w′ s (storedRecord name (r .e) (r .f) v h) w″ b → Yields root library L (t .scopes) (storing w) Stored w t w″ b
-      stored-kept k = keeping (here .standing .sound) (put name (valuesAt w h)) y q k (λ t″ v″ p″ x. record {
-        handle = kept-handle x stored-ready;
-        all = sym (kept-values x stored-ready refl ∙ rw (values-fixed (went y q .kept) h (hl .low), gave y q .value, is-front));
-      })
+      stored-kept : {w″ : List ℕ} {b : Answer} → Storing L w′ s name (r .e) (r .f) v h w″ b → Yields root library L (t .scopes) (storing w) Stored w t w″ b
+      stored-kept k =
+          charging (here .standing .sound) (put name (valuesAt w h)) y {K = StoredAt w′ name (r .e) (r .f) v h} q (stored-yields (t .scopes) k)
+          (λ t″ v″ p″ x. record { handle = x .handle; all = sym (x .list ∙ rw (values-fixed (went y q .kept) h (hl .low), gave y q .value, is-front)) })
 
 -- ---- `given`
 -- the Env of a default's scope
@@ -155,10 +145,10 @@ module _ (root library dir w : List ℕ) (L : Limits) (t : Counts) (e : code.Env
       given-stop z = as-given b (stored-stop f depth (d .c) h here r ir y w z)
 
       module _ (hl : HandleAt w (t .charges) tagStored h) {s : Counts} {v p : ℕ} (z : a ≡ Done s v p) where
-        pub given-ready : Standing L w′ s × Keepable w′ (s .charges) (storedRecord (d .c) (r .e) (r .f) v h)
+        pub given-ready : Standing L w′ s × Storable w′ (s .charges) (r .f) v h
         given-ready = (later-standing (went y z) (here .standing), stored-ready f depth (d .c) h here r ir y hl z)
 
-        pub given-kept : {w″ : List ℕ} {o : Answer} → Kept L w′ s (storedRecord (d .c) (r .e) (r .f) v h) w″ o → Given root library dir w L t e row slot proto q k h depth w″ o
+        pub given-kept : {w″ : List ℕ} {o : Answer} → Storing L w′ s (d .c) (r .e) (r .f) v h w″ o → Given root library dir w L t e row slot proto q k h depth w″ o
         given-kept kp = as-given b (stored-kept f depth (d .c) h here r ir y hl z kp)
 
   -- no field, and no default
@@ -231,8 +221,8 @@ module _ (root library dir w : List ℕ) (L : Limits) (t : Counts) (e : code.Env
           default-value-stop c = as-default (stored-stop q depth (d .c) h default-here d is v w c)
 
           module _ (hl : HandleAt w (t .charges) tagStored h) {s : Counts} {g p′ : ℕ} (said : b ≡ Done s g p′) where
-            pub default-ready : Standing L w′ s × Keepable w′ (s .charges) (storedRecord (d .c) (d .e) (d .f) g h)
+            pub default-ready : Standing L w′ s × Storable w′ (s .charges) (d .f) g h
             default-ready = (later-standing (went v said) (default-here .standing), stored-ready q depth (d .c) h default-here d is v (later-handle y hl) said)
 
-            pub default-kept : {w″ : List ℕ} {u : Answer} → Kept L w′ s (storedRecord (d .c) (d .e) (d .f) g h) w″ u → Given root library dir w L t e row slot proto q k h depth w″ u
+            pub default-kept : {w″ : List ℕ} {u : Answer} → Storing L w′ s (d .c) (d .e) (d .f) g h w″ u → Given root library dir w L t e row slot proto q k h depth w″ u
             default-kept kp = as-default (rw (← values-fixed (y .kept) h (hl .low)) (stored-kept q depth (d .c) h default-here d is v (later-handle y hl) said kp))

@@ -11,10 +11,10 @@ use Rattle.refine.specs.declared.Counts.{Counts}
 use Rattle.refine.specs.declared.Answer.{Answer}
 use Rattle.refine.specs.declared.Answer.the-variants.{Done, Refused}
 use Rattle.refine.specs.Sound.{Sound}
-use Rattle.refine.specs.Contract.{KeptAt, Kept}
+use Rattle.refine.specs.Contract.{KeptAt, Kept, StoredAt, Storing}
 use Rattle.parts.specs.Contract.{sourceOf}
 use Rattle.cycle.specs.Contract.{Yields}
-use Rattle.cycle.proofs.Run.{Run, begin, end, go, halt, leaf}
+use Rattle.cycle.proofs.Run.{Run, begin, end, go, halt, gave, leaf}
 
 -- n, then a charge; u is made of what n gave
 abbrev pub charged : {A C : Type 0} → (Input → Comp A) → (A → C) → Input → Comp C
@@ -33,20 +33,26 @@ paid-then {A} {C} I m u st = by (m st)
     by (refusal c i j) = refl
     by (ok a s) = most a (charge I s)
 
--- a charge with a record
+-- a charge with a record of a list, or of a stored value
 pub kept-yields : {root library : List ℕ} {L : Limits} (young : ℕ) {w : List ℕ} {t : Counts} {r : Record} {w′ : List ℕ} {a : Answer} → Kept L w t r w′ a → Yields root library L young charge (λ u s v p z. KeptAt w t r u s v) w t w′ a
 kept-yields {root} {library} young k = leaf tt (λ D. k .does (sourceOf root library D) young) (k .done)
 
+pub stored-yields : {root library : List ℕ} {L : Limits} (young : ℕ) {w : List ℕ} {t : Counts} {name ty class payload h : ℕ} {w′ : List ℕ} {a : Answer} → Storing L w t name ty class payload h w′ a → Yields root library L young charge (λ u s v p z. StoredAt w name ty class payload h u s v) w t w′ a
+stored-yields {root} {library} young k = leaf tt (λ D. k .does (sourceOf root library D) young) (k .done)
+
 module _ {root library : List ℕ} {L : Limits} {young : ℕ} {A C : Type 0} {n : Input → Comp A} {P : List ℕ → Counts → ℕ → ℕ → A → Type 0} {w : List ℕ} {t : Counts} {w′ : List ℕ} {a : Answer} (so : Sound L w t) (u : A → C) {Q : List ℕ → Counts → ℕ → ℕ → C → Type 0} (y : Yields root library L young n P w t w′ a) where
-  pub keeping : {s : Counts} {v p : ℕ} {r : Record} {w″ : List ℕ} {b : Answer} → a ≡ Done s v p → Kept L w′ s r w″ b → ((t″ : Counts) (h p″ : ℕ) → KeptAt w′ s r w″ t″ h → Q w″ t″ h p″ (u (y .given))) → Yields root library L young (charged n u) Q w t w″ b
-  keeping {s} {v} {p} {r} {w″} {b} e k q = by b k
+  pub charging : {s : Counts} {v p : ℕ} {K : List ℕ → Counts → ℕ → Type 0} {w″ : List ℕ} {b : Answer} → a ≡ Done s v p → Yields root library L young charge (λ u s v p z. K u s v) w′ s w″ b → ((t″ : Counts) (h p″ : ℕ) → K w″ t″ h → Q w″ t″ h p″ (u (y .given))) → Yields root library L young (charged n u) Q w t w″ b
+  charging {s} {v} {p} {K} {w″} {b} e k q = by b k
     where
       run : Run root library L young (charged n u) w t (λ I. charge I >>= (λ z. ret (u (y .given)))) w′ s
       run = go (λ I x. charge I >>= (λ z. ret (u x))) (begin young (charged n u) so) y e
 
-      by : (b : Answer) → Kept L w′ s r w″ b → Yields root library L young (charged n u) Q w t w″ b
-      by (Done t″ h o) k = end (go (λ I z. ret (u (y .given))) run (kept-yields young k) refl) (q t″ h o (k .done))
-      by (Refused c i j) k = halt (λ I z. ret (u (y .given))) run (kept-yields young k) refl (u (y .given))
+      by : (b : Answer) → Yields root library L young charge (λ u s v p z. K u s v) w′ s w″ b → Yields root library L young (charged n u) Q w t w″ b
+      by (Done t″ h o) k = end (go (λ I z. ret (u (y .given))) run k refl) (q t″ h o (gave k refl))
+      by (Refused c i j) k = halt (λ I z. ret (u (y .given))) run k refl (u (y .given))
+
+  pub keeping : {s : Counts} {v p : ℕ} {r : Record} {w″ : List ℕ} {b : Answer} → a ≡ Done s v p → Kept L w′ s r w″ b → ((t″ : Counts) (h p″ : ℕ) → KeptAt w′ s r w″ t″ h → Q w″ t″ h p″ (u (y .given))) → Yields root library L young (charged n u) Q w t w″ b
+  keeping {s} {v} {p} {r} e k q = charging {K = λ u t″ h. KeptAt w′ s r u t″ h} e (kept-yields young k) q
 
   pub keeping-stop : {c i j : ℕ} → a ≡ Refused c i j → Yields root library L young (charged n u) Q w t w′ a
   keeping-stop e = halt (λ I x. charge I >>= (λ z. ret (u x))) (begin young (charged n u) so) y e (u (y .given))

@@ -3,13 +3,14 @@ use mathlib.Core.Path.{_≡_, refl, sym, ap, subst, _∙_}
 use mathlib.Core.Bool.{true}
 use mathlib.Core.List.{List, [], _∷_, map}
 use mathlib.Core.Option.{Option, none, some}
-use Prim.Native.Nat.{ℕ, _-_}
+use Prim.Native.Nat.{ℕ, _+_, _-_}
 use native.Mathlib.Omega.{arith}
 use lib.ListN.{length, drop, getD, set}
 use Rattle.ast.specs.Ast.{NodeOrigin, BodyElement, FieldValue, FieldBinding, Field, InterfaceDecl, Statement, Node}
 use Rattle.sheet.specs.declared.row.Row.{Row}
 use Rattle.sheet.specs.Rows.{blank, front}
 use Rattle.sheet.specs.Parse.{originOf, nodeOf}
+use Rattle.lookup.specs.Walk.{Bare}
 use Rattle.lookup.proofs.WalkLaws.{front-drop}
 use Rattle.expansion.specs.Input.{Input}
 use Rattle.expansion.specs.State.{State, Result, refusal, ok, Comp, bindR, _>>=_, _>>_, ret, mapM, withNodes}
@@ -34,8 +35,11 @@ use Rattle.refine.proofs.Later.{later-trans, later-handle, later-node, env-late
 use Rattle.refine.proofs.Filling.{fill-later, fill-does}
 use Rattle.refine.proofs.Calculus as calculus
 use Rattle.parts.specs.Contract.{sourceOf, rowsOf, nodeIn, isSome, keptTarget, keptBinding, keptField, StatementsKept, Stating, Ordering}
+use Rattle.parts.proofs.Said.{said-start, said-end}
+use Rattle.parts.proofs.Ordered.{order-start, order-end}
 use Rattle.cycle.specs.Contract.{Here, Yields, Origin, Plained, Origined, Fields, Fielded, Interfaces, Interfaced}
 use Rattle.cycle.proofs.Run.{Run, begin, turn, go, halt, through, leaf, went, gave, since, yields-young, here-later}
+use Rattle.cycle.proofs.InterfaceLaws.{interfaces-start, interfaces-end}
 
 -- ---- what holds of the answer of a step, if it is no refusal
 abbrev IfOk : {A : Type 0} → (A → Type 0) → Result A → Type 0
@@ -305,3 +309,20 @@ module _ (root library dir w : List ℕ) (L : Limits) (t : Counts) (e : code.Env
                                 through (turn run-6 (λ I. filled new (nodeBy w₆ (r .a) (r .b) (r .c) from f i s b 0)) (λ D. rw all-made))
                                 (leaf 0 (λ D. fill-does (plain-here-6 .standing .sound) node-here (r .a) (r .b) (r .c) from f i s b (later-handle from-3 (gave fields q₃ .handle)) (later-handle from-4 (gave interfaces q₄ .handle)) (later-handle from-5 (said .handle)) ordered-handle long p (sourceOf root library D) (t .scopes) place)
                                 (record { value = refl; node = later-node (fill-later (plain-here-6 .standing .sound) node-here (r .a) (r .b) (r .c) from f i s b (later-handle from-3 (gave fields q₃ .handle)) (later-handle from-4 (gave interfaces q₄ .handle)) (later-handle from-5 (said .handle)) ordered-handle long p (t .scopes)) node-here }))
+
+              -- ---- a node with fields only gets them at once
+              module _ (z : Bare R (row + 1)) where
+                no-interfaces : Interfaced root library dir w₃ L t₃ e new row depth w₃ (Done t₃ 0 0)
+                no-interfaces = interfaces-end root library dir w₃ L t₃ e new row depth plain-here-3 (interfaces-start root library dir w₃ L t₃ e new row depth plain-here-3) (z .interface)
+
+                no-statements : Stating L root library dir w₃ t₃ e row w₃ (Done t₃ 0 0)
+                no-statements = said-end L root library dir w₃ t₃ e row (said-start L root library dir w₃ t₃ e row (plain-here-3 .standing) (plain-here-3 .env) (plain-here-3 .lent)) (z .statements)
+
+                no-order : Ordering L root library dir w₃ t₃ e row w₃ (Done t₃ 0 0)
+                no-order = order-end L root library dir w₃ t₃ e row (order-start L root library dir w₃ t₃ e row (plain-here-3 .standing) (plain-here-3 .env)) (z .bodyOrder)
+
+                pub bare-fillable : Fillable w₃ place
+                bare-fillable = plain-fillable no-interfaces refl no-statements refl no-order refl
+
+                pub bare-done : (r : Row) → r ≡ getD R row blank → {w₇ : List ℕ} → length w₇ ≡ length w₃ → Pushed w₃ w₇ (place - 1) (contentsOf w₃ (place - 1) (r .a) (r .b) (r .c) from f 0 0 0) → Plained root library dir w L t e id row depth w₇ (Done t₃ new place)
+                bare-done r is long p = plain-done no-interfaces refl no-statements refl no-order refl r is long p

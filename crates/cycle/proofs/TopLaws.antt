@@ -34,7 +34,7 @@ use Rattle.refine.specs.declared.Counts.{Counts}
 use Rattle.refine.specs.declared.Env as code
 use Rattle.refine.specs.declared.Answer.{Answer}
 use Rattle.refine.specs.declared.Answer.the-variants.{Done, Refused}
-use Rattle.refine.specs.Sound.{Source, inputOf, Standing, Later, EnvAt, envOf}
+use Rattle.refine.specs.Sound.{Source, inputOf, nothingYet, Standing, Later, EnvAt, envOf}
 use Rattle.refine.specs.Does.{at, IfDone, Does, Doing}
 use Rattle.refine.specs.Contract.{Keepable, Kept, charged as counted, OpenedAt, Opened}
 use Rattle.refine.proofs.Beginning.{state-none}
@@ -46,12 +46,13 @@ use Rattle.refine.proofs.Opening.{open-env, env-open}
 use Rattle.refine.proofs.Calculus as calculus
 use Rattle.parts.specs.Contract.{sourceOf, Lent, statementAt, Stated, Routed, ExternStated}
 use Rattle.parts.proofs.Lending.{lent-later}
+use Rattle.parts.proofs.Said.{said-same}
 use Rattle.source.proofs.SourcedLaws.{slot-root, number-root}
-use Rattle.cycle.specs.Contract.{Here, Yields, Added, list, AddsStatement, Copied, StatementAdded, Tops as AllTops, TopsOf, nothingYet, Blank, Topped}
+use Rattle.cycle.specs.Contract.{Here, Yields, Added, list, AddsStatement, Copied, StatementAdded, Tops as AllTops, TopsOf, Blank, Topped}
 use Rattle.cycle.proofs.Run.{Run, begin, turn, last, end, went, gave, leaf, yields-as, since, here-later}
 use Rattle.cycle.proofs.Keeps.{charged, paid-then, keeping, keeping-stop}
 use Rattle.cycle.proofs.Walks.{Mapping, loop-start, loop-again, loop-stop, loop-end}
-use Rattle.cycle.proofs.FieldLaws.{somes-more}
+use Rattle.cycle.proofs.FieldLaws.{somes-last}
 
 -- the record of a statement that is a kind and an id
 abbrev pub statementRecord : ℕ → ℕ → ℕ → Record
@@ -69,10 +70,6 @@ past x y z u d (suc zero) p q r s = absurd (q refl)
 past x y z u d (suc (suc zero)) p q r s = absurd (r refl)
 past x y z u d (suc (suc (suc zero))) p q r s = absurd (s refl)
 past x y z u d (suc (suc (suc (suc n)))) p q r s = refl
-
-said-same : (l : List Row) → statementOf l ≡ statementOf (front l ∷ [])
-unfolding statementOf routeOf
-said-same l = refl
 
 -- ---- one statement
 module _ (root library dir w : List ℕ) (L : Limits) (t : Counts) (e : code.Env) (row l depth : ℕ) (h : Here root library dir w L t e) (hl : HandleAt w (t .charges) tagStatement l) {r : Row} (is : r ≡ getD (rows root) row blank) where
@@ -194,7 +191,7 @@ module _ (root library dir w : List ℕ) (L : Limits) (t : Counts) (e : code.Env
         same = subst (λ (E : Env). Yields root library L (t₁ .scopes) (λ I. statement I (copy I depth E) E (statementOf (drop q (rows root)))) (AddsStatement (statementsAt w₁ l)) w₁ t₁ w₂ a) (env-later (since (x .run)) (h .env)) y
 
         pub tops-again : {t₂ : Counts} {v o : ℕ} → a ≡ Done t₂ v o → Topping w₂ t₂ v (q + 1)
-        tops-again eq = loop-again s x same (since (x .run) .scoped) somes-more eq
+        tops-again eq = loop-again s x same (since (x .run) .scoped) somes-last eq
 
         pub tops-stop : {n i j : ℕ} → a ≡ Refused n i j → TopsOf root library w L t e row depth w₂ a
         tops-stop eq = loop-stop s x same (since (x .run) .scoped) eq []

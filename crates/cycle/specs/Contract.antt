@@ -22,6 +22,7 @@ use Rattle.expansion.specs.PlainCopy.{copyOrigin, copyField, copyInterface, som
 use Rattle.expansion.specs.Instances.{Body, interfaceValue, store, values, bodyStatement, instantiate}
 use Rattle.expansion.specs.Copy.{copy}
 use Rattle.expansion.specs.Expand.{statement, statements}
+use Rattle.journal.specs.declared.Record.{Record}
 use Rattle.journal.specs.Records.{tagId, tagField, tagInterface, tagStatement, tagStored}
 use Rattle.reading.specs.Reading.{valueAt, fieldsAt, interfacesAt, statementsAt, valuesAt, bodyOf}
 use Rattle.reading.specs.Fair.{HandleAt, NodeAt}
@@ -31,7 +32,7 @@ use Rattle.refine.specs.declared.Counts.{Counts}
 use Rattle.refine.specs.declared.Env as code
 use Rattle.refine.specs.declared.Answer.{Answer}
 use Rattle.refine.specs.declared.Answer.the-variants.{Done, Refused}
-use Rattle.refine.specs.Sound.{inputOf, Standing, Later, EnvAt, envOf}
+use Rattle.refine.specs.Sound.{inputOf, nothingYet, Standing, Later, EnvAt, envOf}
 use Rattle.refine.specs.Does.{resultOf, IfDone, Does}
 use Rattle.parts.specs.Contract.{sourceOf, Lent, rowsOf, nodeIn}
 
@@ -123,6 +124,10 @@ pub record InBody (root library dir w : List ℕ) (L : Limits) (t : Counts) (e i
   pub opened : inner .scope < t .scopes
   pub rooted : 0 < place → NodeAt w (t .charges) out place
   pub unrecorded : Unrecorded w (t .charges) (inner .scope)
+
+-- the record of a field with a value
+abbrev pub fieldRecord : Row → ℕ → ℕ → Record
+fieldRecord r v h = record { tag = tagField; a = r .a; b = 0; c = 0; d = r .d; e = r .e; f = r .f; g = v; h = h; i = 0; j = 0; k = 0 }
 
 -- the PROTO of a slot's document
 abbrev pub pickOf : List ℕ → ℕ → ℕ → Pick
@@ -220,9 +225,6 @@ StatementAdded root library w L t e row h depth =
 abbrev pub TopsOf : (root library w : List ℕ) → Limits → Counts → code.Env → (row depth : ℕ) → (w′ : List ℕ) → Answer → Type 0
 TopsOf root library w L t e row depth =
     Yields root library L (t .scopes) (λ I. mapM (statement I (copy I depth (envOf w e)) (envOf w e)) (statementsOf (rest (drop row (rows root))))) Tops w t
-
-abbrev pub nothingYet : Counts
-nothingYet = record { nodes = 0; scopes = 0; externs = 0; charges = 0 }
 
 -- no record stands yet
 pub record Blank (root library dir w : List ℕ) (L : Limits) : Type 0 where

@@ -16,15 +16,18 @@ use sheet::row::Row;
 use source::directory;
 use source::instance::Target;
 ghost use mathlib.Core.Path.{_≡_};
+ghost use mathlib.Core.Bool.{true};
 ghost use Prim.Native.Nat.{_<_};
 ghost use lib.ListN.{length, getD};
 ghost use Rattle.sheet.specs.Rows.{rows, blank};
-ghost use Rattle.lookup.specs.Walk.{Sought};
+ghost use Rattle.lookup.specs.Walk.{Sought, Bare};
 ghost use Rattle.source.specs.Directory.{Slot};
 ghost use Rattle.journal.specs.Records.{tagField, tagInterface, tagStatement, tagStored, Wide};
 ghost use Rattle.reading.specs.Fair.{HandleAt};
 ghost use Rattle.parts.specs.Contract.{rowsOf};
-ghost use Rattle.cycle.specs.Contract.{Here, AtRow, Copied, Plained, Origined, Fielded, FieldAdded, Interfaced, InterfaceAdded, Valued, Instanced, ValuesOf, Given, InBody, BodyOf, StatementOf, keptOf, StatementAdded, TopsOf, Blank, Topped};
+ghost use Rattle.refine.specs.Sound.{Standing};
+ghost use Rattle.refine.specs.Contract.{Keepable, Kept};
+ghost use Rattle.cycle.specs.Contract.{fieldRecord, Here, AtRow, Copied, Plained, Origined, Fielded, FieldAdded, Interfaced, InterfaceAdded, Valued, Instanced, ValuesOf, Given, InBody, BodyOf, StatementOf, keptOf, StatementAdded, TopsOf, Blank, Topped};
 
 const NONE: u32 = 4294967295;
 
@@ -51,6 +54,15 @@ fn next<'a>(
 {
     let sheet = lookup::rows::select(root, library, directory::number(dir, slot));
     walk::seek(sheet, part, at)
+}
+
+// Whether a node of a slot's document has fields only, from the row after its own on.
+fn bare<'a>(root: &'a [u32], library: &'a [u32], dir: &[u32], slot: u32, at: usize) -> bool
+    requires { ⌜ slot < length (now dir) ⌝ }
+    ensures { λ b. ⌜ (b ≡ true → Bare (rowsOf (now (root .entry)) (now (library .entry)) (now (dir .entry)) slot) at) ⌝ }
+{
+    let sheet = lookup::rows::select(root, library, directory::number(dir, slot));
+    walk::bare(sheet, at)
 }
 
 fn wide(x: u32) -> usize
@@ -118,7 +130,7 @@ pub fn copy<'a>(
     requires { ⌜ Here (now root) (now library) (now dir) (now work) lim st env ⌝ }
     ensures { λ a. ⌜ Copied (now (root .entry)) (now (library .entry)) (now (work .entry)) lim st env id depth (now (work .exit)) a ⌝ }
 {
-    if let journal::Found::At(r) = refine::look(work, lim, st, env.scope, id) {
+    if let journal::Found::At(r) = refine::look(work, lim, st, env, id) {
         return Answer::Done {
             st: st,
             value: journal::word(work, r, 3),
@@ -204,6 +216,15 @@ fn plain<'a>(
     else {
         return a;
     };
+    let r = row_of(root, library, dir, env.slot, row);
+    if bare(root, library, dir, env.slot, row + 1) {
+        refine::fill(work, place, r.a, r.b, r.c, from, fs, 0, 0, 0);
+        return Answer::Done {
+            st: s2,
+            value: new,
+            place: place,
+        };
+    }
     let a = interfaces(root, library, dir, work, lim, s2, env, new, row, depth);
     let Answer::Done {
         st: s3,
@@ -231,7 +252,6 @@ fn plain<'a>(
     else {
         return a;
     };
-    let r = row_of(root, library, dir, env.slot, row);
     refine::fill(work, place, r.a, r.b, r.c, from, fs, is, ss, os);
     Answer::Done {
         st: s5,
@@ -283,6 +303,33 @@ fn fields<'a>(
     }
 }
 
+// The field of a row with a value, behind those of a handle.
+fn add_field(work: &mut [u32], lim: Limits, st: Counts, r: Row, v: u32, h: u32) -> Answer
+    requires { ⌜ Standing lim (now work) st ⌝ }
+    requires { ⌜ Keepable (now work) (st .charges) (fieldRecord r v h) ⌝ }
+    ensures { λ a. ⌜ Kept lim (now (work .entry)) st (fieldRecord r v h) (now (work .exit)) a ⌝ }
+{
+    refine::keep(
+        work,
+        lim,
+        st,
+        Record {
+            tag: 5,
+            a: r.a,
+            b: 0,
+            c: 0,
+            d: r.d,
+            e: r.e,
+            f: r.f,
+            g: v,
+            h,
+            i: 0,
+            j: 0,
+            k: 0,
+        },
+    )
+}
+
 fn field<'a>(
     root: &'a [u32],
     library: &'a [u32],
@@ -305,6 +352,12 @@ fn field<'a>(
     if r.b == 1 {
         return bindings::is_field(work, lim, st, env, new, r, h);
     }
+    if r.f != 2 {
+        return add_field(work, lim, st, r, r.g, h);
+    }
+    let Found::At(_) = next(root, library, dir, env.slot, Part::Ids, row + 1) else {
+        return add_field(work, lim, st, r, 0, h);
+    };
     let a = value(root, library, dir, work, lim, st, env, row, depth);
     let Answer::Done {
         st: s,
@@ -314,25 +367,7 @@ fn field<'a>(
     else {
         return a;
     };
-    refine::keep(
-        work,
-        lim,
-        s,
-        Record {
-            tag: 5,
-            a: r.a,
-            b: 0,
-            c: 0,
-            d: r.d,
-            e: r.e,
-            f: r.f,
-            g: v,
-            h: h,
-            i: 0,
-            j: 0,
-            k: 0,
-        },
-    )
+    add_field(work, lim, s, r, v, h)
 }
 
 // The interfaces of the node at a row.
@@ -710,25 +745,7 @@ fn given<'a>(
         else {
             return a;
         };
-        return refine::keep(
-            work,
-            lim,
-            s,
-            Record {
-                tag: 9,
-                a: d.c,
-                b: 0,
-                c: 0,
-                d: 0,
-                e: r.e,
-                f: r.f,
-                g: v,
-                h: h,
-                i: 0,
-                j: 0,
-                k: 0,
-            },
-        );
+        return refine::store(work, lim, s, d.c, r.e, r.f, v, h);
     }
     if d.f == 0 {
         return Answer::Done {
@@ -771,25 +788,7 @@ fn given<'a>(
     else {
         return b;
     };
-    refine::keep(
-        work,
-        lim,
-        s,
-        Record {
-            tag: 9,
-            a: d.c,
-            b: 0,
-            c: 0,
-            d: 0,
-            e: d.e,
-            f: d.f,
-            g: v,
-            h: h,
-            i: 0,
-            j: 0,
-            k: 0,
-        },
-    )
+    refine::store(work, lim, s, d.c, d.e, d.f, v, h)
 }
 
 // The statements of a PROTO's body. The first Node is the root: its copy, and the place of its record; place 0 for none.
@@ -884,7 +883,7 @@ fn statement<'a>(
             return a;
         };
         if place == 0 {
-            return refine::map(work, lim, s, env.scope, id, o, p);
+            return refine::map(work, lim, s, env, id, o, p);
         }
         let b = refine::own(
             work,
@@ -1002,7 +1001,7 @@ fn top_statement<'a>(
         return parts::extern_statement(root, library, dir, work, lim, st, 0, r.b, h);
     }
     if r.a == 3 {
-        return parts::route(work, lim, st, env.scope, r, h);
+        return parts::route(work, lim, st, env, r, h);
     }
     refine::keep(
         work,

@@ -53,7 +53,7 @@ returns-4 : tie.Need-returns-4
 returns-4 c = top-extern _ _ _ _ _ _ _ _ _ (c .before .before .before .before .before .before .before .before .before .before .before .before .before .before .before .args .depth) (c .before .before .before .before .before .before .before .before .before .before .before .before .before .before .before .pre .0) (c .before .before .before .before .before .before .before .before .before .before .before .before .before .before .before .pre .1 .1) (c .before .before .before .before .before .before .before .before .before .before .row-at .ensures) (c .before .before .before .before .if3 .taken) (c .before .before .before .before .before .before .before .before .before .before .before .before .before .before .before .pre .1 .0) (c .before .before .extern-statement .ensures)
 
 route-requires : tie.Need-route-requires
-route-requires c κs = (c .before .before .before .before .before .before .before .before .before .before .before .before .before .before .pre .0 .standing, c .before .before .before .before .before .before .before .before .before .before .before .before .before .before .pre .1 .1)
+route-requires c κs = (c .before .before .before .before .before .before .before .before .before .before .before .before .before .before .pre .0 .standing, (c .before .before .before .before .before .before .before .before .before .before .before .before .before .before .pre .0 .env, c .before .before .before .before .before .before .before .before .before .before .before .before .before .before .pre .1 .1))
 
 same-length-4 : tie.Need-same-length-4
 same-length-4 c = search needs

@@ -42,6 +42,8 @@ use Rattle.bindings.proofs.is_field.Reads as is-field-reads
 use Rattle.bindings.proofs.is_given.Reads as is-given-reads
 use Rattle.bindings.proofs.is_interface.Reads as is-interface-reads
 use Rattle.bindings.proofs.record_instance.Reads as record-instance-reads
+use Rattle.expander.proofs.add_field.Reads as add-field-reads
+use Rattle.expander.proofs.bare.Reads as bare-reads
 use Rattle.expander.proofs.kept.Reads as kept-reads
 use Rattle.expander.proofs.next.Reads as next-reads
 use Rattle.expander.proofs.origin.Reads as origin-reads
@@ -58,6 +60,7 @@ use Rattle.refine.proofs.map.Reads as map-reads
 use Rattle.refine.proofs.open.Reads as open-reads
 use Rattle.refine.proofs.own.Reads as own-reads
 use Rattle.refine.proofs.reserve.Reads as reserve-reads
+use Rattle.refine.proofs.store.Reads as store-reads
 use Rattle.source.proofs.directory.number.Reads as number-reads
 use Rattle.source.proofs.last_field.Reads as last-field-reads
 use Rattle.source.proofs.node.Reads as node-reads
@@ -68,7 +71,8 @@ use Prim.Native.Nat.{_+_, _*_, _-_}
 use lib.ListN.{length}
 use mathlib.Core.Path.{_∙_}
 use Rattle.source.proofs.SourcedLaws.{slot-within}
-use Rattle.cycle.proofs.PlainLaws.{plain-stop-1, plain-here-1, plain-stop-2, plain-here-2, plain-stop-3, plain-here-3, plain-stop-4, plain-here-4, plain-stop-5, plain-here-5, plain-stop-6, plain-fillable, plain-done}
+use Rattle.cycle.proofs.Walks.{rows-few}
+use Rattle.cycle.proofs.PlainLaws.{plain-stop-1, plain-here-1, plain-stop-2, plain-here-2, plain-stop-3, plain-here-3, plain-stop-4, plain-here-4, plain-stop-5, plain-here-5, plain-stop-6, plain-fillable, plain-done, bare-fillable, bare-done}
 use native.Mathlib.Omega.{arith}
 use borrow.Author.Needs.{needs}
 
@@ -117,8 +121,26 @@ plain-same-length-3 t c = search needs
 pub plain-returns-3 : (t : ℕ) → plain-lts.Need-returns-3 (plain-cs t) (plain-at t) plain.Post
 plain-returns-3 t c = plain-stop-3 _ _ _ _ _ _ _ (c .before .before .before .before .before .before .before .before .before .before .before .before .before .before .before .before .before .before .before .before .before .before .before .before .args .id) (c .before .before .before .before .before .before .before .before .before .before .before .before .before .before .before .before .before .before .before .before .before .before .before .before .args .row) (c .before .before .before .before .before .before .before .before .before .before .before .before .before .before .before .before .before .before .before .before .before .before .before .before .args .depth) (c .before .before .before .before .before .before .before .before .before .before .before .before .before .before .before .before .before .before .before .before .before .before .before .before .pre .1 .0) (c .before .before .before .before .before .before .before .before .before .before .before .before .before .before .before .before .before .before .reserve .ensures) (c .before .before .before .before .before .before .before .before .before .before .before .before .before .before .a .given .1) (c .before .before .before .before .before .before .before .before .before .before .before .origin .ensures) (c .before .before .before .before .before .before .before .a2 .given .1) (c .before .before .before .before .fields .ensures) (c .enum-told3 .given .1)
 
+pub plain-row-of-requires : (t : ℕ) → plain-lts.Need-row-of-requires (plain-cs t) (plain-at t) plain.Post
+plain-row-of-requires t c κs = slot-within (c .before .before .before .before .before .before .before .before .before .before .before .before .before .before .before .before .before .before .before .before .before .before .before .before .before .pre .1 .0 .lent .sourced) (c .before .before .before .before .before .before .before .before .before .before .before .before .before .before .before .before .before .before .before .before .before .before .before .before .before .pre .1 .0 .slot)
+
+pub plain-add-bare : (t : ℕ) → plain-lts.Need-add-bare (plain-cs t) (plain-at t) plain.Post
+plain-add-bare t c = omega (arith, c .before .before .before .before .before .before .before .before .before .before .before .before .before .before .before .before .before .before .before .before .before .before .before .before .before .before .pre .1 .1 .below, rows-few (c .before .before .before .before .before .before .before .before .before .before .before .before .before .before .before .before .before .before .before .before .before .before .before .before .before .before .pre .1 .0 .lent) (c .before .before .before .before .before .before .before .before .before .before .before .before .before .before .before .before .before .before .before .before .before .before .before .before .before .before .args .env .slot))
+
+pub plain-bare-requires : (t : ℕ) → plain-lts.Need-bare-requires (plain-cs t) (plain-at t) plain.Post
+plain-bare-requires t c κs = slot-within (c .before .before .before .before .before .before .before .before .before .before .before .before .before .before .before .before .before .before .before .before .before .before .before .before .before .before .pre .1 .0 .lent .sourced) (c .before .before .before .before .before .before .before .before .before .before .before .before .before .before .before .before .before .before .before .before .before .before .before .before .before .before .pre .1 .0 .slot)
+
+pub plain-fill-requires : (t : ℕ) → plain-lts.Need-fill-requires (plain-cs t) (plain-at t) plain.Post
+plain-fill-requires t c κs = bare-fillable _ _ _ _ _ _ _ (c .before .before .before .before .before .before .before .before .before .before .before .before .before .before .before .before .before .before .before .before .before .before .before .before .before .before .before .before .before .args .id) (c .before .before .before .before .before .before .before .before .before .before .before .before .before .before .before .before .before .before .before .before .before .before .before .before .before .before .before .before .before .args .row) (c .before .before .before .before .before .before .before .before .before .before .before .before .before .before .before .before .before .before .before .before .before .before .before .before .before .before .before .before .before .args .depth) (c .before .before .before .before .before .before .before .before .before .before .before .before .before .before .before .before .before .before .before .before .before .before .before .before .before .before .before .before .before .pre .1 .0) (c .before .before .before .before .before .before .before .before .before .before .before .before .before .before .before .before .before .before .before .before .before .before .before .reserve .ensures) (c .before .before .before .before .before .before .before .before .before .before .before .before .before .before .before .before .before .before .before .a .given .1) (c .before .before .before .before .before .before .before .before .before .before .before .before .before .before .before .before .origin .ensures) (c .before .before .before .before .before .before .before .before .before .before .before .before .a2 .given .1) (c .before .before .before .before .before .before .before .before .before .fields .ensures) (c .before .before .before .before .before .a3 .given .1) ((c .before .before .bare .ensures) (c .before .if1 .taken))
+
+pub plain-same-length-4 : (t : ℕ) → plain-lts.Need-same-length-4 (plain-cs t) (plain-at t) plain.Post
+plain-same-length-4 t c = (c .before .before .fill .kept .0) ∙ (c .before .before .before .before .before .before .before .before .before .before .before .before .fields .kept .1 .1 .1 .0) ∙ (c .before .before .before .before .before .before .before .before .before .before .before .before .before .before .before .before .before .before .before .origin .kept .1 .1 .1 .0) ∙ (c .before .before .before .before .before .before .before .before .before .before .before .before .before .before .before .before .before .before .before .before .before .before .before .before .before .before .reserve .kept .0)
+
+pub plain-returns-4 : (t : ℕ) → plain-lts.Need-returns-4 (plain-cs t) (plain-at t) plain.Post
+plain-returns-4 t c = bare-done _ _ _ _ _ _ _ (c .before .before .before .before .before .before .before .before .before .before .before .before .before .before .before .before .before .before .before .before .before .before .before .before .before .before .before .before .before .before .before .before .args .id) (c .before .before .before .before .before .before .before .before .before .before .before .before .before .before .before .before .before .before .before .before .before .before .before .before .before .before .before .before .before .before .before .before .args .row) (c .before .before .before .before .before .before .before .before .before .before .before .before .before .before .before .before .before .before .before .before .before .before .before .before .before .before .before .before .before .before .before .before .args .depth) (c .before .before .before .before .before .before .before .before .before .before .before .before .before .before .before .before .before .before .before .before .before .before .before .before .before .before .before .before .before .before .before .before .pre .1 .0) (c .before .before .before .before .before .before .before .before .before .before .before .before .before .before .before .before .before .before .before .before .before .before .before .before .before .before .reserve .ensures) (c .before .before .before .before .before .before .before .before .before .before .before .before .before .before .before .before .before .before .before .before .before .before .a .given .1) (c .before .before .before .before .before .before .before .before .before .before .before .before .before .before .before .before .before .before .before .origin .ensures) (c .before .before .before .before .before .before .before .before .before .before .before .before .before .before .before .a2 .given .1) (c .before .before .before .before .before .before .before .before .before .before .before .before .fields .ensures) (c .before .before .before .before .before .before .before .before .a3 .given .1) ((c .before .before .before .before .before .bare .ensures) (c .before .before .before .before .if1 .taken)) _ (c .before .before .before .before .before .before .row-of .ensures) (c .before .before .fill .kept .0) (c .before .before .fill .ensures)
+
 pub plain-interfaces-requires : (t : ℕ) → plain-lts.Need-interfaces-requires (plain-cs t) (plain-at t) plain.Post
-plain-interfaces-requires t c κs = (omega (arith, c .before .before .before .before .before .before .before .before .before .before .before .before .before .before .before .before .before .before .before .before .before .before .before .before .before .before .pre .0), (plain-here-3 _ _ _ _ _ _ _ (c .before .before .before .before .before .before .before .before .before .before .before .before .before .before .before .before .before .before .before .before .before .before .before .before .before .before .args .id) (c .before .before .before .before .before .before .before .before .before .before .before .before .before .before .before .before .before .before .before .before .before .before .before .before .before .before .args .row) (c .before .before .before .before .before .before .before .before .before .before .before .before .before .before .before .before .before .before .before .before .before .before .before .before .before .before .args .depth) (c .before .before .before .before .before .before .before .before .before .before .before .before .before .before .before .before .before .before .before .before .before .before .before .before .before .before .pre .1 .0) (c .before .before .before .before .before .before .before .before .before .before .before .before .before .before .before .before .before .before .before .before .reserve .ensures) (c .before .before .before .before .before .before .before .before .before .before .before .before .before .before .before .before .a .given .1) (c .before .before .before .before .before .before .before .before .before .before .before .before .before .origin .ensures) (c .before .before .before .before .before .before .before .before .before .a2 .given .1) (c .before .before .before .before .before .before .fields .ensures) (c .before .before .a3 .given .1), c .before .before .before .before .before .before .before .before .before .before .before .before .before .before .before .before .before .before .before .before .before .before .before .before .before .before .pre .1 .1))
+plain-interfaces-requires t c κs = (omega (arith, c .before .before .before .before .before .before .before .before .before .before .before .before .before .before .before .before .before .before .before .before .before .before .before .before .before .before .before .before .before .pre .0), (plain-here-3 _ _ _ _ _ _ _ (c .before .before .before .before .before .before .before .before .before .before .before .before .before .before .before .before .before .before .before .before .before .before .before .before .before .before .before .before .before .args .id) (c .before .before .before .before .before .before .before .before .before .before .before .before .before .before .before .before .before .before .before .before .before .before .before .before .before .before .before .before .before .args .row) (c .before .before .before .before .before .before .before .before .before .before .before .before .before .before .before .before .before .before .before .before .before .before .before .before .before .before .before .before .before .args .depth) (c .before .before .before .before .before .before .before .before .before .before .before .before .before .before .before .before .before .before .before .before .before .before .before .before .before .before .before .before .before .pre .1 .0) (c .before .before .before .before .before .before .before .before .before .before .before .before .before .before .before .before .before .before .before .before .before .before .before .reserve .ensures) (c .before .before .before .before .before .before .before .before .before .before .before .before .before .before .before .before .before .before .before .a .given .1) (c .before .before .before .before .before .before .before .before .before .before .before .before .before .before .before .before .origin .ensures) (c .before .before .before .before .before .before .before .before .before .before .before .before .a2 .given .1) (c .before .before .before .before .before .before .before .before .before .fields .ensures) (c .before .before .before .before .before .a3 .given .1), c .before .before .before .before .before .before .before .before .before .before .before .before .before .before .before .before .before .before .before .before .before .before .before .before .before .before .before .before .before .pre .1 .1))
 
 pub plain-enum-known-a-4 : (t : ℕ) → plain-lts.Need-enum-known-a-4 (plain-cs t) (plain-at t) plain.Post
 plain-enum-known-a-4 t c = search needs
@@ -126,14 +148,14 @@ plain-enum-known-a-4 t c = search needs
 pub plain-enum-told-4 : (t : ℕ) → plain-lts.Need-enum-told-4 (plain-cs t) (plain-at t) plain.Post
 plain-enum-told-4 t c = search needs
 
-pub plain-same-length-4 : (t : ℕ) → plain-lts.Need-same-length-4 (plain-cs t) (plain-at t) plain.Post
-plain-same-length-4 t c = (c .before .before .before .before .interfaces .kept .1 .1 .1 .0) ∙ (c .before .before .before .before .before .before .before .before .before .before .before .fields .kept .1 .1 .1 .0) ∙ (c .before .before .before .before .before .before .before .before .before .before .before .before .before .before .before .before .before .before .origin .kept .1 .1 .1 .0) ∙ (c .before .before .before .before .before .before .before .before .before .before .before .before .before .before .before .before .before .before .before .before .before .before .before .before .before .reserve .kept .0)
+pub plain-same-length-5 : (t : ℕ) → plain-lts.Need-same-length-5 (plain-cs t) (plain-at t) plain.Post
+plain-same-length-5 t c = (c .before .before .before .before .interfaces .kept .1 .1 .1 .0) ∙ (c .before .before .before .before .before .before .before .before .before .before .before .before .before .before .fields .kept .1 .1 .1 .0) ∙ (c .before .before .before .before .before .before .before .before .before .before .before .before .before .before .before .before .before .before .before .before .before .origin .kept .1 .1 .1 .0) ∙ (c .before .before .before .before .before .before .before .before .before .before .before .before .before .before .before .before .before .before .before .before .before .before .before .before .before .before .before .before .reserve .kept .0)
 
-pub plain-returns-4 : (t : ℕ) → plain-lts.Need-returns-4 (plain-cs t) (plain-at t) plain.Post
-plain-returns-4 t c = plain-stop-4 _ _ _ _ _ _ _ (c .before .before .before .before .before .before .before .before .before .before .before .before .before .before .before .before .before .before .before .before .before .before .before .before .before .before .before .before .before .before .before .args .id) (c .before .before .before .before .before .before .before .before .before .before .before .before .before .before .before .before .before .before .before .before .before .before .before .before .before .before .before .before .before .before .before .args .row) (c .before .before .before .before .before .before .before .before .before .before .before .before .before .before .before .before .before .before .before .before .before .before .before .before .before .before .before .before .before .before .before .args .depth) (c .before .before .before .before .before .before .before .before .before .before .before .before .before .before .before .before .before .before .before .before .before .before .before .before .before .before .before .before .before .before .before .pre .1 .0) (c .before .before .before .before .before .before .before .before .before .before .before .before .before .before .before .before .before .before .before .before .before .before .before .before .before .reserve .ensures) (c .before .before .before .before .before .before .before .before .before .before .before .before .before .before .before .before .before .before .before .before .before .a .given .1) (c .before .before .before .before .before .before .before .before .before .before .before .before .before .before .before .before .before .before .origin .ensures) (c .before .before .before .before .before .before .before .before .before .before .before .before .before .before .a2 .given .1) (c .before .before .before .before .before .before .before .before .before .before .before .fields .ensures) (c .before .before .before .before .before .before .before .a3 .given .1) (c .before .before .before .before .interfaces .ensures) (c .enum-told4 .given .1)
+pub plain-returns-5 : (t : ℕ) → plain-lts.Need-returns-5 (plain-cs t) (plain-at t) plain.Post
+plain-returns-5 t c = plain-stop-4 _ _ _ _ _ _ _ (c .before .before .before .before .before .before .before .before .before .before .before .before .before .before .before .before .before .before .before .before .before .before .before .before .before .before .before .before .before .before .before .before .before .before .args .id) (c .before .before .before .before .before .before .before .before .before .before .before .before .before .before .before .before .before .before .before .before .before .before .before .before .before .before .before .before .before .before .before .before .before .before .args .row) (c .before .before .before .before .before .before .before .before .before .before .before .before .before .before .before .before .before .before .before .before .before .before .before .before .before .before .before .before .before .before .before .before .before .before .args .depth) (c .before .before .before .before .before .before .before .before .before .before .before .before .before .before .before .before .before .before .before .before .before .before .before .before .before .before .before .before .before .before .before .before .before .before .pre .1 .0) (c .before .before .before .before .before .before .before .before .before .before .before .before .before .before .before .before .before .before .before .before .before .before .before .before .before .before .before .before .reserve .ensures) (c .before .before .before .before .before .before .before .before .before .before .before .before .before .before .before .before .before .before .before .before .before .before .before .before .a .given .1) (c .before .before .before .before .before .before .before .before .before .before .before .before .before .before .before .before .before .before .before .before .before .origin .ensures) (c .before .before .before .before .before .before .before .before .before .before .before .before .before .before .before .before .before .a2 .given .1) (c .before .before .before .before .before .before .before .before .before .before .before .before .before .before .fields .ensures) (c .before .before .before .before .before .before .before .before .before .before .a3 .given .1) (c .before .before .before .before .interfaces .ensures) (c .enum-told4 .given .1)
 
 pub plain-statements-requires : (t : ℕ) → plain-lts.Need-statements-requires (plain-cs t) (plain-at t) plain.Post
-plain-statements-requires t c κs = let h = plain-here-4 _ _ _ _ _ _ _ (c .before .before .before .before .before .before .before .before .before .before .before .before .before .before .before .before .before .before .before .before .before .before .before .before .before .before .before .before .before .before .before .before .before .args .id) (c .before .before .before .before .before .before .before .before .before .before .before .before .before .before .before .before .before .before .before .before .before .before .before .before .before .before .before .before .before .before .before .before .before .args .row) (c .before .before .before .before .before .before .before .before .before .before .before .before .before .before .before .before .before .before .before .before .before .before .before .before .before .before .before .before .before .before .before .before .before .args .depth) (c .before .before .before .before .before .before .before .before .before .before .before .before .before .before .before .before .before .before .before .before .before .before .before .before .before .before .before .before .before .before .before .before .before .pre .1 .0) (c .before .before .before .before .before .before .before .before .before .before .before .before .before .before .before .before .before .before .before .before .before .before .before .before .before .before .before .reserve .ensures) (c .before .before .before .before .before .before .before .before .before .before .before .before .before .before .before .before .before .before .before .before .before .before .before .a .given .1) (c .before .before .before .before .before .before .before .before .before .before .before .before .before .before .before .before .before .before .before .before .origin .ensures) (c .before .before .before .before .before .before .before .before .before .before .before .before .before .before .before .before .a2 .given .1) (c .before .before .before .before .before .before .before .before .before .before .before .before .before .fields .ensures) (c .before .before .before .before .before .before .before .before .before .a3 .given .1) (c .before .before .before .before .before .before .interfaces .ensures) (c .before .before .a4 .given .1) in (h .standing, (h .lent, (h .slot, c .before .before .before .before .before .before .before .before .before .before .before .before .before .before .before .before .before .before .before .before .before .before .before .before .before .before .before .before .before .before .before .before .before .pre .1 .1 .below)))
+plain-statements-requires t c κs = let h = plain-here-4 _ _ _ _ _ _ _ (c .before .before .before .before .before .before .before .before .before .before .before .before .before .before .before .before .before .before .before .before .before .before .before .before .before .before .before .before .before .before .before .before .before .before .before .before .args .id) (c .before .before .before .before .before .before .before .before .before .before .before .before .before .before .before .before .before .before .before .before .before .before .before .before .before .before .before .before .before .before .before .before .before .before .before .before .args .row) (c .before .before .before .before .before .before .before .before .before .before .before .before .before .before .before .before .before .before .before .before .before .before .before .before .before .before .before .before .before .before .before .before .before .before .before .before .args .depth) (c .before .before .before .before .before .before .before .before .before .before .before .before .before .before .before .before .before .before .before .before .before .before .before .before .before .before .before .before .before .before .before .before .before .before .before .before .pre .1 .0) (c .before .before .before .before .before .before .before .before .before .before .before .before .before .before .before .before .before .before .before .before .before .before .before .before .before .before .before .before .before .before .reserve .ensures) (c .before .before .before .before .before .before .before .before .before .before .before .before .before .before .before .before .before .before .before .before .before .before .before .before .before .before .a .given .1) (c .before .before .before .before .before .before .before .before .before .before .before .before .before .before .before .before .before .before .before .before .before .before .before .origin .ensures) (c .before .before .before .before .before .before .before .before .before .before .before .before .before .before .before .before .before .before .before .a2 .given .1) (c .before .before .before .before .before .before .before .before .before .before .before .before .before .before .before .before .fields .ensures) (c .before .before .before .before .before .before .before .before .before .before .before .before .a3 .given .1) (c .before .before .before .before .before .before .interfaces .ensures) (c .before .before .a4 .given .1) in (h .standing, (h .env, (h .lent, (h .slot, c .before .before .before .before .before .before .before .before .before .before .before .before .before .before .before .before .before .before .before .before .before .before .before .before .before .before .before .before .before .before .before .before .before .before .before .before .pre .1 .1 .below))))
 
 pub plain-enum-known-a-5 : (t : ℕ) → plain-lts.Need-enum-known-a-5 (plain-cs t) (plain-at t) plain.Post
 plain-enum-known-a-5 t c = search needs
@@ -141,14 +163,14 @@ plain-enum-known-a-5 t c = search needs
 pub plain-enum-told-5 : (t : ℕ) → plain-lts.Need-enum-told-5 (plain-cs t) (plain-at t) plain.Post
 plain-enum-told-5 t c = search needs
 
-pub plain-same-length-5 : (t : ℕ) → plain-lts.Need-same-length-5 (plain-cs t) (plain-at t) plain.Post
-plain-same-length-5 t c = (c .before .before .before .before .statements .kept .1 .1 .1 .0) ∙ (c .before .before .before .before .before .before .before .before .before .before .before .interfaces .kept .1 .1 .1 .0) ∙ (c .before .before .before .before .before .before .before .before .before .before .before .before .before .before .before .before .before .before .fields .kept .1 .1 .1 .0) ∙ (c .before .before .before .before .before .before .before .before .before .before .before .before .before .before .before .before .before .before .before .before .before .before .before .before .before .origin .kept .1 .1 .1 .0) ∙ (c .before .before .before .before .before .before .before .before .before .before .before .before .before .before .before .before .before .before .before .before .before .before .before .before .before .before .before .before .before .before .before .before .reserve .kept .0)
+pub plain-same-length-6 : (t : ℕ) → plain-lts.Need-same-length-6 (plain-cs t) (plain-at t) plain.Post
+plain-same-length-6 t c = (c .before .before .before .before .statements .kept .1 .1 .1 .0) ∙ (c .before .before .before .before .before .before .before .before .before .before .before .interfaces .kept .1 .1 .1 .0) ∙ (c .before .before .before .before .before .before .before .before .before .before .before .before .before .before .before .before .before .before .before .before .before .fields .kept .1 .1 .1 .0) ∙ (c .before .before .before .before .before .before .before .before .before .before .before .before .before .before .before .before .before .before .before .before .before .before .before .before .before .before .before .before .origin .kept .1 .1 .1 .0) ∙ (c .before .before .before .before .before .before .before .before .before .before .before .before .before .before .before .before .before .before .before .before .before .before .before .before .before .before .before .before .before .before .before .before .before .before .before .reserve .kept .0)
 
-pub plain-returns-5 : (t : ℕ) → plain-lts.Need-returns-5 (plain-cs t) (plain-at t) plain.Post
-plain-returns-5 t c = plain-stop-5 _ _ _ _ _ _ _ (c .before .before .before .before .before .before .before .before .before .before .before .before .before .before .before .before .before .before .before .before .before .before .before .before .before .before .before .before .before .before .before .before .before .before .before .before .before .before .args .id) (c .before .before .before .before .before .before .before .before .before .before .before .before .before .before .before .before .before .before .before .before .before .before .before .before .before .before .before .before .before .before .before .before .before .before .before .before .before .before .args .row) (c .before .before .before .before .before .before .before .before .before .before .before .before .before .before .before .before .before .before .before .before .before .before .before .before .before .before .before .before .before .before .before .before .before .before .before .before .before .before .args .depth) (c .before .before .before .before .before .before .before .before .before .before .before .before .before .before .before .before .before .before .before .before .before .before .before .before .before .before .before .before .before .before .before .before .before .before .before .before .before .before .pre .1 .0) (c .before .before .before .before .before .before .before .before .before .before .before .before .before .before .before .before .before .before .before .before .before .before .before .before .before .before .before .before .before .before .before .before .reserve .ensures) (c .before .before .before .before .before .before .before .before .before .before .before .before .before .before .before .before .before .before .before .before .before .before .before .before .before .before .before .before .a .given .1) (c .before .before .before .before .before .before .before .before .before .before .before .before .before .before .before .before .before .before .before .before .before .before .before .before .before .origin .ensures) (c .before .before .before .before .before .before .before .before .before .before .before .before .before .before .before .before .before .before .before .before .before .a2 .given .1) (c .before .before .before .before .before .before .before .before .before .before .before .before .before .before .before .before .before .before .fields .ensures) (c .before .before .before .before .before .before .before .before .before .before .before .before .before .before .a3 .given .1) (c .before .before .before .before .before .before .before .before .before .before .before .interfaces .ensures) (c .before .before .before .before .before .before .before .a4 .given .1) (c .before .before .before .before .statements .ensures) (c .enum-told5 .given .1)
+pub plain-returns-6 : (t : ℕ) → plain-lts.Need-returns-6 (plain-cs t) (plain-at t) plain.Post
+plain-returns-6 t c = plain-stop-5 _ _ _ _ _ _ _ (c .before .before .before .before .before .before .before .before .before .before .before .before .before .before .before .before .before .before .before .before .before .before .before .before .before .before .before .before .before .before .before .before .before .before .before .before .before .before .before .before .before .args .id) (c .before .before .before .before .before .before .before .before .before .before .before .before .before .before .before .before .before .before .before .before .before .before .before .before .before .before .before .before .before .before .before .before .before .before .before .before .before .before .before .before .before .args .row) (c .before .before .before .before .before .before .before .before .before .before .before .before .before .before .before .before .before .before .before .before .before .before .before .before .before .before .before .before .before .before .before .before .before .before .before .before .before .before .before .before .before .args .depth) (c .before .before .before .before .before .before .before .before .before .before .before .before .before .before .before .before .before .before .before .before .before .before .before .before .before .before .before .before .before .before .before .before .before .before .before .before .before .before .before .before .before .pre .1 .0) (c .before .before .before .before .before .before .before .before .before .before .before .before .before .before .before .before .before .before .before .before .before .before .before .before .before .before .before .before .before .before .before .before .before .before .before .reserve .ensures) (c .before .before .before .before .before .before .before .before .before .before .before .before .before .before .before .before .before .before .before .before .before .before .before .before .before .before .before .before .before .before .before .a .given .1) (c .before .before .before .before .before .before .before .before .before .before .before .before .before .before .before .before .before .before .before .before .before .before .before .before .before .before .before .before .origin .ensures) (c .before .before .before .before .before .before .before .before .before .before .before .before .before .before .before .before .before .before .before .before .before .before .before .before .a2 .given .1) (c .before .before .before .before .before .before .before .before .before .before .before .before .before .before .before .before .before .before .before .before .before .fields .ensures) (c .before .before .before .before .before .before .before .before .before .before .before .before .before .before .before .before .before .a3 .given .1) (c .before .before .before .before .before .before .before .before .before .before .before .interfaces .ensures) (c .before .before .before .before .before .before .before .a4 .given .1) (c .before .before .before .before .statements .ensures) (c .enum-told5 .given .1)
 
 pub plain-order-requires : (t : ℕ) → plain-lts.Need-order-requires (plain-cs t) (plain-at t) plain.Post
-plain-order-requires t c κs = let h = plain-here-5 _ _ _ _ _ _ _ (c .before .before .before .before .before .before .before .before .before .before .before .before .before .before .before .before .before .before .before .before .before .before .before .before .before .before .before .before .before .before .before .before .before .before .before .before .before .before .before .before .args .id) (c .before .before .before .before .before .before .before .before .before .before .before .before .before .before .before .before .before .before .before .before .before .before .before .before .before .before .before .before .before .before .before .before .before .before .before .before .before .before .before .before .args .row) (c .before .before .before .before .before .before .before .before .before .before .before .before .before .before .before .before .before .before .before .before .before .before .before .before .before .before .before .before .before .before .before .before .before .before .before .before .before .before .before .before .args .depth) (c .before .before .before .before .before .before .before .before .before .before .before .before .before .before .before .before .before .before .before .before .before .before .before .before .before .before .before .before .before .before .before .before .before .before .before .before .before .before .before .before .pre .1 .0) (c .before .before .before .before .before .before .before .before .before .before .before .before .before .before .before .before .before .before .before .before .before .before .before .before .before .before .before .before .before .before .before .before .before .before .reserve .ensures) (c .before .before .before .before .before .before .before .before .before .before .before .before .before .before .before .before .before .before .before .before .before .before .before .before .before .before .before .before .before .before .a .given .1) (c .before .before .before .before .before .before .before .before .before .before .before .before .before .before .before .before .before .before .before .before .before .before .before .before .before .before .before .origin .ensures) (c .before .before .before .before .before .before .before .before .before .before .before .before .before .before .before .before .before .before .before .before .before .before .before .a2 .given .1) (c .before .before .before .before .before .before .before .before .before .before .before .before .before .before .before .before .before .before .before .before .fields .ensures) (c .before .before .before .before .before .before .before .before .before .before .before .before .before .before .before .before .a3 .given .1) (c .before .before .before .before .before .before .before .before .before .before .before .before .before .interfaces .ensures) (c .before .before .before .before .before .before .before .before .before .a4 .given .1) (c .before .before .before .before .before .before .statements .ensures) (c .before .before .a5 .given .1) in (h .standing, (h .lent, (h .slot, (h .env, c .before .before .before .before .before .before .before .before .before .before .before .before .before .before .before .before .before .before .before .before .before .before .before .before .before .before .before .before .before .before .before .before .before .before .before .before .before .before .before .before .pre .1 .1 .below))))
+plain-order-requires t c κs = let h = plain-here-5 _ _ _ _ _ _ _ (c .before .before .before .before .before .before .before .before .before .before .before .before .before .before .before .before .before .before .before .before .before .before .before .before .before .before .before .before .before .before .before .before .before .before .before .before .before .before .before .before .before .before .before .args .id) (c .before .before .before .before .before .before .before .before .before .before .before .before .before .before .before .before .before .before .before .before .before .before .before .before .before .before .before .before .before .before .before .before .before .before .before .before .before .before .before .before .before .before .before .args .row) (c .before .before .before .before .before .before .before .before .before .before .before .before .before .before .before .before .before .before .before .before .before .before .before .before .before .before .before .before .before .before .before .before .before .before .before .before .before .before .before .before .before .before .before .args .depth) (c .before .before .before .before .before .before .before .before .before .before .before .before .before .before .before .before .before .before .before .before .before .before .before .before .before .before .before .before .before .before .before .before .before .before .before .before .before .before .before .before .before .before .before .pre .1 .0) (c .before .before .before .before .before .before .before .before .before .before .before .before .before .before .before .before .before .before .before .before .before .before .before .before .before .before .before .before .before .before .before .before .before .before .before .before .before .reserve .ensures) (c .before .before .before .before .before .before .before .before .before .before .before .before .before .before .before .before .before .before .before .before .before .before .before .before .before .before .before .before .before .before .before .before .before .a .given .1) (c .before .before .before .before .before .before .before .before .before .before .before .before .before .before .before .before .before .before .before .before .before .before .before .before .before .before .before .before .before .before .origin .ensures) (c .before .before .before .before .before .before .before .before .before .before .before .before .before .before .before .before .before .before .before .before .before .before .before .before .before .before .a2 .given .1) (c .before .before .before .before .before .before .before .before .before .before .before .before .before .before .before .before .before .before .before .before .before .before .before .fields .ensures) (c .before .before .before .before .before .before .before .before .before .before .before .before .before .before .before .before .before .before .before .a3 .given .1) (c .before .before .before .before .before .before .before .before .before .before .before .before .before .interfaces .ensures) (c .before .before .before .before .before .before .before .before .before .a4 .given .1) (c .before .before .before .before .before .before .statements .ensures) (c .before .before .a5 .given .1) in (h .standing, (h .lent, (h .slot, (h .env, c .before .before .before .before .before .before .before .before .before .before .before .before .before .before .before .before .before .before .before .before .before .before .before .before .before .before .before .before .before .before .before .before .before .before .before .before .before .before .before .before .before .before .before .pre .1 .1 .below))))
 
 pub plain-enum-known-a-6 : (t : ℕ) → plain-lts.Need-enum-known-a-6 (plain-cs t) (plain-at t) plain.Post
 plain-enum-known-a-6 t c = search needs
@@ -156,20 +178,17 @@ plain-enum-known-a-6 t c = search needs
 pub plain-enum-told-6 : (t : ℕ) → plain-lts.Need-enum-told-6 (plain-cs t) (plain-at t) plain.Post
 plain-enum-told-6 t c = search needs
 
-pub plain-same-length-6 : (t : ℕ) → plain-lts.Need-same-length-6 (plain-cs t) (plain-at t) plain.Post
-plain-same-length-6 t c = (c .before .before .before .before .order .kept .1 .1 .1 .0) ∙ (c .before .before .before .before .before .before .before .before .before .before .before .statements .kept .1 .1 .1 .0) ∙ (c .before .before .before .before .before .before .before .before .before .before .before .before .before .before .before .before .before .before .interfaces .kept .1 .1 .1 .0) ∙ (c .before .before .before .before .before .before .before .before .before .before .before .before .before .before .before .before .before .before .before .before .before .before .before .before .before .fields .kept .1 .1 .1 .0) ∙ (c .before .before .before .before .before .before .before .before .before .before .before .before .before .before .before .before .before .before .before .before .before .before .before .before .before .before .before .before .before .before .before .before .origin .kept .1 .1 .1 .0) ∙ (c .before .before .before .before .before .before .before .before .before .before .before .before .before .before .before .before .before .before .before .before .before .before .before .before .before .before .before .before .before .before .before .before .before .before .before .before .before .before .before .reserve .kept .0)
-
-pub plain-returns-6 : (t : ℕ) → plain-lts.Need-returns-6 (plain-cs t) (plain-at t) plain.Post
-plain-returns-6 t c = plain-stop-6 _ _ _ _ _ _ _ (c .before .before .before .before .before .before .before .before .before .before .before .before .before .before .before .before .before .before .before .before .before .before .before .before .before .before .before .before .before .before .before .before .before .before .before .before .before .before .before .before .before .before .before .before .before .args .id) (c .before .before .before .before .before .before .before .before .before .before .before .before .before .before .before .before .before .before .before .before .before .before .before .before .before .before .before .before .before .before .before .before .before .before .before .before .before .before .before .before .before .before .before .before .before .args .row) (c .before .before .before .before .before .before .before .before .before .before .before .before .before .before .before .before .before .before .before .before .before .before .before .before .before .before .before .before .before .before .before .before .before .before .before .before .before .before .before .before .before .before .before .before .before .args .depth) (c .before .before .before .before .before .before .before .before .before .before .before .before .before .before .before .before .before .before .before .before .before .before .before .before .before .before .before .before .before .before .before .before .before .before .before .before .before .before .before .before .before .before .before .before .before .pre .1 .0) (c .before .before .before .before .before .before .before .before .before .before .before .before .before .before .before .before .before .before .before .before .before .before .before .before .before .before .before .before .before .before .before .before .before .before .before .before .before .before .before .reserve .ensures) (c .before .before .before .before .before .before .before .before .before .before .before .before .before .before .before .before .before .before .before .before .before .before .before .before .before .before .before .before .before .before .before .before .before .before .before .a .given .1) (c .before .before .before .before .before .before .before .before .before .before .before .before .before .before .before .before .before .before .before .before .before .before .before .before .before .before .before .before .before .before .before .before .origin .ensures) (c .before .before .before .before .before .before .before .before .before .before .before .before .before .before .before .before .before .before .before .before .before .before .before .before .before .before .before .before .a2 .given .1) (c .before .before .before .before .before .before .before .before .before .before .before .before .before .before .before .before .before .before .before .before .before .before .before .before .before .fields .ensures) (c .before .before .before .before .before .before .before .before .before .before .before .before .before .before .before .before .before .before .before .before .before .a3 .given .1) (c .before .before .before .before .before .before .before .before .before .before .before .before .before .before .before .before .before .before .interfaces .ensures) (c .before .before .before .before .before .before .before .before .before .before .before .before .before .before .a4 .given .1) (c .before .before .before .before .before .before .before .before .before .before .before .statements .ensures) (c .before .before .before .before .before .before .before .a5 .given .1) (c .before .before .before .before .order .ensures) (c .enum-told6 .given .1)
-
-pub plain-row-of-requires : (t : ℕ) → plain-lts.Need-row-of-requires (plain-cs t) (plain-at t) plain.Post
-plain-row-of-requires t c κs = slot-within (c .before .before .before .before .before .before .before .before .before .before .before .before .before .before .before .before .before .before .before .before .before .before .before .before .before .before .before .before .before .before .before .before .before .before .before .before .before .before .before .before .before .before .before .before .before .before .pre .1 .0 .lent .sourced) (c .before .before .before .before .before .before .before .before .before .before .before .before .before .before .before .before .before .before .before .before .before .before .before .before .before .before .before .before .before .before .before .before .before .before .before .before .before .before .before .before .before .before .before .before .before .before .pre .1 .0 .slot)
-
-pub plain-fill-requires : (t : ℕ) → plain-lts.Need-fill-requires (plain-cs t) (plain-at t) plain.Post
-plain-fill-requires t c κs = plain-fillable _ _ _ _ _ _ _ (c .before .before .before .before .before .before .before .before .before .before .before .before .before .before .before .before .before .before .before .before .before .before .before .before .before .before .before .before .before .before .before .before .before .before .before .before .before .before .before .before .before .before .before .before .before .before .before .before .args .id) (c .before .before .before .before .before .before .before .before .before .before .before .before .before .before .before .before .before .before .before .before .before .before .before .before .before .before .before .before .before .before .before .before .before .before .before .before .before .before .before .before .before .before .before .before .before .before .before .before .args .row) (c .before .before .before .before .before .before .before .before .before .before .before .before .before .before .before .before .before .before .before .before .before .before .before .before .before .before .before .before .before .before .before .before .before .before .before .before .before .before .before .before .before .before .before .before .before .before .before .before .args .depth) (c .before .before .before .before .before .before .before .before .before .before .before .before .before .before .before .before .before .before .before .before .before .before .before .before .before .before .before .before .before .before .before .before .before .before .before .before .before .before .before .before .before .before .before .before .before .before .before .before .pre .1 .0) (c .before .before .before .before .before .before .before .before .before .before .before .before .before .before .before .before .before .before .before .before .before .before .before .before .before .before .before .before .before .before .before .before .before .before .before .before .before .before .before .before .before .before .reserve .ensures) (c .before .before .before .before .before .before .before .before .before .before .before .before .before .before .before .before .before .before .before .before .before .before .before .before .before .before .before .before .before .before .before .before .before .before .before .before .before .before .a .given .1) (c .before .before .before .before .before .before .before .before .before .before .before .before .before .before .before .before .before .before .before .before .before .before .before .before .before .before .before .before .before .before .before .before .before .before .before .origin .ensures) (c .before .before .before .before .before .before .before .before .before .before .before .before .before .before .before .before .before .before .before .before .before .before .before .before .before .before .before .before .before .before .before .a2 .given .1) (c .before .before .before .before .before .before .before .before .before .before .before .before .before .before .before .before .before .before .before .before .before .before .before .before .before .before .before .before .fields .ensures) (c .before .before .before .before .before .before .before .before .before .before .before .before .before .before .before .before .before .before .before .before .before .before .before .before .a3 .given .1) (c .before .before .before .before .before .before .before .before .before .before .before .before .before .before .before .before .before .before .before .before .before .interfaces .ensures) (c .before .before .before .before .before .before .before .before .before .before .before .before .before .before .before .before .before .a4 .given .1) (c .before .before .before .before .before .before .before .before .before .before .before .before .before .before .statements .ensures) (c .before .before .before .before .before .before .before .before .before .before .a5 .given .1) (c .before .before .before .before .before .before .before .order .ensures) (c .before .before .before .a6 .given .1)
-
 pub plain-same-length-7 : (t : ℕ) → plain-lts.Need-same-length-7 (plain-cs t) (plain-at t) plain.Post
-plain-same-length-7 t c = (c .before .before .fill .kept .0) ∙ (c .before .before .before .before .before .before .before .before .before .before .order .kept .1 .1 .1 .0) ∙ (c .before .before .before .before .before .before .before .before .before .before .before .before .before .before .before .before .before .statements .kept .1 .1 .1 .0) ∙ (c .before .before .before .before .before .before .before .before .before .before .before .before .before .before .before .before .before .before .before .before .before .before .before .before .interfaces .kept .1 .1 .1 .0) ∙ (c .before .before .before .before .before .before .before .before .before .before .before .before .before .before .before .before .before .before .before .before .before .before .before .before .before .before .before .before .before .before .before .fields .kept .1 .1 .1 .0) ∙ (c .before .before .before .before .before .before .before .before .before .before .before .before .before .before .before .before .before .before .before .before .before .before .before .before .before .before .before .before .before .before .before .before .before .before .before .before .before .before .origin .kept .1 .1 .1 .0) ∙ (c .before .before .before .before .before .before .before .before .before .before .before .before .before .before .before .before .before .before .before .before .before .before .before .before .before .before .before .before .before .before .before .before .before .before .before .before .before .before .before .before .before .before .before .before .before .reserve .kept .0)
+plain-same-length-7 t c = (c .before .before .before .before .order .kept .1 .1 .1 .0) ∙ (c .before .before .before .before .before .before .before .before .before .before .before .statements .kept .1 .1 .1 .0) ∙ (c .before .before .before .before .before .before .before .before .before .before .before .before .before .before .before .before .before .before .interfaces .kept .1 .1 .1 .0) ∙ (c .before .before .before .before .before .before .before .before .before .before .before .before .before .before .before .before .before .before .before .before .before .before .before .before .before .before .before .before .fields .kept .1 .1 .1 .0) ∙ (c .before .before .before .before .before .before .before .before .before .before .before .before .before .before .before .before .before .before .before .before .before .before .before .before .before .before .before .before .before .before .before .before .before .before .before .origin .kept .1 .1 .1 .0) ∙ (c .before .before .before .before .before .before .before .before .before .before .before .before .before .before .before .before .before .before .before .before .before .before .before .before .before .before .before .before .before .before .before .before .before .before .before .before .before .before .before .before .before .before .reserve .kept .0)
 
 pub plain-returns-7 : (t : ℕ) → plain-lts.Need-returns-7 (plain-cs t) (plain-at t) plain.Post
-plain-returns-7 t c = plain-done _ _ _ _ _ _ _ (c .before .before .before .before .before .before .before .before .before .before .before .before .before .before .before .before .before .before .before .before .before .before .before .before .before .before .before .before .before .before .before .before .before .before .before .before .before .before .before .before .before .before .before .before .before .before .before .before .before .before .before .args .id) (c .before .before .before .before .before .before .before .before .before .before .before .before .before .before .before .before .before .before .before .before .before .before .before .before .before .before .before .before .before .before .before .before .before .before .before .before .before .before .before .before .before .before .before .before .before .before .before .before .before .before .before .args .row) (c .before .before .before .before .before .before .before .before .before .before .before .before .before .before .before .before .before .before .before .before .before .before .before .before .before .before .before .before .before .before .before .before .before .before .before .before .before .before .before .before .before .before .before .before .before .before .before .before .before .before .before .args .depth) (c .before .before .before .before .before .before .before .before .before .before .before .before .before .before .before .before .before .before .before .before .before .before .before .before .before .before .before .before .before .before .before .before .before .before .before .before .before .before .before .before .before .before .before .before .before .before .before .before .before .before .before .pre .1 .0) (c .before .before .before .before .before .before .before .before .before .before .before .before .before .before .before .before .before .before .before .before .before .before .before .before .before .before .before .before .before .before .before .before .before .before .before .before .before .before .before .before .before .before .before .before .before .reserve .ensures) (c .before .before .before .before .before .before .before .before .before .before .before .before .before .before .before .before .before .before .before .before .before .before .before .before .before .before .before .before .before .before .before .before .before .before .before .before .before .before .before .before .before .a .given .1) (c .before .before .before .before .before .before .before .before .before .before .before .before .before .before .before .before .before .before .before .before .before .before .before .before .before .before .before .before .before .before .before .before .before .before .before .before .before .before .origin .ensures) (c .before .before .before .before .before .before .before .before .before .before .before .before .before .before .before .before .before .before .before .before .before .before .before .before .before .before .before .before .before .before .before .before .before .before .a2 .given .1) (c .before .before .before .before .before .before .before .before .before .before .before .before .before .before .before .before .before .before .before .before .before .before .before .before .before .before .before .before .before .before .before .fields .ensures) (c .before .before .before .before .before .before .before .before .before .before .before .before .before .before .before .before .before .before .before .before .before .before .before .before .before .before .before .a3 .given .1) (c .before .before .before .before .before .before .before .before .before .before .before .before .before .before .before .before .before .before .before .before .before .before .before .before .interfaces .ensures) (c .before .before .before .before .before .before .before .before .before .before .before .before .before .before .before .before .before .before .before .before .a4 .given .1) (c .before .before .before .before .before .before .before .before .before .before .before .before .before .before .before .before .before .statements .ensures) (c .before .before .before .before .before .before .before .before .before .before .before .before .before .a5 .given .1) (c .before .before .before .before .before .before .before .before .before .before .order .ensures) (c .before .before .before .before .before .before .a6 .given .1) _ (c .before .before .before .before .row-of .ensures) (c .before .before .fill .kept .0) (c .before .before .fill .ensures)
+plain-returns-7 t c = plain-stop-6 _ _ _ _ _ _ _ (c .before .before .before .before .before .before .before .before .before .before .before .before .before .before .before .before .before .before .before .before .before .before .before .before .before .before .before .before .before .before .before .before .before .before .before .before .before .before .before .before .before .before .before .before .before .before .before .before .args .id) (c .before .before .before .before .before .before .before .before .before .before .before .before .before .before .before .before .before .before .before .before .before .before .before .before .before .before .before .before .before .before .before .before .before .before .before .before .before .before .before .before .before .before .before .before .before .before .before .before .args .row) (c .before .before .before .before .before .before .before .before .before .before .before .before .before .before .before .before .before .before .before .before .before .before .before .before .before .before .before .before .before .before .before .before .before .before .before .before .before .before .before .before .before .before .before .before .before .before .before .before .args .depth) (c .before .before .before .before .before .before .before .before .before .before .before .before .before .before .before .before .before .before .before .before .before .before .before .before .before .before .before .before .before .before .before .before .before .before .before .before .before .before .before .before .before .before .before .before .before .before .before .before .pre .1 .0) (c .before .before .before .before .before .before .before .before .before .before .before .before .before .before .before .before .before .before .before .before .before .before .before .before .before .before .before .before .before .before .before .before .before .before .before .before .before .before .before .before .before .before .reserve .ensures) (c .before .before .before .before .before .before .before .before .before .before .before .before .before .before .before .before .before .before .before .before .before .before .before .before .before .before .before .before .before .before .before .before .before .before .before .before .before .before .a .given .1) (c .before .before .before .before .before .before .before .before .before .before .before .before .before .before .before .before .before .before .before .before .before .before .before .before .before .before .before .before .before .before .before .before .before .before .before .origin .ensures) (c .before .before .before .before .before .before .before .before .before .before .before .before .before .before .before .before .before .before .before .before .before .before .before .before .before .before .before .before .before .before .before .a2 .given .1) (c .before .before .before .before .before .before .before .before .before .before .before .before .before .before .before .before .before .before .before .before .before .before .before .before .before .before .before .before .fields .ensures) (c .before .before .before .before .before .before .before .before .before .before .before .before .before .before .before .before .before .before .before .before .before .before .before .before .a3 .given .1) (c .before .before .before .before .before .before .before .before .before .before .before .before .before .before .before .before .before .before .interfaces .ensures) (c .before .before .before .before .before .before .before .before .before .before .before .before .before .before .a4 .given .1) (c .before .before .before .before .before .before .before .before .before .before .before .statements .ensures) (c .before .before .before .before .before .before .before .a5 .given .1) (c .before .before .before .before .order .ensures) (c .enum-told6 .given .1)
+
+pub plain-fill-requires-2 : (t : ℕ) → plain-lts.Need-fill-requires-2 (plain-cs t) (plain-at t) plain.Post
+plain-fill-requires-2 t c κs = plain-fillable _ _ _ _ _ _ _ (c .before .before .before .before .before .before .before .before .before .before .before .before .before .before .before .before .before .before .before .before .before .before .before .before .before .before .before .before .before .before .before .before .before .before .before .before .before .before .before .before .before .before .before .before .before .before .before .before .before .before .args .id) (c .before .before .before .before .before .before .before .before .before .before .before .before .before .before .before .before .before .before .before .before .before .before .before .before .before .before .before .before .before .before .before .before .before .before .before .before .before .before .before .before .before .before .before .before .before .before .before .before .before .before .args .row) (c .before .before .before .before .before .before .before .before .before .before .before .before .before .before .before .before .before .before .before .before .before .before .before .before .before .before .before .before .before .before .before .before .before .before .before .before .before .before .before .before .before .before .before .before .before .before .before .before .before .before .args .depth) (c .before .before .before .before .before .before .before .before .before .before .before .before .before .before .before .before .before .before .before .before .before .before .before .before .before .before .before .before .before .before .before .before .before .before .before .before .before .before .before .before .before .before .before .before .before .before .before .before .before .before .pre .1 .0) (c .before .before .before .before .before .before .before .before .before .before .before .before .before .before .before .before .before .before .before .before .before .before .before .before .before .before .before .before .before .before .before .before .before .before .before .before .before .before .before .before .before .before .before .before .reserve .ensures) (c .before .before .before .before .before .before .before .before .before .before .before .before .before .before .before .before .before .before .before .before .before .before .before .before .before .before .before .before .before .before .before .before .before .before .before .before .before .before .before .before .a .given .1) (c .before .before .before .before .before .before .before .before .before .before .before .before .before .before .before .before .before .before .before .before .before .before .before .before .before .before .before .before .before .before .before .before .before .before .before .before .before .origin .ensures) (c .before .before .before .before .before .before .before .before .before .before .before .before .before .before .before .before .before .before .before .before .before .before .before .before .before .before .before .before .before .before .before .before .before .a2 .given .1) (c .before .before .before .before .before .before .before .before .before .before .before .before .before .before .before .before .before .before .before .before .before .before .before .before .before .before .before .before .before .before .fields .ensures) (c .before .before .before .before .before .before .before .before .before .before .before .before .before .before .before .before .before .before .before .before .before .before .before .before .before .before .a3 .given .1) (c .before .before .before .before .before .before .before .before .before .before .before .before .before .before .before .before .before .before .before .before .interfaces .ensures) (c .before .before .before .before .before .before .before .before .before .before .before .before .before .before .before .before .a4 .given .1) (c .before .before .before .before .before .before .before .before .before .before .before .before .before .statements .ensures) (c .before .before .before .before .before .before .before .before .before .a5 .given .1) (c .before .before .before .before .before .before .order .ensures) (c .before .before .a6 .given .1)
+
+pub plain-same-length-8 : (t : ℕ) → plain-lts.Need-same-length-8 (plain-cs t) (plain-at t) plain.Post
+plain-same-length-8 t c = (c .before .before .fill2 .kept .0) ∙ (c .before .before .before .before .before .before .before .before .before .order .kept .1 .1 .1 .0) ∙ (c .before .before .before .before .before .before .before .before .before .before .before .before .before .before .before .before .statements .kept .1 .1 .1 .0) ∙ (c .before .before .before .before .before .before .before .before .before .before .before .before .before .before .before .before .before .before .before .before .before .before .before .interfaces .kept .1 .1 .1 .0) ∙ (c .before .before .before .before .before .before .before .before .before .before .before .before .before .before .before .before .before .before .before .before .before .before .before .before .before .before .before .before .before .before .before .before .before .fields .kept .1 .1 .1 .0) ∙ (c .before .before .before .before .before .before .before .before .before .before .before .before .before .before .before .before .before .before .before .before .before .before .before .before .before .before .before .before .before .before .before .before .before .before .before .before .before .before .before .before .origin .kept .1 .1 .1 .0) ∙ (c .before .before .before .before .before .before .before .before .before .before .before .before .before .before .before .before .before .before .before .before .before .before .before .before .before .before .before .before .before .before .before .before .before .before .before .before .before .before .before .before .before .before .before .before .before .before .before .reserve .kept .0)
+
+pub plain-returns-8 : (t : ℕ) → plain-lts.Need-returns-8 (plain-cs t) (plain-at t) plain.Post
+plain-returns-8 t c = plain-done _ _ _ _ _ _ _ (c .before .before .before .before .before .before .before .before .before .before .before .before .before .before .before .before .before .before .before .before .before .before .before .before .before .before .before .before .before .before .before .before .before .before .before .before .before .before .before .before .before .before .before .before .before .before .before .before .before .before .before .before .before .args .id) (c .before .before .before .before .before .before .before .before .before .before .before .before .before .before .before .before .before .before .before .before .before .before .before .before .before .before .before .before .before .before .before .before .before .before .before .before .before .before .before .before .before .before .before .before .before .before .before .before .before .before .before .before .before .args .row) (c .before .before .before .before .before .before .before .before .before .before .before .before .before .before .before .before .before .before .before .before .before .before .before .before .before .before .before .before .before .before .before .before .before .before .before .before .before .before .before .before .before .before .before .before .before .before .before .before .before .before .before .before .before .args .depth) (c .before .before .before .before .before .before .before .before .before .before .before .before .before .before .before .before .before .before .before .before .before .before .before .before .before .before .before .before .before .before .before .before .before .before .before .before .before .before .before .before .before .before .before .before .before .before .before .before .before .before .before .before .before .pre .1 .0) (c .before .before .before .before .before .before .before .before .before .before .before .before .before .before .before .before .before .before .before .before .before .before .before .before .before .before .before .before .before .before .before .before .before .before .before .before .before .before .before .before .before .before .before .before .before .before .before .reserve .ensures) (c .before .before .before .before .before .before .before .before .before .before .before .before .before .before .before .before .before .before .before .before .before .before .before .before .before .before .before .before .before .before .before .before .before .before .before .before .before .before .before .before .before .before .before .a .given .1) (c .before .before .before .before .before .before .before .before .before .before .before .before .before .before .before .before .before .before .before .before .before .before .before .before .before .before .before .before .before .before .before .before .before .before .before .before .before .before .before .before .origin .ensures) (c .before .before .before .before .before .before .before .before .before .before .before .before .before .before .before .before .before .before .before .before .before .before .before .before .before .before .before .before .before .before .before .before .before .before .before .before .a2 .given .1) (c .before .before .before .before .before .before .before .before .before .before .before .before .before .before .before .before .before .before .before .before .before .before .before .before .before .before .before .before .before .before .before .before .before .fields .ensures) (c .before .before .before .before .before .before .before .before .before .before .before .before .before .before .before .before .before .before .before .before .before .before .before .before .before .before .before .before .before .a3 .given .1) (c .before .before .before .before .before .before .before .before .before .before .before .before .before .before .before .before .before .before .before .before .before .before .before .interfaces .ensures) (c .before .before .before .before .before .before .before .before .before .before .before .before .before .before .before .before .before .before .before .a4 .given .1) (c .before .before .before .before .before .before .before .before .before .before .before .before .before .before .before .before .statements .ensures) (c .before .before .before .before .before .before .before .before .before .before .before .before .a5 .given .1) (c .before .before .before .before .before .before .before .before .before .order .ensures) (c .before .before .before .before .before .a6 .given .1) _ (c .before .before .before .before .before .before .before .before .before .before .before .before .before .before .before .before .before .before .before .before .before .before .before .before .before .before .before .row-of .ensures) (c .before .before .fill2 .kept .0) (c .before .before .fill2 .ensures)

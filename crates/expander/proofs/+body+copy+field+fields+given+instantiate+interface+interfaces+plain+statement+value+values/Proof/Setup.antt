@@ -42,6 +42,8 @@ use Rattle.bindings.proofs.is_field.Reads as is-field-reads
 use Rattle.bindings.proofs.is_given.Reads as is-given-reads
 use Rattle.bindings.proofs.is_interface.Reads as is-interface-reads
 use Rattle.bindings.proofs.record_instance.Reads as record-instance-reads
+use Rattle.expander.proofs.add_field.Reads as add-field-reads
+use Rattle.expander.proofs.bare.Reads as bare-reads
 use Rattle.expander.proofs.kept.Reads as kept-reads
 use Rattle.expander.proofs.next.Reads as next-reads
 use Rattle.expander.proofs.origin.Reads as origin-reads
@@ -58,6 +60,7 @@ use Rattle.refine.proofs.map.Reads as map-reads
 use Rattle.refine.proofs.open.Reads as open-reads
 use Rattle.refine.proofs.own.Reads as own-reads
 use Rattle.refine.proofs.reserve.Reads as reserve-reads
+use Rattle.refine.proofs.store.Reads as store-reads
 use Rattle.source.proofs.directory.number.Reads as number-reads
 use Rattle.source.proofs.last_field.Reads as last-field-reads
 use Rattle.source.proofs.node.Reads as node-reads
@@ -181,13 +184,13 @@ abbrev pub copy-cs : ℕ → copy-lts.Claims
 copy-cs t = (look-reads.Asked, look-reads.Learnt, word-reads.Asked, word-reads.Learnt, node-reads.Asked, node-reads.Learnt, number-reads.Asked, number-reads.Learnt, row-of-reads.Asked, row-of-reads.Learnt, target-reads.Asked, target-reads.Learnt, plain-below t, plain.Post, instantiate-below t, instantiate.Post)
 
 abbrev pub field-cs : ℕ → field-lts.Claims
-field-cs t = (row-of-reads.Asked, row-of-reads.Learnt, is-field-reads.Asked, is-field-reads.Learnt, value-below t, value.Post, keep-reads.Asked, keep-reads.Learnt)
+field-cs t = (row-of-reads.Asked, row-of-reads.Learnt, is-field-reads.Asked, is-field-reads.Learnt, add-field-reads.Asked, add-field-reads.Learnt, next-reads.Asked, next-reads.Learnt, value-below t, value.Post)
 
 abbrev pub fields-cs : ℕ → fields-lts.Claims
 fields-cs t = (next-reads.Asked, next-reads.Learnt, field-below t, field.Post)
 
 abbrev pub given-cs : ℕ → given-lts.Claims
-given-cs t = (row-of-reads.Asked, row-of-reads.Learnt, last-field-reads.Asked, last-field-reads.Learnt, is-given-reads.Asked, is-given-reads.Learnt, value-below t, value.Post, keep-reads.Asked, keep-reads.Learnt, number-reads.Asked, number-reads.Learnt, open-reads.Asked, open-reads.Learnt, wide-reads.Asked, wide-reads.Learnt)
+given-cs t = (row-of-reads.Asked, row-of-reads.Learnt, last-field-reads.Asked, last-field-reads.Learnt, is-given-reads.Asked, is-given-reads.Learnt, value-below t, value.Post, store-reads.Asked, store-reads.Learnt, number-reads.Asked, number-reads.Learnt, open-reads.Asked, open-reads.Learnt, wide-reads.Asked, wide-reads.Learnt)
 
 abbrev pub instantiate-cs : ℕ → instantiate-lts.Claims
 instantiate-cs t = (number-reads.Asked, number-reads.Learnt, proto-reads.Asked, proto-reads.Learnt, values-below t, values.Post, open-reads.Asked, open-reads.Learnt, wide-reads.Asked, wide-reads.Learnt, body-below t, body.Post, row-of-reads.Asked, row-of-reads.Learnt, record-instance-reads.Asked, record-instance-reads.Learnt)
@@ -199,7 +202,7 @@ abbrev pub interfaces-cs : ℕ → interfaces-lts.Claims
 interfaces-cs t = (next-reads.Asked, next-reads.Learnt, interface-below t, interface.Post)
 
 abbrev pub plain-cs : ℕ → plain-lts.Claims
-plain-cs t = (reserve-reads.Asked, reserve-reads.Learnt, origin-reads.Asked, origin-reads.Learnt, fields-below t, fields.Post, interfaces-below t, interfaces.Post, statements-reads.Asked, statements-reads.Learnt, order-reads.Asked, order-reads.Learnt, row-of-reads.Asked, row-of-reads.Learnt, fill-reads.Asked, fill-reads.Learnt)
+plain-cs t = (reserve-reads.Asked, reserve-reads.Learnt, origin-reads.Asked, origin-reads.Learnt, fields-below t, fields.Post, row-of-reads.Asked, row-of-reads.Learnt, bare-reads.Asked, bare-reads.Learnt, fill-reads.Asked, fill-reads.Learnt, interfaces-below t, interfaces.Post, statements-reads.Asked, statements-reads.Learnt, order-reads.Asked, order-reads.Learnt)
 
 abbrev pub statement-cs : ℕ → statement-lts.Claims
 statement-cs t = (row-of-reads.Asked, row-of-reads.Learnt, copy-below t, copy.Post, map-reads.Asked, map-reads.Learnt, own-reads.Asked, own-reads.Learnt, kept-reads.Asked, kept-reads.Learnt, extern-proto-reads.Asked, extern-proto-reads.Learnt)

@@ -42,6 +42,8 @@ use Rattle.bindings.proofs.is_field.Reads as is-field-reads
 use Rattle.bindings.proofs.is_given.Reads as is-given-reads
 use Rattle.bindings.proofs.is_interface.Reads as is-interface-reads
 use Rattle.bindings.proofs.record_instance.Reads as record-instance-reads
+use Rattle.expander.proofs.add_field.Reads as add-field-reads
+use Rattle.expander.proofs.bare.Reads as bare-reads
 use Rattle.expander.proofs.kept.Reads as kept-reads
 use Rattle.expander.proofs.next.Reads as next-reads
 use Rattle.expander.proofs.origin.Reads as origin-reads
@@ -58,6 +60,7 @@ use Rattle.refine.proofs.map.Reads as map-reads
 use Rattle.refine.proofs.open.Reads as open-reads
 use Rattle.refine.proofs.own.Reads as own-reads
 use Rattle.refine.proofs.reserve.Reads as reserve-reads
+use Rattle.refine.proofs.store.Reads as store-reads
 use Rattle.source.proofs.directory.number.Reads as number-reads
 use Rattle.source.proofs.last_field.Reads as last-field-reads
 use Rattle.source.proofs.node.Reads as node-reads
@@ -90,7 +93,7 @@ pub statement-returns : (t : ℕ) → statement-lts.Need-returns (statement-cs t
 statement-returns t c = node-stop _ _ _ _ _ _ _ _ _ _ _ _ _ (c .before .before .before .before .before .before .before .before .before .before .before .before .before .pre .1 .0) _ (c .before .before .before .before .before .before .before .before .row-of .ensures) (c .before .before .before .before .before .before .if1 .taken) (c .before .before .before .before .copy .ensures) (c .enum-told .given .1)
 
 pub statement-map-requires : (t : ℕ) → statement-lts.Need-map-requires (statement-cs t) (statement-at t) statement′.Post
-statement-map-requires t c κs = (node-inside _ _ _ _ _ _ _ (c .before .before .before .before .before .before .before .before .before .before .before .before .before .before .before .before .args .id) _ (c .before .before .before .before .before .before .before .before .before .before .before .before .before .before .before .before .args .row) _ _ _ (c .before .before .before .before .before .before .before .before .before .before .before .before .before .before .before .before .pre .1 .0) _ (c .before .before .before .before .before .before .before .before .before .before .before .row-of .ensures) (c .before .before .before .before .before .before .before .before .before .if1 .taken) (c .before .before .before .before .before .before .before .copy .ensures) (c .before .before .before .a .given .1) .here .standing, node-ready _ _ _ _ _ _ _ (c .before .before .before .before .before .before .before .before .before .before .before .before .before .before .before .before .args .id) _ (c .before .before .before .before .before .before .before .before .before .before .before .before .before .before .before .before .args .row) _ _ _ (c .before .before .before .before .before .before .before .before .before .before .before .before .before .before .before .before .pre .1 .0) _ (c .before .before .before .before .before .before .before .before .before .before .before .row-of .ensures) (c .before .before .before .before .before .before .before .before .before .if1 .taken) (c .before .before .before .before .before .before .before .copy .ensures) (c .before .before .before .a .given .1))
+statement-map-requires t c κs = let i = node-inside _ _ _ _ _ _ _ (c .before .before .before .before .before .before .before .before .before .before .before .before .before .before .before .before .args .id) _ (c .before .before .before .before .before .before .before .before .before .before .before .before .before .before .before .before .args .row) _ _ _ (c .before .before .before .before .before .before .before .before .before .before .before .before .before .before .before .before .pre .1 .0) _ (c .before .before .before .before .before .before .before .before .before .before .before .row-of .ensures) (c .before .before .before .before .before .before .before .before .before .if1 .taken) (c .before .before .before .before .before .before .before .copy .ensures) (c .before .before .before .a .given .1) in (i .here .standing, (i .env, node-ready _ _ _ _ _ _ _ (c .before .before .before .before .before .before .before .before .before .before .before .before .before .before .before .before .args .id) _ (c .before .before .before .before .before .before .before .before .before .before .before .before .before .before .before .before .args .row) _ _ _ (c .before .before .before .before .before .before .before .before .before .before .before .before .before .before .before .before .pre .1 .0) _ (c .before .before .before .before .before .before .before .before .before .before .before .row-of .ensures) (c .before .before .before .before .before .before .before .before .before .if1 .taken) (c .before .before .before .before .before .before .before .copy .ensures) (c .before .before .before .a .given .1)))
 
 pub statement-same-length-2 : (t : ℕ) → statement-lts.Need-same-length-2 (statement-cs t) (statement-at t) statement′.Post
 statement-same-length-2 t c = search needs
