@@ -1,9 +1,9 @@
 -- The run from its room to its answer, and what is written of an accepted one.
-use mathlib.Core.Path.{_≡_, refl, sym, ap, subst, _∙_}
-use mathlib.Core.List.{List, [], _∷_, _++_, map}
-use Prim.Native.Nat.{ℕ, _+_, _*_, _/_, _%_, _≤_, _<_, _^_}
+use mathlib.Core.Path.{_≡_, refl, sym, ap, _∙_}
+use mathlib.Core.List.{List}
+use Prim.Native.Nat.{ℕ, _+_, _*_, _≤_}
 use native.Mathlib.Omega.{arith}
-use lib.ListN.{length, length-map, drop}
+use lib.ListN.{length, length-map}
 use Rattle.sheet.specs.Rows.{rows, words, front}
 use Rattle.sheet.specs.Parse.{documentOf}
 use Rattle.sheet.specs.Print.{documentRows}
@@ -17,7 +17,6 @@ use Rattle.expansion.specs.Proofs.Demand.{demand-3}
 use Rattle.output.proofs.Output.{row-count}
 use Rattle.operation.specs.Operation.{Call, After, input, over, after}
 use Rattle.operation.specs.Promises.{Room, Sheets}
-use Rattle.operation.proofs.Said.{words-length, ledger-length, scopes-length as text-length}
 use Rattle.journal.specs.Records.{tagStatement}
 use Rattle.reading.specs.Reading.{nodesOf, ledgerOf, scopesOf, statementsAt, stateOf}
 use Rattle.reading.specs.Fair.{HandleAt}
@@ -31,9 +30,9 @@ use Rattle.refine.specs.Sound.{Source, inputOf, Sound, Later}
 use Rattle.refine.specs.Does.{at, resultOf}
 use Rattle.refine.proofs.Beginning.{sound-none}
 use Rattle.parts.specs.Contract.{sourceOf}
-use Rattle.cycle.specs.Contract.{nothingYet, Blank, Topped}
-use Rattle.writer.specs.Document.{documentIn, outRows}
-use Rattle.writer.specs.Tables.{scopeText, ledgerText}
+use Rattle.cycle.specs.Contract.{Blank, Topped}
+use Rattle.writer.specs.Writing.{Pasted}
+use Rattle.writer.specs.Document.{documentIn, outRows, Written}
 use Rattle.luhetami.specs.declared.Outcome.{Outcome}
 use Rattle.luhetami.specs.declared.Outcome.the-variants.{Expanded, Refused}
 use Rattle.luhetami.specs.Calls.{callOf, afterOf, Allowed, Ran, Writable, written}
@@ -122,6 +121,9 @@ module _ (root library w : List ℕ) (t : Counts) (tops : ℕ) (out ledger scope
   abbrev R : List Row
   R = outRows root library w (t .charges) tops
 
-  pub written-is : {out′ ledger′ scopes′ : List ℕ} {n : ℕ} → n ≡ length R → out′ ≡ words R ++ drop (8 * n) out → scopes′ ≡ scopeText w (t .charges) ++ drop (5 * length (scopesOf w (t .charges))) scopes → ledger′ ≡ ledgerText w (t .charges) ++ drop (3 * length (ledgerOf w (t .charges))) ledger
-      → afterOf (Expanded (t .nodes) (t .scopes) (t .charges) n) out′ ledger′ scopes′ ≡ written root library w t tops out ledger scopes
-  written-is q o s l = rw (o, s, l, q, words-length R, text-length (scopesOf w (t .charges)), ledger-length (map (ledgerEntry (scopesOf w (t .charges))) (ledgerOf w (t .charges))), length-map (ledgerOf w (t .charges)) (ledgerEntry (scopesOf w (t .charges))))
+  -- words pasted at the beginning
+  begun : {text o o′ : List ℕ} → Pasted text o o′ 0 → o′ ≡ over text o
+  begun {text} u = let z : 0 + length text ≡ length text = omega arith in u .same ∙ rw z
+
+  pub written-is : {out′ ledger′ scopes′ : List ℕ} {n : ℕ} → Written R w (t .charges) out out′ ledger ledger′ scopes scopes′ n → afterOf (Expanded (t .nodes) (t .scopes) (t .charges) n) out′ ledger′ scopes′ ≡ written root library w t tops out ledger scopes
+  written-is {n = n} u = let q : n ≡ length R = omega (arith, u .rows .sum) in rw (begun (u .rows .pasted), begun (u .ledger), begun (u .scopes), q)

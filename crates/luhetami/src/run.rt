@@ -20,10 +20,17 @@ pub fn write<'a>(
     requires { ⌜ Writable (now root) (now library) (now work) st tops (now out) (now ledger) (now scopes) ⌝ }
     ensures { λ a. ⌜ afterOf a (now (out .exit)) (now (ledger .exit)) (now (scopes .exit)) ≡ written (now (root .entry)) (now (library .entry)) (now (work .entry)) st tops (now (out .entry)) (now (ledger .entry)) (now (scopes .entry)) ⌝ }
 {
-    let rows = writer::document::count(root, library, work, st.charges, st.externs, tops);
-    writer::document::write(root, library, work, st.charges, st.externs, tops, out, rows);
-    writer::tables::write_scopes(work, st.charges, scopes);
-    writer::tables::write_ledger(work, st.charges, scopes, ledger);
+    let rows = writer::document::write(
+        root,
+        library,
+        work,
+        st.charges,
+        st.externs,
+        tops,
+        out,
+        ledger,
+        scopes,
+    );
     Outcome::Expanded {
         nodes: st.nodes,
         scopes: st.scopes,

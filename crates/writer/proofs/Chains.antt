@@ -15,29 +15,30 @@ use Rattle.journal.specs.Logs.{scan, revOnto}
 use Rattle.journal.proofs.Lists.{scan-low, scan-push, scan-end}
 use Rattle.reading.proofs.Chains.{rev-front}
 use Rattle.writer.specs.Writing.{Wrote, Room}
+use Rattle.writer.specs.declared.lists.Kind.{Kind}
 use Rattle.writer.specs.Cells.{chain}
-use Rattle.writer.specs.Lists.{clip, chainRows, idRows, Below}
+use Rattle.writer.specs.Lists.{clip, chainRows, idRows, recordRows, listRows, Below}
 use Rattle.writer.proofs.Walks.{Walking, walk-room, walk-again, walk-stop, Summing, sum-room, sum-again, sum-stop}
 
 -- ---- rows of each of a list
 
 module _ {A : Type 0} (f : A → List Row) where
   -- of two lists
-  pub each-append : (a b : List A) → rowsOfEach f (a ++ b) ≡ rowsOfEach f a ++ rowsOfEach f b
+  each-append : (a b : List A) → rowsOfEach f (a ++ b) ≡ rowsOfEach f a ++ rowsOfEach f b
   each-append [] b = refl
   each-append (x ∷ a) b = rw (each-append a b) (sym (append-assoc (f x) (rowsOfEach f a) (rowsOfEach f b)))
 
   -- of one
-  pub each-one : (x : A) → rowsOfEach f (x ∷ []) ≡ f x
+  each-one : (x : A) → rowsOfEach f (x ∷ []) ≡ f x
   each-one x = append-nil (f x)
 
   -- of what a list is read as
-  pub each-map : {B : Type 0} (d : B → A) (l : List B) → rowsOfEach f (map d l) ≡ rowsOfEach (λ b. f (d b)) l
+  each-map : {B : Type 0} (d : B → A) (l : List B) → rowsOfEach f (map d l) ≡ rowsOfEach (λ b. f (d b)) l
   each-map d [] = refl
   each-map d (b ∷ l) = rw (each-map d l)
 
 -- one row for each
-pub map-each : {A B : Type 0} (f : A → Row) (d : B → A) (l : List B) → map f (map d l) ≡ rowsOfEach (λ b. f (d b) ∷ []) l
+map-each : {A B : Type 0} (f : A → Row) (d : B → A) (l : List B) → map f (map d l) ≡ rowsOfEach (λ b. f (d b) ∷ []) l
 map-each f d [] = refl
 map-each f d (b ∷ l) = rw (map-each f d l)
 
@@ -178,3 +179,8 @@ module _ (g : ℕ → List Row) (w : List ℕ) where
     -- the whole chain is counted
     pub count-stop : cur ≤ 0 → n ≡ length (chainRows g w h)
     count-stop le = sum-stop (chainRows g w) u (chain-end le)
+
+-- a list with no handle has no rows
+pub list-none : (k : Kind) (w : List ℕ) {h : ℕ} → h ≡ 0 → listRows k w h ≡ []
+unfolding listRows
+list-none k w e = chain-end (recordRows k w) w (omega arith)

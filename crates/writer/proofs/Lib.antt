@@ -9,3 +9,4 @@ pub mod NodeRows
 pub mod ExternRows
 pub mod DocumentRows
 pub mod TableRows
+pub mod Passing

@@ -1,54 +1,157 @@
--- A log of records, gone through from its last record.
-use mathlib.Core.Path.{_≡_, ap, _∙_}
-use mathlib.Core.List.{List, [], _++_}
-use Prim.Native.Nat.{ℕ, _+_, _-_, _<_, _≤_}
+-- What the records give, one after another: a text that grows.
+use mathlib.Core.Path.{_≡_, refl, sym, ap, _∙_}
+use mathlib.Core.List.{List, [], _∷_, _++_, map, append-nil, append-assoc}
+use Prim.Native.Nat.{ℕ, zero, suc, _+_, _*_, _<_, _≤_}
 use native.Mathlib.Omega.{arith}
+use native.Mathlib.Decide.{ℕ-discrete}
+use native.Mathlib.Numerals.{add-one}
 use lib.ListN.{length, length-append}
+use borrow.Author.Tests.{eq-eqb, ne-eqb}
+use Rattle.expansion.specs.Ids.{flat}
 use Rattle.sheet.specs.declared.row.Row.{Row}
+use Rattle.sheet.specs.Rows.{words}
 use Rattle.sheet.specs.Print.{rowsOfEach}
-use Rattle.journal.specs.Logs.{logUp}
-use Rattle.journal.proofs.Lists.{up-one, up-zero}
-use Rattle.writer.specs.Writing.{Wrote, Room}
-use Rattle.writer.proofs.Walks.{Walking, walk-room, walk-again, walk-stop, Summing, sum-room, sum-again, sum-stop}
-use Rattle.writer.proofs.Chains.{each-append}
+use Rattle.journal.specs.Records.{cell}
+use Rattle.journal.specs.Logs.{logUp, only}
+use Rattle.journal.specs.Owned.{tagged}
+use Rattle.journal.proofs.Lists.{only-here, only-other, up-one, up-zero}
+use Rattle.writer.specs.Writing.{Pasted, Room, Wrote}
+use Rattle.writer.proofs.Writing.{words-append, words-length, paste-none, paste-after}
 
-module _ {A : Type 0} (f : A → List Row) (g : ℕ → List A) where
-  abbrev pub rowsTo : ℕ → List Row
-  rowsTo i = rowsOfEach f (logUp g i)
+module _ {A : Type 0} (w : List ℕ) (t : ℕ) (d : ℕ → A) where
+  -- the records of tag t, read by d
+  abbrev pub ofTag : ℕ → List A
+  ofTag r = only (tagged w t) d r
 
-  log-step : {i : ℕ} → 0 < i → rowsTo i ≡ rowsTo (i - 1) ++ rowsOfEach f (g (i - 1))
-  log-step {i} lt =
-      let z : i ≡ (i - 1) + 1 = omega arith in
-      ap rowsTo z ∙ ap (rowsOfEach f) (up-one g (i - 1)) ∙ each-append f (logUp g (i - 1)) (g (i - 1))
+  -- one that is
+  pub of-tag : (r : ℕ) → cell w r 0 ≡ t → ofTag r ≡ d r ∷ []
+  unfolding tagged
+  of-tag r e = only-here (tagged w t) d r (eq-eqb _ _ e)
 
-  log-end : {i : ℕ} → i ≤ 0 → rowsTo i ≡ []
-  log-end {i} le = let z : i ≡ 0 = omega arith in ap rowsTo z ∙ ap (rowsOfEach f) (up-zero g)
+  -- one that is not
+  pub of-other : (r : ℕ) → (cell w r 0 ≡ t → ⊥) → ofTag r ≡ []
+  unfolding tagged
+  of-other r e = only-other (tagged w t) d r (ne-eqb _ _ e)
 
-  length-step : {i : ℕ} → 0 < i → length (rowsTo i) ≡ length (rowsTo (i - 1)) + length (rowsOfEach f (g (i - 1)))
-  length-step {i} lt = ap length (log-step lt) ∙ length-append (rowsTo (i - 1)) (rowsOfEach f (g (i - 1)))
+module _ {A : Type 0} (f : A → List ℕ) where
+  -- of two lists
+  flat-append : (a b : List A) → flat f (a ++ b) ≡ flat f a ++ flat f b
+  flat-append [] b = refl
+  flat-append (x ∷ a) b = rw (flat-append a b) (sym (append-assoc (f x) (flat f a) (flat f b)))
 
-  module _ {o₀ o : List ℕ} {c e i p : ℕ} (u : Walking rowsTo o₀ o c e i p) where
-    -- there is room for the last record's rows
-    pub log-room : 0 < i → Room (rowsOfEach f (g (i - 1))) o p
-    log-room lt = walk-room rowsTo u (i - 1) (log-step lt)
+  -- of what a list is read as
+  pub flat-map : {B : Type 0} (d : B → A) (l : List B) → flat f (map d l) ≡ flat (λ b. f (d b)) l
+  flat-map d [] = refl
+  flat-map d (b ∷ l) = rw (flat-map d l)
 
-    -- they are written: on to the record before
-    pub log-again : {o1 : List ℕ} {p1 : ℕ} → 0 < i → Wrote (rowsOfEach f (g (i - 1))) o o1 p p1 → Walking rowsTo o₀ o1 c e (i - 1) p1
-    log-again lt x = walk-again rowsTo u (omega arith) (log-step lt) x
+  module _ (g : ℕ → List A) where
+    -- the text of the records below i
+    abbrev pub upTo : ℕ → List ℕ
+    upTo i = flat f (logUp g i)
 
-    -- the whole log is written
-    pub log-stop : i ≤ 0 → Wrote (rowsTo c) o₀ o e p
-    log-stop le = walk-stop rowsTo u (log-end le)
+    up-step : (i : ℕ) → upTo (i + 1) ≡ upTo i ++ flat f (g i)
+    up-step i = ap (flat f) (up-one g i) ∙ flat-append (logUp g i) (g i)
 
-  module _ {c i n : ℕ} (u : Summing rowsTo c i n) where
-    -- the count stays within the whole
-    pub tally-room : 0 < i → n + length (rowsOfEach f (g (i - 1))) ≤ length (rowsTo c)
-    tally-room lt = sum-room rowsTo u (i - 1) (length (rowsOfEach f (g (i - 1)))) (length-step lt)
+    up-length : (i : ℕ) → length (upTo (i + 1)) ≡ length (upTo i) + length (flat f (g i))
+    up-length i = ap length (up-step i) ∙ length-append (upTo i) (flat f (g i))
 
-    -- the last record's rows are counted
-    pub tally-again : {m : ℕ} → 0 < i → m ≡ length (rowsOfEach f (g (i - 1))) → Summing rowsTo c (i - 1) (n + m)
-    tally-again lt e = sum-again rowsTo u (omega arith) (length-step lt) e
+    up-grows : (c i : ℕ) → i ≤ c → length (upTo i) ≤ length (upTo c)
+    up-grows zero i le = let z : i ≡ 0 = omega arith in rw z (omega arith)
+    up-grows (suc c) i le = by (ℕ-discrete i (suc c)) (λ l. up-grows c i l)
+      where
+        by : Dec (i ≡ suc c) → (i ≤ c → length (upTo i) ≤ length (upTo c)) → length (upTo i) ≤ length (upTo (suc c))
+        by (yes e) go = rw e (omega arith)
+        by (no e) go = omega (arith, go (omega arith), rw (add-one c) at (up-length c))
 
-    -- the whole log is counted
-    pub tally-stop : i ≤ 0 → n ≡ length (rowsTo c)
-    tally-stop le = sum-stop rowsTo u (log-end le)
+    -- of the texts of c records, for which there is room from word s on, those of the first i stand, up to word p
+    pub record Filling (o₀ o : List ℕ) (c s i p : ℕ) : Type 0 where
+      pub low : i ≤ c
+      pub room : s + length (upTo c) ≤ length o₀
+      pub end : p ≡ s + length (upTo i)
+      pub pasted : Pasted (upTo i) o₀ o s
+
+    -- nothing stands yet
+    pub fill-begin : {o : List ℕ} {c s : ℕ} → s + length (upTo c) ≤ length o → Filling o o c s 0 s
+    fill-begin {o} {c} {s} h = let z : upTo 0 ≡ [] = ap (flat f) (up-zero g) in record { low = omega arith; room = h; end = rw z (omega arith); pasted = rw z (paste-none o s) }
+
+    module _ {o₀ o : List ℕ} {c s i p : ℕ} (u : Filling o₀ o c s i p) where
+      module _ (lt : i < c) {x : A} (e : g i ≡ x ∷ []) where
+        one : flat f (g i) ≡ f x
+        one = rw e (append-nil (f x))
+
+        -- there is room for what record i gives
+        pub fill-room : p + length (f x) ≤ length o
+        fill-room = omega (arith, u .end, u .room, u .pasted .long, up-grows c (i + 1) (omega arith), up-length i, ap length one)
+
+        -- it is pasted
+        pub fill-more : {o1 : List ℕ} {q : ℕ} → q ≡ p + length (f x) → Pasted (f x) o o1 p → Filling o₀ o1 c s (i + 1) q
+        fill-more {o1} {q} z v =
+            let t : upTo (i + 1) ≡ upTo i ++ f x = up-step i ∙ rw one in
+            record {
+              low = omega arith;
+              room = u .room;
+              end = rw (t, length-append (upTo i) (f x)) (omega (arith, u .end));
+              pasted = rw t (paste-after (u .end) (omega (arith, u .room)) (u .pasted) v);
+            }
+
+      -- record i gives nothing
+      pub fill-skip : i < c → g i ≡ [] → Filling o₀ o c s (i + 1) p
+      fill-skip lt e =
+          let t : upTo (i + 1) ≡ upTo i = up-step i ∙ rw e (append-nil (upTo i)) in
+          record { low = omega arith; room = u .room; end = rw t (u .end); pasted = rw t (u .pasted) }
+
+      -- all stands
+      pub fill-end : c ≤ i → Pasted (upTo c) o₀ o s
+      fill-end le = let z : c ≡ i = omega (arith, u .low) in rw z (u .pasted)
+
+-- ---- rows
+
+module _ {A : Type 0} (f : A → List Row) where
+  abbrev textOf : A → List ℕ
+  textOf x = words (f x)
+
+  words-each : (l : List A) → words (rowsOfEach f l) ≡ flat textOf l
+  unfolding words
+  words-each [] = refl
+  words-each (x ∷ l) = words-append (f x) (rowsOfEach f l) ∙ rw (words-each l)
+
+  module _ (g : ℕ → List A) where
+    abbrev pub rowsTo : ℕ → List Row
+    rowsTo i = rowsOfEach f (logUp g i)
+
+    rows-length : (i : ℕ) → length (upTo textOf g i) ≡ 8 * length (rowsTo i)
+    rows-length i = sym (ap length (words-each (logUp g i))) ∙ words-length (rowsTo i)
+
+    -- of the rows of c records those of the first i stand, from row s up to row p
+    pub record Logging (o₀ o : List ℕ) (c s i p : ℕ) : Type 0 where
+      pub room : Room (rowsTo c) o₀ (s + length (rowsTo c))
+      pub text : Filling textOf g o₀ o c (8 * s) i (8 * p)
+
+    -- none yet
+    pub log-begin : {o : List ℕ} {c s : ℕ} → Room (rowsTo c) o (s + length (rowsTo c)) → Logging o o c s 0 s
+    log-begin {o} {c} m = record { room = m; text = fill-begin textOf g (omega (arith, m .inside, rows-length c)) }
+
+    module _ {o₀ o : List ℕ} {c s i p : ℕ} (u : Logging o₀ o c s i p) where
+      module _ (lt : i < c) where
+        module _ {x : A} (e : g i ≡ x ∷ []) where
+          -- there is room for those of record i
+          pub log-room : Room (f x) o (p + length (f x))
+          log-room =
+              let z : length (textOf x) ≡ 8 * length (f x) = words-length (f x) in
+              record {
+                fits = omega arith;
+                inside = omega (arith, fill-room textOf g (u .text) lt e);
+                few = omega (arith, u .room .few, u .text .end, rows-length c, up-grows textOf g c (i + 1) (omega arith), up-length textOf g i, ap length (one textOf g (u .text) lt e));
+              }
+
+          -- they are written
+          pub log-more : {o1 : List ℕ} {q : ℕ} → Wrote (f x) o o1 q p → Logging o₀ o1 c s (i + 1) q
+          log-more v = record { room = u .room; text = fill-more textOf g (u .text) lt e (omega (arith, v .sum, words-length (f x))) (v .pasted) }
+
+        -- record i gives none
+        pub log-skip : g i ≡ [] → Logging o₀ o c s (i + 1) p
+        log-skip e = record { room = u .room; text = fill-skip textOf g (u .text) lt e }
+
+      -- all are written
+      pub log-end : c ≤ i → Wrote (rowsTo c) o₀ o p s
+      log-end le = let z : c ≡ i = omega (arith, u .text .low) in record { sum = rw z (omega (arith, u .text .end, rows-length i)); pasted = rw (words-each (logUp g c)) (fill-end textOf g (u .text) le) }

@@ -1,24 +1,21 @@
 -- The rows of a node: its first row, its lists, its instance.
 use mathlib.Core.Path.{_≡_, ap, _∙_}
-use mathlib.Core.List.{List, [], _∷_, _++_, map, append-nil, append-assoc}
+use mathlib.Core.List.{List, [], _∷_, _++_, map, append-assoc}
 use Prim.Native.Nat.{ℕ, zero, suc, _+_, _-_, _<_, _≤_}
 use native.Mathlib.Omega.{arith}
 use lib.ListN.{length, length-append}
-use borrow.Author.Tests.{eq-eqb, ne-eqb}
 use Rattle.sheet.specs.declared.row.Row.{Row}
 use Rattle.sheet.specs.Rows.{front}
 use Rattle.sheet.specs.Parse.{optional, originOf}
 use Rattle.sheet.specs.Print.{row, rowsOfEach, fieldRows, interfaceRows, statementRow, bodyElementRow, nodeRow, nodeRows, anyInstanceRows}
-use Rattle.journal.specs.Records.{tagField, tagInterface, tagStatement, tagOrder, tagNode, cell}
-use Rattle.journal.specs.Logs.{only}
-use Rattle.journal.specs.Owned.{tagged}
+use Rattle.journal.specs.Records.{tagField, tagInterface, tagStatement, tagOrder, cell}
 use Rattle.reading.specs.Reading.{fieldsAt, interfacesAt, statementsAt, orderAt, nodeBy, nodeRec, instanceAt}
 use Rattle.reading.specs.Fair.{HandleAt, NodeClosed}
 use Rattle.writer.specs.declared.lists.Kind.the-variants.{Fields, Interfaces, Statements, Order}
 use Rattle.writer.specs.Writing.{Room}
 use Rattle.writer.specs.Cells.{fieldRec, interfaceRec, statementRec, orderRec}
 use Rattle.writer.specs.Lists.{listRows}
-use Rattle.writer.specs.Instances.{Legible, nodeRowsAt}
+use Rattle.writer.specs.Instances.{Legible, NodeIn}
 use Rattle.writer.proofs.Writing.{backwards, Stage, begin}
 use Rattle.writer.proofs.Chains.{chain-each, chain-rows}
 use Rattle.writer.proofs.Records.{or-none}
@@ -91,29 +88,25 @@ module _ (w : List ℕ) (r : ℕ) where
       anyInstanceRows (instanceAt w (cell w r 11)) ∷ listRows Order w (cell w r 10) ∷ listRows Statements w (cell w r 9) ∷ listRows Interfaces w (cell w r 8) ∷ listRows Fields w (cell w r 7)
       ∷ (front (nodeRows (nodeRec w r)) ∷ []) ∷ []
 
-  -- a record that is no node has none
-  pub node-not : (cell w r 0 ≡ tagNode → ⊥) → nodeRowsAt w r ≡ []
-  unfolding nodeRowsAt only tagged
-  node-not a = rw (ne-eqb _ _ a)
-
-module _ {w : List ℕ} {c r : ℕ} (L : Legible w c) (lt : r < c) (a : cell w r 0 ≡ tagNode) where
-  node-at : nodeRowsAt w r ≡ nodeRows (nodeRec w r)
-  unfolding nodeRowsAt only tagged
-  node-at = rw (eq-eqb _ _ a) (append-nil (nodeRows (nodeRec w r)))
+module _ {w : List ℕ} {c r : ℕ} (n : NodeIn w c r) where
+  -- the handles of its lists
+  pub node-closed : NodeClosed w c r
+  node-closed = n .legible .fair .each r (n .below) .node (n .tag)
 
   node-shape : nodeRows (nodeRec w r) ≡ backwards (parts w r)
   unfolding nodeBy
   node-shape =
-      let x : NodeClosed w c r = L .fair .each r lt .node a in
+      let x : NodeClosed w c r = node-closed in
+      let L : Legible w c = n .legible in
       rw (fields-rows L (x .fields), interfaces-rows L (x .interface), statements-rows L (x .statements), order-rows L (x .bodyOrder))
       (regroup w r (front (nodeRows (nodeRec w r))) (listRows Fields w (cell w r 7)) (listRows Interfaces w (cell w r 8)) (listRows Statements w (cell w r 9)) (listRows Order w (cell w r 10)) (anyInstanceRows (instanceAt w (cell w r 11))))
 
   -- its blocks, to be written from the last on
-  pub node-stage : {o : List ℕ} {e : ℕ} → Room (nodeRowsAt w r) o e → Stage (nodeRowsAt w r) (parts w r) o o e e
-  node-stage m = begin m (node-at ∙ node-shape)
+  pub node-stage : {o : List ℕ} {e : ℕ} → Room (nodeRows (nodeRec w r)) o e → Stage (nodeRows (nodeRec w r)) (parts w r) o o e e
+  node-stage m = begin m node-shape
 
   -- so many rows it has
-  pub node-length : length (nodeRowsAt w r)
+  pub node-length : length (nodeRows (nodeRec w r))
       ≡ 1 + length (listRows Fields w (cell w r 7)) + length (listRows Interfaces w (cell w r 8)) + length (listRows Statements w (cell w r 9)) + length (listRows Order w (cell w r 10)) + length (anyInstanceRows (instanceAt w (cell w r 11)))
   unfolding backwards
-  node-length = ap length (node-at ∙ node-shape) ∙ simp length-append (omega arith)
+  node-length = ap length node-shape ∙ simp length-append (omega arith)

@@ -25,8 +25,8 @@ use Rattle.writer.specs.Cells.{chain, idsIn, valueRec, fieldRec, interfa
 word : (w : List ℕ) (r t j : ℕ) → cell w r 0 ≡ t → j < stays t → kept w r j ≡ cell w r j
 word w r t j e l = kept-is w r t j (cell w r j) e l refl
 
-listed-word : (w : List ℕ) (r t j : ℕ) → listed t ≡ true → cell w r 0 ≡ t → j < 12 → kept w r j ≡ cell w r j
-listed-word w r t j l e lj = word w r t j e (rw (listed-stays t l) lj)
+listed-word : (w : List ℕ) (r t j : ℕ) → listed t ≡ true → cell w r 0 ≡ t → j < 11 → kept w r j ≡ cell w r j
+listed-word w r t j l e lj = word w r t j e (omega (arith, listed-stays t l))
 
 module _ {w : List ℕ} where
   -- ---- lists that handles lead to
@@ -41,7 +41,7 @@ module _ {w : List ℕ} where
     value-read : (r t : ℕ) → r < c → cell w r 0 ≡ t → valued t ≡ true → state.valueRec w r ≡ valueRec w r
     value-read r t lr e v = rw (k 5 (omega arith), k 6 (omega arith), k 7 (omega arith)) (by (eqb (cell w r 6) 2) refl)
       where
-        k : (j : ℕ) → j < 12 → kept w r j ≡ cell w r j
+        k : (j : ℕ) → j < 11 → kept w r j ≡ cell w r j
         k j lj = listed-word w r t j (valued-listed t v) e lj
 
         by : (b : Bool) → eqb (cell w r 6) 2 ≡ b

@@ -1,8 +1,7 @@
 -- The document that the journal of an accepted expansion stands for.
 use mathlib.Core.List.{List, []}
 use mathlib.Core.Path.{_≡_}
-use Prim.Native.Nat.{ℕ, _*_, _≤_}
-use lib.ListN.{length}
+use Prim.Native.Nat.{ℕ}
 use Rattle.ast.specs.Ast.{Document}
 use Rattle.sheet.specs.declared.row.Row.{Row}
 use Rattle.sheet.specs.Rows.{rows, front}
@@ -10,8 +9,9 @@ use Rattle.sheet.specs.Print.{documentRows}
 use Rattle.journal.specs.Records.{tagExtern, tagStatement}
 use Rattle.reading.specs.Reading.{nodesOf, externsOf, statementsAt, below}
 use Rattle.reading.specs.Fair.{HandleAt}
-use Rattle.writer.specs.Writing.{most}
+use Rattle.writer.specs.Writing.{Pasted, Wrote}
 use Rattle.writer.specs.Instances.{Legible}
+use Rattle.writer.specs.Tables.{scopeText, ledgerText}
 
 -- the root's header, the nodes and externs of the first c records, and the statements that end at tops
 unfoldable pub documentIn : List ℕ → List ℕ → List ℕ → ℕ → ℕ → Document
@@ -27,8 +27,8 @@ pub record Printable (w : List ℕ) (c some tops : ℕ) : Type 0 where
   pub externs : some ≡ below w tagExtern c
   pub ends : HandleAt w c tagStatement tops
 
--- R has n rows, and o room for them
-pub record Fits (R : List Row) (o : List ℕ) (n : ℕ) : Type 0 where
-  pub count : n ≡ length R
-  pub inside : 8 * n ≤ length o
-  pub few : n ≤ most
+-- R stands in o up to row n, the ledger and the scopes of the first c records in l and s
+pub record Written (R : List Row) (w : List ℕ) (c : ℕ) (o o′ l l′ s s′ : List ℕ) (n : ℕ) : Type 0 where
+  pub rows : Wrote R o o′ n 0
+  pub ledger : Pasted (ledgerText w c) l l′ 0
+  pub scopes : Pasted (scopeText w c) s s′ 0

@@ -1,19 +1,14 @@
 -- The rows of a declared extern, read from the sheet that declares it.
 use mathlib.Core.List.{List, map}
-use Prim.Native.Nat.{ℕ}
 use lib.Dec.{eqb}
 use Rattle.sheet.specs.declared.row.Row.{Row}
 use Rattle.sheet.specs.declared.part.Part.{Part}
 use Rattle.sheet.specs.Rows.{front}
 use Rattle.sheet.specs.Parse.{kindOf, elements, externProtoOf}
-use Rattle.sheet.specs.Print.{row, rowsOfEach, externProtoRows}
+use Rattle.sheet.specs.Print.{row, externProtoRows}
 use Rattle.ast.specs.Ast.{ExternProtoDecl}
 use Rattle.ast.specs.Choice.{choose}
 use Rattle.expansion.specs.Externs.{noValue}
-use Rattle.journal.specs.Records.{tagExtern}
-use Rattle.journal.specs.Logs.{only}
-use Rattle.journal.specs.Owned.{tagged}
-use Rattle.reading.specs.Reading.{externRec}
 
 -- a url's row, or an interface's of class 0
 abbrev pub declaredRow : Part → Row → Row
@@ -28,7 +23,3 @@ abbrev pub externRows : List Row → List Row
 externRows l =
     let x : ExternProtoDecl = externProtoOf l in
     externProtoRows (record { name = x .name; interface = map noValue (x .interface); urls = x .urls })
-
--- the rows of record r, if it is an extern
-unfoldable pub externRowsAt : List ℕ → List ℕ → List ℕ → ℕ → List Row
-externRowsAt root library w r = rowsOfEach externProtoRows (only (tagged w tagExtern) (externRec root library w) r)

@@ -1,57 +1,42 @@
-// The output sheet.
+// The output sheet, the ledger and the scopes.
 use super::externs;
 use super::lists;
 use super::lists::Kind;
-use super::nodes;
+use super::pass;
 use super::rows;
 use sheet::row;
-ghost use mathlib.Core.Path.{_≡_};
-ghost use mathlib.Core.List.{_++_};
-ghost use Prim.Native.Nat.{_*_, _≤_};
-ghost use lib.ListN.{length, drop};
-ghost use Rattle.sheet.specs.Rows.{words};
-ghost use Rattle.writer.specs.Writing.{most};
-ghost use Rattle.writer.specs.Document.{outRows, Printable, Fits};
+ghost use lib.ListN.{length};
+ghost use Rattle.writer.specs.Writing.{Room};
+ghost use Rattle.writer.specs.Tables.{TablesRoom};
+ghost use Rattle.writer.specs.Document.{outRows, Printable, Written};
 
-// The rows of the output; `some` is the number of its externs.
-pub fn count<'a>(
-    root: &'a [u32],
-    library: &'a [u32],
-    work: &[u32],
-    c: usize,
-    some: u32,
-    tops: u32,
-) -> usize
-    requires { ⌜ Printable (now work) c some tops ⌝ }
-    requires { ⌜ length (outRows (now root) (now library) (now work) c tops) ≤ most ⌝ }
-    ensures { λ n. ⌜ n ≡ length (outRows (now (root .entry)) (now (library .entry)) (now (work .entry)) c tops) ⌝ }
-{
-    let a = lists::count_list(work, Kind::Statements, lists::wide(tops));
-    let b = externs::count_externs(root, library, work, c, some);
-    2 + nodes::count_nodes(work, c) + b + a
-}
-
+// Answers the number of rows; `some` is the number of externs.
 pub fn write<'a>(
     root: &'a [u32],
     library: &'a [u32],
     work: &[u32],
     c: usize,
-    some: u32,
+    some: usize,
     tops: u32,
     out: &mut [u32],
-    rows: usize,
-)
+    ledger: &mut [u32],
+    scopes: &mut [u32],
+) -> usize
     requires { ⌜ Printable (now work) c some tops ⌝ }
-    requires { ⌜ Fits (outRows (now root) (now library) (now work) c tops) (now out) rows ⌝ }
-    ensures { λ _. ⌜ now (out .exit) ≡ words (outRows (now (root .entry)) (now (library .entry)) (now (work .entry)) c tops) ++ drop (8 * rows) (now (out .entry)) ⌝ }
+    requires { ⌜ Room (outRows (now root) (now library) (now work) c tops) (now out) (length (outRows (now root) (now library) (now work) c tops)) ⌝ }
+    requires { ⌜ TablesRoom (now work) c (now ledger) (now scopes) ⌝ }
+    ensures { λ n. ⌜ Written (outRows (now (root .entry)) (now (library .entry)) (now (work .entry)) c tops) (now (work .entry)) c (now (out .entry)) (now (out .exit)) (now (ledger .entry)) (now (ledger .exit)) (now (scopes .entry)) (now (scopes .exit)) n ⌝ }
 {
-    let a = lists::list(work, Kind::Statements, lists::wide(tops), out, rows);
-    let b = rows::back(out, a, rows::line(11, 0, 0, 0, 0, 0, 0, 0));
-    let d = externs::externs(root, library, work, c, some, out, b);
-    let e = nodes::nodes(work, c, out, d);
-    rows::back(
+    rows::put(
         out,
-        e,
+        0,
         rows::line(1, row::row_at(root, 0).a, 0, 0, 0, 0, 0, 0),
     );
+    let a = pass::pass(work, c, out, 1, ledger, scopes);
+    let b = externs::externs(root, library, work, c, some, out, a);
+    rows::put(out, b, rows::line(11, 0, 0, 0, 0, 0, 0, 0));
+    let last = lists::wide(tops);
+    let end = b + 1 + lists::count_list(work, Kind::Statements, last);
+    lists::list(work, Kind::Statements, last, out, end);
+    end
 }

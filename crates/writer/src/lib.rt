@@ -1,7 +1,8 @@
-// Out, scopes and ledger from the journal of an accepted expansion. Out is written from its last row to its first.
+// Out, scopes and ledger from the journal of an accepted expansion: one pass over the records, and then what follows the nodes.
 pub mod document;
-pub mod externs;
-pub mod lists;
-pub mod nodes;
-pub mod rows;
-pub mod tables;
+mod externs;
+mod lists;
+mod nodes;
+mod pass;
+mod rows;
+mod tables;

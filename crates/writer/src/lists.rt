@@ -277,7 +277,11 @@ pub fn list_at(work: &[u32], kind: Kind, r: usize, j: usize, out: &mut [u32], en
     requires { ⌜ Room (listRows kind (now work) (cell (now work) r j)) (now out) end ⌝ }
     ensures { λ p. ⌜ Wrote (listRows kind (now (work .entry)) (cell (now (work .entry)) r j)) (now (out .entry)) (now (out .exit)) end p ⌝ }
 {
-    list(work, kind, handle(work, r, j), out, end)
+    let h = handle(work, r, j);
+    if h == 0 {
+        return end;
+    }
+    list(work, kind, h, out, end)
 }
 
 pub fn count_at(work: &[u32], kind: Kind, r: usize, j: usize) -> usize
@@ -285,7 +289,11 @@ pub fn count_at(work: &[u32], kind: Kind, r: usize, j: usize) -> usize
     requires { ⌜ length (listRows kind (now work) (cell (now work) r j)) ≤ most ⌝ }
     ensures { λ n. ⌜ n ≡ length (listRows kind (now (work .entry)) (cell (now (work .entry)) r j)) ⌝ }
 {
-    count_list(work, kind, handle(work, r, j))
+    let h = handle(work, r, j);
+    if h == 0 {
+        return 0;
+    }
+    count_list(work, kind, h)
 }
 
 pub fn handle(work: &[u32], r: usize, j: usize) -> usize

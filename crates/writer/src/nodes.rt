@@ -8,12 +8,12 @@ ghost use mathlib.Core.Path.{_≡_};
 ghost use Prim.Native.Nat.{_+_, _*_, _<_, _≤_};
 ghost use lib.ListN.{length};
 ghost use Rattle.sheet.specs.Rows.{front};
-ghost use Rattle.sheet.specs.Print.{rowsOfEach, nodeRows, anyInstanceRows};
+ghost use Rattle.sheet.specs.Print.{nodeRows, anyInstanceRows};
 ghost use Rattle.journal.specs.Records.{tagInstance};
-ghost use Rattle.reading.specs.Reading.{nodeRec, nodesOf, instanceAt};
+ghost use Rattle.reading.specs.Reading.{nodeRec, instanceAt};
 ghost use Rattle.reading.specs.Fair.{HandleAt};
 ghost use Rattle.writer.specs.Writing.{most, Room, Wrote};
-ghost use Rattle.writer.specs.Instances.{Legible, ownWord, nestedRows, nodeRowsAt};
+ghost use Rattle.writer.specs.Instances.{Legible, NodeIn, ownWord, nestedRows};
 
 fn own_word(kind: Kind) -> usize
     ensures { λ j. ⌜ j ≡ ownWord kind ⌝ }
@@ -120,15 +120,12 @@ fn first(work: &[u32], r: usize) -> Row
     rows::line(2, of, name, 3, 0, 0, 0, 0)
 }
 
-// The rows of record `r`, if it is a node.
-fn count_node(work: &[u32], c: usize, r: usize) -> usize
-    requires { ⌜ (Legible (now work) c) × (r < c) ⌝ }
-    requires { ⌜ length (nodeRowsAt (now work) r) ≤ most ⌝ }
-    ensures { λ n. ⌜ n ≡ length (nodeRowsAt (now (work .entry)) r) ⌝ }
+// The rows of node `r`.
+pub fn count_node(work: &[u32], c: usize, r: usize) -> usize
+    requires { ⌜ NodeIn (now work) c r ⌝ }
+    requires { ⌜ length (nodeRows (nodeRec (now work) r)) ≤ most ⌝ }
+    ensures { λ n. ⌜ n ≡ length (nodeRows (nodeRec (now (work .entry)) r)) ⌝ }
 {
-    if journal::word(work, r, 0) != 3 {
-        return 0;
-    }
     let a = count_instance(work, c, lists::handle(work, r, 11));
     let b = lists::count_at(work, Kind::Order, r, 10);
     let d = lists::count_at(work, Kind::Statements, r, 9);
@@ -136,46 +133,15 @@ fn count_node(work: &[u32], c: usize, r: usize) -> usize
     1 + lists::count_at(work, Kind::Fields, r, 7) + e + d + b + a
 }
 
-fn node(work: &[u32], c: usize, r: usize, out: &mut [u32], end: usize) -> usize
-    requires { ⌜ (Legible (now work) c) × (r < c) ⌝ }
-    requires { ⌜ Room (nodeRowsAt (now work) r) (now out) end ⌝ }
-    ensures { λ p. ⌜ Wrote (nodeRowsAt (now (work .entry)) r) (now (out .entry)) (now (out .exit)) end p ⌝ }
+pub fn node(work: &[u32], c: usize, r: usize, out: &mut [u32], end: usize) -> usize
+    requires { ⌜ NodeIn (now work) c r ⌝ }
+    requires { ⌜ Room (nodeRows (nodeRec (now work) r)) (now out) end ⌝ }
+    ensures { λ p. ⌜ Wrote (nodeRows (nodeRec (now (work .entry)) r)) (now (out .entry)) (now (out .exit)) end p ⌝ }
 {
-    if journal::word(work, r, 0) != 3 {
-        return end;
-    }
     let a = instance(work, c, lists::handle(work, r, 11), out, end);
     let b = lists::list_at(work, Kind::Order, r, 10, out, a);
     let d = lists::list_at(work, Kind::Statements, r, 9, out, b);
     let e = lists::list_at(work, Kind::Interfaces, r, 8, out, d);
     let f = lists::list_at(work, Kind::Fields, r, 7, out, e);
     rows::back(out, f, first(work, r))
-}
-
-pub fn count_nodes(work: &[u32], c: usize) -> usize
-    requires { ⌜ Legible (now work) c ⌝ }
-    requires { ⌜ length (rowsOfEach nodeRows (nodesOf (now work) c)) ≤ most ⌝ }
-    ensures { λ n. ⌜ n ≡ length (rowsOfEach nodeRows (nodesOf (now (work .entry)) c)) ⌝ }
-{
-    let mut n = 0;
-    let mut i = c;
-    while 0 < i {
-        i -= 1;
-        n += count_node(work, c, i);
-    }
-    n
-}
-
-pub fn nodes(work: &[u32], c: usize, out: &mut [u32], end: usize) -> usize
-    requires { ⌜ Legible (now work) c ⌝ }
-    requires { ⌜ Room (rowsOfEach nodeRows (nodesOf (now work) c)) (now out) end ⌝ }
-    ensures { λ p. ⌜ Wrote (rowsOfEach nodeRows (nodesOf (now (work .entry)) c)) (now (out .entry)) (now (out .exit)) end p ⌝ }
-{
-    let mut i = c;
-    let mut p = end;
-    while 0 < i {
-        i -= 1;
-        p = node(work, c, i, out, p);
-    }
-    p
 }

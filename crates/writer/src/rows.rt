@@ -5,7 +5,7 @@ ghost use mathlib.Core.List.{[], _∷_};
 ghost use Prim.Native.Nat.{_+_, _*_, _≤_};
 ghost use lib.ListN.{length};
 ghost use Rattle.sheet.specs.Print.{row};
-ghost use Rattle.writer.specs.Writing.{Put, Room, Wrote};
+ghost use Rattle.writer.specs.Writing.{Room, Wrote};
 
 pub fn line(kind: u32, a: u32, b: u32, c: u32, d: u32, e: u32, f: u32, g: u32) -> Row
     ensures { λ r. ⌜ r ≡ row kind a b c d e f g ⌝ }
@@ -24,7 +24,7 @@ pub fn line(kind: u32, a: u32, b: u32, c: u32, d: u32, e: u32, f: u32, g: u32) -
 
 pub fn put(out: &mut [u32], at: usize, r: Row)
     requires { ⌜ 8 * at + 8 ≤ length (now out) ⌝ }
-    ensures { λ _. ⌜ Put (now (out .entry)) (now (out .exit)) at r ⌝ }
+    ensures { λ _. ⌜ Wrote (r ∷ []) (now (out .entry)) (now (out .exit)) (at + 1) at ⌝ }
 {
     let i = 8 * at;
     out[i] = r.kind;

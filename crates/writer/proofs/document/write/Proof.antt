@@ -6,61 +6,83 @@ use Rattle.writer.proofs.document.write.Reads as reads
 use Rattle.writer.proofs.document.write.Lts as lts
 use Rattle.sheet.proofs.row.row_at.Reads as row-at-reads
 use Rattle.writer.proofs.externs.externs.Reads as externs-reads
+use Rattle.writer.proofs.lists.count_list.Reads as count-list-reads
 use Rattle.writer.proofs.lists.list.Reads as list-reads
 use Rattle.writer.proofs.lists.wide.Reads as wide-reads
-use Rattle.writer.proofs.nodes.nodes.Reads as nodes-reads
-use Rattle.writer.proofs.rows.back.Reads as back-reads
+use Rattle.writer.proofs.pass.pass.Reads as pass-reads
 use Rattle.writer.proofs.rows.line.Reads as line-reads
+use Rattle.writer.proofs.rows.put.Reads as put-reads
 use native.Mathlib.Omega.{arith}
+use mathlib.Core.Path.{refl}
 use denote.Ref.{now}
-use Rattle.writer.proofs.Writing.{room-of, next, finish}
-use Rattle.writer.proofs.DocumentRows.{out-stage, out-whole}
-
-wide-requires : tie.Need-wide-requires
-wide-requires c κs = search needs
-
-list-requires : tie.Need-list-requires
-list-requires c κs = rw (c .before .wide .ensures .same) (omega (arith, c .before .before .before .before .before .before .pre .0 .legible .records, c .before .before .before .before .before .before .pre .0 .ends .low), room-of (out-stage (now (c .before .before .before .before .before .before .args .root)) (now (c .before .before .before .before .before .before .args .library)) (now (c .before .before .before .before .before .before .args .work)) (c .before .before .before .before .before .before .args .c) (c .before .before .before .before .before .before .args .tops) (c .before .before .before .before .before .before .pre .0) (c .before .before .before .before .before .before .pre .1)))
-
-line-requires : tie.Need-line-requires
-line-requires c κs = search needs
-
-back-requires : tie.Need-back-requires
-back-requires c κs = rw (c .line .ensures) (room-of (next (out-stage (now (c .before .before .before .before .before .before .before .before .before .before .before .args .root)) (now (c .before .before .before .before .before .before .before .before .before .before .before .args .library)) (now (c .before .before .before .before .before .before .before .before .before .before .before .args .work)) (c .before .before .before .before .before .before .before .before .before .before .before .args .c) (c .before .before .before .before .before .before .before .before .before .before .before .args .tops) (c .before .before .before .before .before .before .before .before .before .before .before .pre .0) (c .before .before .before .before .before .before .before .before .before .before .before .pre .1)) (rw (c .before .before .before .before .before .before .wide .ensures .same) at (c .before .before .before .before .list .ensures))))
-
-externs-requires : tie.Need-externs-requires
-externs-requires c κs = (c .before .before .before .before .before .before .before .before .before .before .before .before .before .before .before .pre .0 .legible .records, (c .before .before .before .before .before .before .before .before .before .before .before .before .before .before .before .pre .0 .externs, room-of (next (next (out-stage (now (c .before .before .before .before .before .before .before .before .before .before .before .before .before .before .before .args .root)) (now (c .before .before .before .before .before .before .before .before .before .before .before .before .before .before .before .args .library)) (now (c .before .before .before .before .before .before .before .before .before .before .before .before .before .before .before .args .work)) (c .before .before .before .before .before .before .before .before .before .before .before .before .before .before .before .args .c) (c .before .before .before .before .before .before .before .before .before .before .before .before .before .before .before .args .tops) (c .before .before .before .before .before .before .before .before .before .before .before .before .before .before .before .pre .0) (c .before .before .before .before .before .before .before .before .before .before .before .before .before .before .before .pre .1)) (rw (c .before .before .before .before .before .before .before .before .before .before .wide .ensures .same) at (c .before .before .before .before .before .before .before .before .list .ensures))) (rw (c .before .before .before .before .line .ensures) at (c .before .before .before .back .ensures)))))
-
-nodes-requires : tie.Need-nodes-requires
-nodes-requires c κs = (c .before .before .before .before .before .before .before .before .before .before .before .before .before .before .before .before .before .before .before .pre .0 .legible, room-of (next (next (next (out-stage (now (c .before .before .before .before .before .before .before .before .before .before .before .before .before .before .before .before .before .before .before .args .root)) (now (c .before .before .before .before .before .before .before .before .before .before .before .before .before .before .before .before .before .before .before .args .library)) (now (c .before .before .before .before .before .before .before .before .before .before .before .before .before .before .before .before .before .before .before .args .work)) (c .before .before .before .before .before .before .before .before .before .before .before .before .before .before .before .before .before .before .before .args .c) (c .before .before .before .before .before .before .before .before .before .before .before .before .before .before .before .before .before .before .before .args .tops) (c .before .before .before .before .before .before .before .before .before .before .before .before .before .before .before .before .before .before .before .pre .0) (c .before .before .before .before .before .before .before .before .before .before .before .before .before .before .before .before .before .before .before .pre .1)) (rw (c .before .before .before .before .before .before .before .before .before .before .before .before .before .before .wide .ensures .same) at (c .before .before .before .before .before .before .before .before .before .before .before .before .list .ensures))) (rw (c .before .before .before .before .before .before .before .before .line .ensures) at (c .before .before .before .before .before .before .before .back .ensures))) (c .before .before .before .externs .ensures)))
+use Rattle.writer.proofs.Writing.{wrote-from, room-on, go-on, arrive}
+use Rattle.writer.proofs.DocumentRows.{out-coming}
 
 row-at-requires : tie.Need-row-at-requires
 row-at-requires c κs = search needs
 
+line-requires : tie.Need-line-requires
+line-requires c κs = search needs
+
+put-requires : tie.Need-put-requires
+put-requires c κs = omega (arith, room-on (out-coming (now (c .before .before .before .before .before .before .before .before .before .args .root)) (now (c .before .before .before .before .before .before .before .before .before .args .library)) (now (c .before .before .before .before .before .before .before .before .before .args .work)) (c .before .before .before .before .before .before .before .before .before .args .c) (c .before .before .before .before .before .before .before .before .before .args .tops) (c .before .before .before .before .before .before .before .before .before .pre .0) (c .before .before .before .before .before .before .before .before .before .pre .1 .0)) .inside)
+
+pass-requires : tie.Need-pass-requires
+pass-requires c κs = (c .before .before .before .before .before .before .before .before .before .before .before .before .before .before .before .pre .0 .legible, (room-on (go-on (out-coming (now (c .before .before .before .before .before .before .before .before .before .before .before .before .before .before .before .args .root)) (now (c .before .before .before .before .before .before .before .before .before .before .before .before .before .before .before .args .library)) (now (c .before .before .before .before .before .before .before .before .before .before .before .before .before .before .before .args .work)) (c .before .before .before .before .before .before .before .before .before .before .before .before .before .before .before .args .c) (c .before .before .before .before .before .before .before .before .before .before .before .before .before .before .before .args .tops) (c .before .before .before .before .before .before .before .before .before .before .before .before .before .before .before .pre .0) (c .before .before .before .before .before .before .before .before .before .before .before .before .before .before .before .pre .1 .0)) (rw (c .before .before .before .before .before .before .line .ensures, c .before .before .before .before .before .before .before .row-at .ensures) at (c .before .before .before .before .before .put .ensures))), c .before .before .before .before .before .before .before .before .before .before .before .before .before .before .before .pre .1 .1))
+
+externs-requires : tie.Need-externs-requires
+externs-requires c κs = (c .before .before .before .before .before .before .before .before .before .before .before .before .before .before .before .before .before .before .before .before .before .before .before .pre .0 .legible .records, (c .before .before .before .before .before .before .before .before .before .before .before .before .before .before .before .before .before .before .before .before .before .before .before .pre .0 .externs, room-on (go-on (go-on (out-coming (now (c .before .before .before .before .before .before .before .before .before .before .before .before .before .before .before .before .before .before .before .before .before .before .before .args .root)) (now (c .before .before .before .before .before .before .before .before .before .before .before .before .before .before .before .before .before .before .before .before .before .before .before .args .library)) (now (c .before .before .before .before .before .before .before .before .before .before .before .before .before .before .before .before .before .before .before .before .before .before .before .args .work)) (c .before .before .before .before .before .before .before .before .before .before .before .before .before .before .before .before .before .before .before .before .before .before .before .args .c) (c .before .before .before .before .before .before .before .before .before .before .before .before .before .before .before .before .before .before .before .before .before .before .before .args .tops) (c .before .before .before .before .before .before .before .before .before .before .before .before .before .before .before .before .before .before .before .before .before .before .before .pre .0) (c .before .before .before .before .before .before .before .before .before .before .before .before .before .before .before .before .before .before .before .before .before .before .before .pre .1 .0)) (rw (c .before .before .before .before .before .before .before .before .before .before .before .before .before .before .line .ensures, c .before .before .before .before .before .before .before .before .before .before .before .before .before .before .before .row-at .ensures) at (c .before .before .before .before .before .before .before .before .before .before .before .before .before .put .ensures))) (c .before .before .before .before .before .before .before .pass .ensures .0))))
+
 line-requires-2 : tie.Need-line-requires-2
 line-requires-2 c κs = search needs
 
-back-requires-2 : tie.Need-back-requires-2
-back-requires-2 c κs = rw (c .line2 .ensures, c .before .row-at .ensures) (room-of (next (next (next (next (out-stage (now (c .before .before .before .before .before .before .before .before .before .before .before .before .before .before .before .before .before .before .before .before .before .before .before .before .before .args .root)) (now (c .before .before .before .before .before .before .before .before .before .before .before .before .before .before .before .before .before .before .before .before .before .before .before .before .before .args .library)) (now (c .before .before .before .before .before .before .before .before .before .before .before .before .before .before .before .before .before .before .before .before .before .before .before .before .before .args .work)) (c .before .before .before .before .before .before .before .before .before .before .before .before .before .before .before .before .before .before .before .before .before .before .before .before .before .args .c) (c .before .before .before .before .before .before .before .before .before .before .before .before .before .before .before .before .before .before .before .before .before .before .before .before .before .args .tops) (c .before .before .before .before .before .before .before .before .before .before .before .before .before .before .before .before .before .before .before .before .before .before .before .before .before .pre .0) (c .before .before .before .before .before .before .before .before .before .before .before .before .before .before .before .before .before .before .before .before .before .before .before .before .before .pre .1)) (rw (c .before .before .before .before .before .before .before .before .before .before .before .before .before .before .before .before .before .before .before .before .wide .ensures .same) at (c .before .before .before .before .before .before .before .before .before .before .before .before .before .before .before .before .before .before .list .ensures))) (rw (c .before .before .before .before .before .before .before .before .before .before .before .before .before .before .line .ensures) at (c .before .before .before .before .before .before .before .before .before .before .before .before .before .back .ensures))) (c .before .before .before .before .before .before .before .before .before .externs .ensures)) (c .before .before .before .before .before .nodes .ensures)))
+put-requires-2 : tie.Need-put-requires-2
+put-requires-2 c κs = omega (arith, room-on (go-on (go-on (go-on (out-coming (now (c .before .before .before .before .before .before .before .before .before .before .before .before .before .before .before .before .before .before .before .before .before .before .before .before .before .before .before .before .args .root)) (now (c .before .before .before .before .before .before .before .before .before .before .before .before .before .before .before .before .before .before .before .before .before .before .before .before .before .before .before .before .args .library)) (now (c .before .before .before .before .before .before .before .before .before .before .before .before .before .before .before .before .before .before .before .before .before .before .before .before .before .before .before .before .args .work)) (c .before .before .before .before .before .before .before .before .before .before .before .before .before .before .before .before .before .before .before .before .before .before .before .before .before .before .before .before .args .c) (c .before .before .before .before .before .before .before .before .before .before .before .before .before .before .before .before .before .before .before .before .before .before .before .before .before .before .before .before .args .tops) (c .before .before .before .before .before .before .before .before .before .before .before .before .before .before .before .before .before .before .before .before .before .before .before .before .before .before .before .before .pre .0) (c .before .before .before .before .before .before .before .before .before .before .before .before .before .before .before .before .before .before .before .before .before .before .before .before .before .before .before .before .pre .1 .0)) (rw (c .before .before .before .before .before .before .before .before .before .before .before .before .before .before .before .before .before .before .before .line .ensures, c .before .before .before .before .before .before .before .before .before .before .before .before .before .before .before .before .before .before .before .before .row-at .ensures) at (c .before .before .before .before .before .before .before .before .before .before .before .before .before .before .before .before .before .before .put .ensures))) (c .before .before .before .before .before .before .before .before .before .before .before .before .pass .ensures .0)) (c .before .before .before .before .externs .ensures)) .inside)
+
+wide-requires : tie.Need-wide-requires
+wide-requires c κs = search needs
+
+add-end : tie.Need-add-end
+add-end c = omega (arith, room-on (go-on (go-on (go-on (go-on (out-coming (now (c .before .before .before .before .before .before .before .before .before .before .before .before .before .before .before .before .before .before .before .before .before .before .before .before .before .before .before .before .before .before .before .before .args .root)) (now (c .before .before .before .before .before .before .before .before .before .before .before .before .before .before .before .before .before .before .before .before .before .before .before .before .before .before .before .before .before .before .before .before .args .library)) (now (c .before .before .before .before .before .before .before .before .before .before .before .before .before .before .before .before .before .before .before .before .before .before .before .before .before .before .before .before .before .before .before .before .args .work)) (c .before .before .before .before .before .before .before .before .before .before .before .before .before .before .before .before .before .before .before .before .before .before .before .before .before .before .before .before .before .before .before .before .args .c) (c .before .before .before .before .before .before .before .before .before .before .before .before .before .before .before .before .before .before .before .before .before .before .before .before .before .before .before .before .before .before .before .before .args .tops) (c .before .before .before .before .before .before .before .before .before .before .before .before .before .before .before .before .before .before .before .before .before .before .before .before .before .before .before .before .before .before .before .before .pre .0) (c .before .before .before .before .before .before .before .before .before .before .before .before .before .before .before .before .before .before .before .before .before .before .before .before .before .before .before .before .before .before .before .before .pre .1 .0)) (rw (c .before .before .before .before .before .before .before .before .before .before .before .before .before .before .before .before .before .before .before .before .before .before .before .line .ensures, c .before .before .before .before .before .before .before .before .before .before .before .before .before .before .before .before .before .before .before .before .before .before .before .before .row-at .ensures) at (c .before .before .before .before .before .before .before .before .before .before .before .before .before .before .before .before .before .before .before .before .before .before .put .ensures))) (c .before .before .before .before .before .before .before .before .before .before .before .before .before .before .before .before .pass .ensures .0)) (c .before .before .before .before .before .before .before .before .externs .ensures)) (rw (c .before .before .before .before .line2 .ensures) at (c .before .before .before .put2 .ensures))) .few)
+
+count-list-requires : tie.Need-count-list-requires
+count-list-requires c κs = rw (c .wide .ensures .same) (omega (arith, c .before .before .before .before .before .before .before .before .before .before .before .before .before .before .before .before .before .before .before .before .before .before .before .before .before .before .before .before .before .before .before .before .pre .0 .legible .records, c .before .before .before .before .before .before .before .before .before .before .before .before .before .before .before .before .before .before .before .before .before .before .before .before .before .before .before .before .before .before .before .before .pre .0 .ends .low), omega (arith, room-on (go-on (go-on (go-on (go-on (out-coming (now (c .before .before .before .before .before .before .before .before .before .before .before .before .before .before .before .before .before .before .before .before .before .before .before .before .before .before .before .before .before .before .before .before .args .root)) (now (c .before .before .before .before .before .before .before .before .before .before .before .before .before .before .before .before .before .before .before .before .before .before .before .before .before .before .before .before .before .before .before .before .args .library)) (now (c .before .before .before .before .before .before .before .before .before .before .before .before .before .before .before .before .before .before .before .before .before .before .before .before .before .before .before .before .before .before .before .before .args .work)) (c .before .before .before .before .before .before .before .before .before .before .before .before .before .before .before .before .before .before .before .before .before .before .before .before .before .before .before .before .before .before .before .before .args .c) (c .before .before .before .before .before .before .before .before .before .before .before .before .before .before .before .before .before .before .before .before .before .before .before .before .before .before .before .before .before .before .before .before .args .tops) (c .before .before .before .before .before .before .before .before .before .before .before .before .before .before .before .before .before .before .before .before .before .before .before .before .before .before .before .before .before .before .before .before .pre .0) (c .before .before .before .before .before .before .before .before .before .before .before .before .before .before .before .before .before .before .before .before .before .before .before .before .before .before .before .before .before .before .before .before .pre .1 .0)) (rw (c .before .before .before .before .before .before .before .before .before .before .before .before .before .before .before .before .before .before .before .before .before .before .before .line .ensures, c .before .before .before .before .before .before .before .before .before .before .before .before .before .before .before .before .before .before .before .before .before .before .before .before .row-at .ensures) at (c .before .before .before .before .before .before .before .before .before .before .before .before .before .before .before .before .before .before .before .before .before .before .put .ensures))) (c .before .before .before .before .before .before .before .before .before .before .before .before .before .before .before .before .pass .ensures .0)) (c .before .before .before .before .before .before .before .before .externs .ensures)) (rw (c .before .before .before .before .line2 .ensures) at (c .before .before .before .put2 .ensures))) .few))
+
+add-end-2 : tie.Need-add-end-2
+add-end-2 c = omega (arith, rw (c .before .wide .ensures .same) at (c .count-list .ensures), room-on (go-on (go-on (go-on (go-on (out-coming (now (c .before .before .before .before .before .before .before .before .before .before .before .before .before .before .before .before .before .before .before .before .before .before .before .before .before .before .before .before .before .before .before .before .before .args .root)) (now (c .before .before .before .before .before .before .before .before .before .before .before .before .before .before .before .before .before .before .before .before .before .before .before .before .before .before .before .before .before .before .before .before .before .args .library)) (now (c .before .before .before .before .before .before .before .before .before .before .before .before .before .before .before .before .before .before .before .before .before .before .before .before .before .before .before .before .before .before .before .before .before .args .work)) (c .before .before .before .before .before .before .before .before .before .before .before .before .before .before .before .before .before .before .before .before .before .before .before .before .before .before .before .before .before .before .before .before .before .args .c) (c .before .before .before .before .before .before .before .before .before .before .before .before .before .before .before .before .before .before .before .before .before .before .before .before .before .before .before .before .before .before .before .before .before .args .tops) (c .before .before .before .before .before .before .before .before .before .before .before .before .before .before .before .before .before .before .before .before .before .before .before .before .before .before .before .before .before .before .before .before .before .pre .0) (c .before .before .before .before .before .before .before .before .before .before .before .before .before .before .before .before .before .before .before .before .before .before .before .before .before .before .before .before .before .before .before .before .before .pre .1 .0)) (rw (c .before .before .before .before .before .before .before .before .before .before .before .before .before .before .before .before .before .before .before .before .before .before .before .before .line .ensures, c .before .before .before .before .before .before .before .before .before .before .before .before .before .before .before .before .before .before .before .before .before .before .before .before .before .row-at .ensures) at (c .before .before .before .before .before .before .before .before .before .before .before .before .before .before .before .before .before .before .before .before .before .before .before .put .ensures))) (c .before .before .before .before .before .before .before .before .before .before .before .before .before .before .before .before .before .pass .ensures .0)) (c .before .before .before .before .before .before .before .before .before .externs .ensures)) (rw (c .before .before .before .before .before .line2 .ensures) at (c .before .before .before .before .put2 .ensures))) .few)
+
+list-requires : tie.Need-list-requires
+list-requires c κs = rw (c .before .before .wide .ensures .same) (omega (arith, c .before .before .before .before .before .before .before .before .before .before .before .before .before .before .before .before .before .before .before .before .before .before .before .before .before .before .before .before .before .before .before .before .before .before .pre .0 .legible .records, c .before .before .before .before .before .before .before .before .before .before .before .before .before .before .before .before .before .before .before .before .before .before .before .before .before .before .before .before .before .before .before .before .before .before .pre .0 .ends .low), rw (rw (c .before .before .wide .ensures .same) at (c .before .count-list .ensures)) (room-on (go-on (go-on (go-on (go-on (out-coming (now (c .before .before .before .before .before .before .before .before .before .before .before .before .before .before .before .before .before .before .before .before .before .before .before .before .before .before .before .before .before .before .before .before .before .before .args .root)) (now (c .before .before .before .before .before .before .before .before .before .before .before .before .before .before .before .before .before .before .before .before .before .before .before .before .before .before .before .before .before .before .before .before .before .before .args .library)) (now (c .before .before .before .before .before .before .before .before .before .before .before .before .before .before .before .before .before .before .before .before .before .before .before .before .before .before .before .before .before .before .before .before .before .before .args .work)) (c .before .before .before .before .before .before .before .before .before .before .before .before .before .before .before .before .before .before .before .before .before .before .before .before .before .before .before .before .before .before .before .before .before .before .args .c) (c .before .before .before .before .before .before .before .before .before .before .before .before .before .before .before .before .before .before .before .before .before .before .before .before .before .before .before .before .before .before .before .before .before .before .args .tops) (c .before .before .before .before .before .before .before .before .before .before .before .before .before .before .before .before .before .before .before .before .before .before .before .before .before .before .before .before .before .before .before .before .before .before .pre .0) (c .before .before .before .before .before .before .before .before .before .before .before .before .before .before .before .before .before .before .before .before .before .before .before .before .before .before .before .before .before .before .before .before .before .before .pre .1 .0)) (rw (c .before .before .before .before .before .before .before .before .before .before .before .before .before .before .before .before .before .before .before .before .before .before .before .before .before .line .ensures, c .before .before .before .before .before .before .before .before .before .before .before .before .before .before .before .before .before .before .before .before .before .before .before .before .before .before .row-at .ensures) at (c .before .before .before .before .before .before .before .before .before .before .before .before .before .before .before .before .before .before .before .before .before .before .before .before .put .ensures))) (c .before .before .before .before .before .before .before .before .before .before .before .before .before .before .before .before .before .before .pass .ensures .0)) (c .before .before .before .before .before .before .before .before .before .before .externs .ensures)) (rw (c .before .before .before .before .before .before .line2 .ensures) at (c .before .before .before .before .before .put2 .ensures)))))
 
 same-length : tie.Need-same-length
-same-length c = (finish (next (next (next (next (next (out-stage (now (c .before .before .before .before .before .before .before .before .before .before .before .before .before .before .before .before .before .before .before .before .before .before .before .before .before .before .before .before .args .root)) (now (c .before .before .before .before .before .before .before .before .before .before .before .before .before .before .before .before .before .before .before .before .before .before .before .before .before .before .before .before .args .library)) (now (c .before .before .before .before .before .before .before .before .before .before .before .before .before .before .before .before .before .before .before .before .before .before .before .before .before .before .before .before .args .work)) (c .before .before .before .before .before .before .before .before .before .before .before .before .before .before .before .before .before .before .before .before .before .before .before .before .before .before .before .before .args .c) (c .before .before .before .before .before .before .before .before .before .before .before .before .before .before .before .before .before .before .before .before .before .before .before .before .before .before .before .before .args .tops) (c .before .before .before .before .before .before .before .before .before .before .before .before .before .before .before .before .before .before .before .before .before .before .before .before .before .before .before .before .pre .0) (c .before .before .before .before .before .before .before .before .before .before .before .before .before .before .before .before .before .before .before .before .before .before .before .before .before .before .before .before .pre .1)) (rw (c .before .before .before .before .before .before .before .before .before .before .before .before .before .before .before .before .before .before .before .before .before .before .before .wide .ensures .same) at (c .before .before .before .before .before .before .before .before .before .before .before .before .before .before .before .before .before .before .before .before .before .list .ensures))) (rw (c .before .before .before .before .before .before .before .before .before .before .before .before .before .before .before .before .before .line .ensures) at (c .before .before .before .before .before .before .before .before .before .before .before .before .before .before .before .before .back .ensures))) (c .before .before .before .before .before .before .before .before .before .before .before .before .externs .ensures)) (c .before .before .before .before .before .before .before .before .nodes .ensures)) (rw (c .before .before .before .line2 .ensures, c .before .before .before .before .row-at .ensures) at (c .before .before .back2 .ensures)))) .long
+same-length c = arrive (go-on (go-on (go-on (go-on (go-on (out-coming (now (c .before .before .before .before .before .before .before .before .before .before .before .before .before .before .before .before .before .before .before .before .before .before .before .before .before .before .before .before .before .before .before .before .before .before .before .before .before .args .root)) (now (c .before .before .before .before .before .before .before .before .before .before .before .before .before .before .before .before .before .before .before .before .before .before .before .before .before .before .before .before .before .before .before .before .before .before .before .before .before .args .library)) (now (c .before .before .before .before .before .before .before .before .before .before .before .before .before .before .before .before .before .before .before .before .before .before .before .before .before .before .before .before .before .before .before .before .before .before .before .before .before .args .work)) (c .before .before .before .before .before .before .before .before .before .before .before .before .before .before .before .before .before .before .before .before .before .before .before .before .before .before .before .before .before .before .before .before .before .before .before .before .before .args .c) (c .before .before .before .before .before .before .before .before .before .before .before .before .before .before .before .before .before .before .before .before .before .before .before .before .before .before .before .before .before .before .before .before .before .before .before .before .before .args .tops) (c .before .before .before .before .before .before .before .before .before .before .before .before .before .before .before .before .before .before .before .before .before .before .before .before .before .before .before .before .before .before .before .before .before .before .before .before .before .pre .0) (c .before .before .before .before .before .before .before .before .before .before .before .before .before .before .before .before .before .before .before .before .before .before .before .before .before .before .before .before .before .before .before .before .before .before .before .before .before .pre .1 .0)) (rw (c .before .before .before .before .before .before .before .before .before .before .before .before .before .before .before .before .before .before .before .before .before .before .before .before .before .before .before .before .line .ensures, c .before .before .before .before .before .before .before .before .before .before .before .before .before .before .before .before .before .before .before .before .before .before .before .before .before .before .before .before .before .row-at .ensures) at (c .before .before .before .before .before .before .before .before .before .before .before .before .before .before .before .before .before .before .before .before .before .before .before .before .before .before .before .put .ensures))) (c .before .before .before .before .before .before .before .before .before .before .before .before .before .before .before .before .before .before .before .before .before .pass .ensures .0)) (c .before .before .before .before .before .before .before .before .before .before .before .before .before .externs .ensures)) (rw (c .before .before .before .before .before .before .before .before .before .line2 .ensures) at (c .before .before .before .before .before .before .before .before .put2 .ensures))) (wrote-from (rw (c .before .before .before .before .before .wide .ensures .same) at (c .before .before .before .before .count-list .ensures)) refl (rw (c .before .before .before .before .before .wide .ensures .same) at (c .before .before .list .ensures)))) .pasted .long
+
+same-length-2 : tie.Need-same-length-2
+same-length-2 c = search needs
+
+same-length-3 : tie.Need-same-length-3
+same-length-3 c = search needs
 
 returns : tie.Need-returns
-returns c = out-whole (now (c .before .before .before .before .before .before .before .before .before .before .before .before .before .before .before .before .before .before .before .before .before .before .before .before .before .before .before .before .args .root)) (now (c .before .before .before .before .before .before .before .before .before .before .before .before .before .before .before .before .before .before .before .before .before .before .before .before .before .before .before .before .args .library)) (now (c .before .before .before .before .before .before .before .before .before .before .before .before .before .before .before .before .before .before .before .before .before .before .before .before .before .before .before .before .args .work)) (c .before .before .before .before .before .before .before .before .before .before .before .before .before .before .before .before .before .before .before .before .before .before .before .before .before .before .before .before .args .c) (c .before .before .before .before .before .before .before .before .before .before .before .before .before .before .before .before .before .before .before .before .before .before .before .before .before .before .before .before .args .tops) (c .before .before .before .before .before .before .before .before .before .before .before .before .before .before .before .before .before .before .before .before .before .before .before .before .before .before .before .before .pre .1) (finish (next (next (next (next (next (out-stage (now (c .before .before .before .before .before .before .before .before .before .before .before .before .before .before .before .before .before .before .before .before .before .before .before .before .before .before .before .before .args .root)) (now (c .before .before .before .before .before .before .before .before .before .before .before .before .before .before .before .before .before .before .before .before .before .before .before .before .before .before .before .before .args .library)) (now (c .before .before .before .before .before .before .before .before .before .before .before .before .before .before .before .before .before .before .before .before .before .before .before .before .before .before .before .before .args .work)) (c .before .before .before .before .before .before .before .before .before .before .before .before .before .before .before .before .before .before .before .before .before .before .before .before .before .before .before .before .args .c) (c .before .before .before .before .before .before .before .before .before .before .before .before .before .before .before .before .before .before .before .before .before .before .before .before .before .before .before .before .args .tops) (c .before .before .before .before .before .before .before .before .before .before .before .before .before .before .before .before .before .before .before .before .before .before .before .before .before .before .before .before .pre .0) (c .before .before .before .before .before .before .before .before .before .before .before .before .before .before .before .before .before .before .before .before .before .before .before .before .before .before .before .before .pre .1)) (rw (c .before .before .before .before .before .before .before .before .before .before .before .before .before .before .before .before .before .before .before .before .before .before .before .wide .ensures .same) at (c .before .before .before .before .before .before .before .before .before .before .before .before .before .before .before .before .before .before .before .before .before .list .ensures))) (rw (c .before .before .before .before .before .before .before .before .before .before .before .before .before .before .before .before .before .line .ensures) at (c .before .before .before .before .before .before .before .before .before .before .before .before .before .before .before .before .back .ensures))) (c .before .before .before .before .before .before .before .before .before .before .before .before .externs .ensures)) (c .before .before .before .before .before .before .before .before .nodes .ensures)) (rw (c .before .before .before .line2 .ensures, c .before .before .before .before .row-at .ensures) at (c .before .before .back2 .ensures))))
+returns c = record { rows = arrive (go-on (go-on (go-on (go-on (go-on (out-coming (now (c .before .before .before .before .before .before .before .before .before .before .before .before .before .before .before .before .before .before .before .before .before .before .before .before .before .before .before .before .before .before .before .before .before .before .before .before .before .args .root)) (now (c .before .before .before .before .before .before .before .before .before .before .before .before .before .before .before .before .before .before .before .before .before .before .before .before .before .before .before .before .before .before .before .before .before .before .before .before .before .args .library)) (now (c .before .before .before .before .before .before .before .before .before .before .before .before .before .before .before .before .before .before .before .before .before .before .before .before .before .before .before .before .before .before .before .before .before .before .before .before .before .args .work)) (c .before .before .before .before .before .before .before .before .before .before .before .before .before .before .before .before .before .before .before .before .before .before .before .before .before .before .before .before .before .before .before .before .before .before .before .before .before .args .c) (c .before .before .before .before .before .before .before .before .before .before .before .before .before .before .before .before .before .before .before .before .before .before .before .before .before .before .before .before .before .before .before .before .before .before .before .before .before .args .tops) (c .before .before .before .before .before .before .before .before .before .before .before .before .before .before .before .before .before .before .before .before .before .before .before .before .before .before .before .before .before .before .before .before .before .before .before .before .before .pre .0) (c .before .before .before .before .before .before .before .before .before .before .before .before .before .before .before .before .before .before .before .before .before .before .before .before .before .before .before .before .before .before .before .before .before .before .before .before .before .pre .1 .0)) (rw (c .before .before .before .before .before .before .before .before .before .before .before .before .before .before .before .before .before .before .before .before .before .before .before .before .before .before .before .before .line .ensures, c .before .before .before .before .before .before .before .before .before .before .before .before .before .before .before .before .before .before .before .before .before .before .before .before .before .before .before .before .before .row-at .ensures) at (c .before .before .before .before .before .before .before .before .before .before .before .before .before .before .before .before .before .before .before .before .before .before .before .before .before .before .before .put .ensures))) (c .before .before .before .before .before .before .before .before .before .before .before .before .before .before .before .before .before .before .before .before .before .pass .ensures .0)) (c .before .before .before .before .before .before .before .before .before .before .before .before .before .externs .ensures)) (rw (c .before .before .before .before .before .before .before .before .before .line2 .ensures) at (c .before .before .before .before .before .before .before .before .put2 .ensures))) (wrote-from (rw (c .before .before .before .before .before .wide .ensures .same) at (c .before .before .before .before .count-list .ensures)) refl (rw (c .before .before .before .before .before .wide .ensures .same) at (c .before .before .list .ensures)))); ledger = c .before .before .before .before .before .before .before .before .before .before .before .before .before .before .before .before .before .before .before .before .before .pass .ensures .1 .0; scopes = c .before .before .before .before .before .before .before .before .before .before .before .before .before .before .before .before .before .before .before .before .before .pass .ensures .1 .1 }
 
 pub write-spec : {M : Type 1} → statement M
 write-spec =
     tie.close
     (tie.spec
-    wide-requires
-    list-requires
-    line-requires
-    back-requires
-    externs-requires
-    nodes-requires
     row-at-requires
+    line-requires
+    put-requires
+    pass-requires
+    externs-requires
     line-requires-2
-    back-requires-2
+    put-requires-2
+    wide-requires
+    add-end
+    count-list-requires
+    add-end-2
+    list-requires
     same-length
+    same-length-2
+    same-length-3
     returns)

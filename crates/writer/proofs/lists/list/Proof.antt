@@ -36,7 +36,7 @@ loop-again : tie.Need-loop-again Inv-loop μ-loop
 loop-again c = chain-again _ _ (c .before .before .before .before .before .before .loop .inv) (c .before .before .before .before .before .loop-test .taken) (c .before2 .ensures) (c .before .before .before .item .ensures)
 
 same-length : tie.Need-same-length Inv-loop μ-loop
-same-length c = c .before .loop .inv .stage .long
+same-length c = c .before .loop .inv .stage .wrote .pasted .long
 
 returns : tie.Need-returns Inv-loop μ-loop
 unfolding listRows

@@ -56,7 +56,7 @@ back-requires : tie.Need-back-requires
 back-requires c κs = rw (instance-first _ (c .before .before .before .before .before .before .before .before .before .before .before .before .before .before .before .before .before .before .args .h) (c .before .before .before .before .before .before .before .before .before .before .before .before .before .list-at .ensures) (c .before .before .before .before .before .before .before .before .before .nested .ensures) (c .before .before .before .before .before .nested2 .ensures) (c .before .before .word .ensures) (c .before .line .ensures)) (room-of (next (next (next (instance-stage (c .before .before .before .before .before .before .before .before .before .before .before .before .before .before .before .before .before .before .pre .0) (c .before .before .before .before .before .before .before .before .before .before .before .before .before .before .before .before .before .before .pre .1 .0) (omega (arith, c .before .before .before .before .before .before .before .before .before .before .before .before .before .before .before .if1 .left)) (c .before .before .before .before .before .before .before .before .before .before .before .before .before .before .before .before .before .before .pre .1 .1)) (c .before .before .before .before .before .before .before .before .before .before .before .before .before .list-at .ensures)) (c .before .before .before .before .before .before .before .before .before .nested .ensures)) (c .before .before .before .before .before .nested2 .ensures)))
 
 same-length : tie.Need-same-length
-same-length c = finish (next (next (next (next (instance-stage (c .before .before .before .before .before .before .before .before .before .before .before .before .before .before .before .before .before .before .before .before .before .pre .0) (c .before .before .before .before .before .before .before .before .before .before .before .before .before .before .before .before .before .before .before .before .before .pre .1 .0) (omega (arith, c .before .before .before .before .before .before .before .before .before .before .before .before .before .before .before .before .before .before .if1 .left)) (c .before .before .before .before .before .before .before .before .before .before .before .before .before .before .before .before .before .before .before .before .before .pre .1 .1)) (c .before .before .before .before .before .before .before .before .before .before .before .before .before .before .before .before .list-at .ensures)) (c .before .before .before .before .before .before .before .before .before .before .before .before .nested .ensures)) (c .before .before .before .before .before .before .before .before .nested2 .ensures)) (rw (instance-first _ (c .before .before .before .before .before .before .before .before .before .before .before .before .before .before .before .before .before .before .before .before .before .args .h) (c .before .before .before .before .before .before .before .before .before .before .before .before .before .before .before .before .list-at .ensures) (c .before .before .before .before .before .before .before .before .before .before .before .before .nested .ensures) (c .before .before .before .before .before .before .before .before .nested2 .ensures) (c .before .before .before .before .before .word .ensures) (c .before .before .before .before .line .ensures)) at (c .before .before .back .ensures))) .long
+same-length c = finish (next (next (next (next (instance-stage (c .before .before .before .before .before .before .before .before .before .before .before .before .before .before .before .before .before .before .before .before .before .pre .0) (c .before .before .before .before .before .before .before .before .before .before .before .before .before .before .before .before .before .before .before .before .before .pre .1 .0) (omega (arith, c .before .before .before .before .before .before .before .before .before .before .before .before .before .before .before .before .before .before .if1 .left)) (c .before .before .before .before .before .before .before .before .before .before .before .before .before .before .before .before .before .before .before .before .before .pre .1 .1)) (c .before .before .before .before .before .before .before .before .before .before .before .before .before .before .before .before .list-at .ensures)) (c .before .before .before .before .before .before .before .before .before .before .before .before .nested .ensures)) (c .before .before .before .before .before .before .before .before .nested2 .ensures)) (rw (instance-first _ (c .before .before .before .before .before .before .before .before .before .before .before .before .before .before .before .before .before .before .before .before .before .args .h) (c .before .before .before .before .before .before .before .before .before .before .before .before .before .before .before .before .list-at .ensures) (c .before .before .before .before .before .before .before .before .before .before .before .before .nested .ensures) (c .before .before .before .before .before .before .before .before .nested2 .ensures) (c .before .before .before .before .before .word .ensures) (c .before .before .before .before .line .ensures)) at (c .before .before .back .ensures))) .pasted .long
 
 returns-2 : tie.Need-returns-2
 returns-2 c = finish (next (next (next (next (instance-stage (c .before .before .before .before .before .before .before .before .before .before .before .before .before .before .before .before .before .before .before .before .before .pre .0) (c .before .before .before .before .before .before .before .before .before .before .before .before .before .before .before .before .before .before .before .before .before .pre .1 .0) (omega (arith, c .before .before .before .before .before .before .before .before .before .before .before .before .before .before .before .before .before .before .if1 .left)) (c .before .before .before .before .before .before .before .before .before .before .before .before .before .before .before .before .before .before .before .before .before .pre .1 .1)) (c .before .before .before .before .before .before .before .before .before .before .before .before .before .before .before .before .list-at .ensures)) (c .before .before .before .before .before .before .before .before .before .before .before .before .nested .ensures)) (c .before .before .before .before .before .before .before .before .nested2 .ensures)) (rw (instance-first _ (c .before .before .before .before .before .before .before .before .before .before .before .before .before .before .before .before .before .before .before .before .before .args .h) (c .before .before .before .before .before .before .before .before .before .before .before .before .before .before .before .before .list-at .ensures) (c .before .before .before .before .before .before .before .before .before .before .before .before .nested .ensures) (c .before .before .before .before .before .before .before .before .nested2 .ensures) (c .before .before .before .before .before .word .ensures) (c .before .before .before .before .line .ensures)) at (c .before .before .back .ensures)))

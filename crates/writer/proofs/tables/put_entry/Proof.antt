@@ -6,7 +6,7 @@ use Rattle.writer.proofs.tables.put_entry.Reads as reads
 use Rattle.writer.proofs.tables.put_entry.Lts as lts
 use native.Mathlib.Omega.{arith}
 use lib.ListN.{length-set}
-use Rattle.writer.proofs.TableRows.{paste-3}
+use Rattle.writer.proofs.Writing.{paste-3}
 
 mul-ledger : tie.Need-mul-ledger
 mul-ledger c = search needs

@@ -6,7 +6,7 @@ use Rattle.writer.proofs.tables.put_scope.Reads as reads
 use Rattle.writer.proofs.tables.put_scope.Lts as lts
 use native.Mathlib.Omega.{arith}
 use lib.ListN.{length-set}
-use Rattle.writer.proofs.TableRows.{paste-5}
+use Rattle.writer.proofs.Writing.{paste-5}
 
 mul-scopes : tie.Need-mul-scopes
 mul-scopes c = search needs

@@ -6,31 +6,22 @@ use Rattle.writer.proofs.tables.scope.Reads as reads
 use Rattle.writer.proofs.tables.scope.Lts as lts
 use Rattle.journal.proofs.word.Reads as word-reads
 use Rattle.writer.proofs.tables.put_scope.Reads as put-scope-reads
-use mathlib.Core.Path.{ap}
-use native.Mathlib.Omega.{arith}
-use lib.ListN.{length}
-use Rattle.writer.proofs.TableRows.{scope-not, scope-root, scope-body, scope-default, pasted-as, pasted-none}
+use Rattle.writer.proofs.TableRows.{scope-root, scope-body, scope-default}
 
 word-requires : tie.Need-word-requires
 word-requires c κs = search needs
 
-returns : tie.Need-returns
-returns c = pasted-none (scope-not _ _ (rw (c .before .word .ensures) at (c .if1 .taken)))
-
-word-requires-2 : tie.Need-word-requires-2
-word-requires-2 c κs = search needs
-
 put-scope-requires : tie.Need-put-scope-requires
-put-scope-requires c κs = omega (arith, c .before .before .before .before .before .before .before .pre .1, ap length (scope-root _ _ (rw (c .before .before .before .before .word .ensures) at (c .before .before .before .if1 .left)) (rw (c .before .before .word2 .ensures) at (c .before .if2 .taken))))
-
-add-result : tie.Need-add-result
-add-result c = search needs
+put-scope-requires c κs = search needs
 
 same-length : tie.Need-same-length
 same-length c = search needs
 
-returns-2 : tie.Need-returns-2
-returns-2 c = pasted-as (scope-root _ _ (rw (c .before .before .before .before .before .before .before .word .ensures) at (c .before .before .before .before .before .before .if1 .left)) (rw (c .before .before .before .before .before .word2 .ensures) at (c .before .before .before .before .if2 .taken))) (c .before .before .put-scope .ensures)
+returns : tie.Need-returns
+returns c = rw (scope-root _ _ (c .before .before .before .before .before .before .before .before .pre .0 .1) (rw (c .before .before .before .before .before .word .ensures) at (c .before .before .before .before .if1 .taken))) (c .before .before .put-scope .ensures)
+
+word-requires-2 : tie.Need-word-requires-2
+word-requires-2 c κs = search needs
 
 word-requires-3 : tie.Need-word-requires-3
 word-requires-3 c κs = search needs
@@ -38,56 +29,42 @@ word-requires-3 c κs = search needs
 word-requires-4 : tie.Need-word-requires-4
 word-requires-4 c κs = search needs
 
-word-requires-5 : tie.Need-word-requires-5
-word-requires-5 c κs = search needs
-
 put-scope-requires-2 : tie.Need-put-scope-requires-2
-put-scope-requires-2 c κs = omega (arith, c .before .before .before .before .before .before .before .before .before .before .before .pre .1, ap length (scope-body _ _ (rw (c .before .before .before .before .before .before .before .before .word .ensures) at (c .before .before .before .before .before .before .before .if1 .left)) (rw (c .before .before .before .before .before .before .word2 .ensures) at (c .before .before .before .before .before .if2 .left)) (rw (c .before .before .before .before .before .before .word2 .ensures) at (c .before .if3 .taken))))
-
-add-result-2 : tie.Need-add-result-2
-add-result-2 c = search needs
+put-scope-requires-2 c κs = search needs
 
 same-length-2 : tie.Need-same-length-2
 same-length-2 c = search needs
 
-returns-3 : tie.Need-returns-3
-returns-3 c = pasted-as (scope-body _ _ (rw (c .before .before .before .before .before .before .before .before .before .before .before .word .ensures) at (c .before .before .before .before .before .before .before .before .before .before .if1 .left)) (rw (c .before .before .before .before .before .before .before .before .before .word2 .ensures) at (c .before .before .before .before .before .before .before .before .if2 .left)) (rw (c .before .before .before .before .before .before .before .before .before .word2 .ensures) at (c .before .before .before .before .if3 .taken))) (rw (c .before .before .before .before .before .before .before .word3 .ensures, c .before .before .before .before .before .before .word4 .ensures, c .before .before .before .before .before .word5 .ensures) at (c .before .before .put-scope2 .ensures))
+returns-2 : tie.Need-returns-2
+returns-2 c = rw (scope-body _ _ (c .before .before .before .before .before .before .before .before .before .before .before .before .pre .0 .1) (rw (c .before .before .before .before .before .before .before .before .before .word .ensures) at (c .before .before .before .before .before .before .before .before .if1 .left)) (rw (c .before .before .before .before .before .before .before .before .before .word .ensures) at (c .before .before .before .before .if2 .taken))) (rw (c .before .before .before .before .before .before .before .word2 .ensures, c .before .before .before .before .before .before .word3 .ensures, c .before .before .before .before .before .word4 .ensures) at (c .before .before .put-scope2 .ensures))
 
-word-requires-6 : tie.Need-word-requires-6
-word-requires-6 c κs = search needs
+word-requires-5 : tie.Need-word-requires-5
+word-requires-5 c κs = search needs
 
 put-scope-requires-3 : tie.Need-put-scope-requires-3
-put-scope-requires-3 c κs = omega (arith, c .before .before .before .before .before .before .before .before .before .before .before .before .pre .1, ap length (scope-default _ _ (rw (c .before .before .before .before .before .before .before .before .before .word .ensures) at (c .before .before .before .before .before .before .before .before .if1 .left)) (rw (c .before .before .before .before .before .before .before .word2 .ensures) at (c .before .before .before .before .before .before .if2 .left)) (rw (c .before .before .before .before .before .before .before .word2 .ensures) at (c .before .before .if3 .left))))
-
-add-result-3 : tie.Need-add-result-3
-add-result-3 c = search needs
+put-scope-requires-3 c κs = search needs
 
 same-length-3 : tie.Need-same-length-3
 same-length-3 c = search needs
 
-returns-4 : tie.Need-returns-4
-returns-4 c = pasted-as (scope-default _ _ (rw (c .before .before .before .before .before .before .before .before .before .before .before .before .word .ensures) at (c .before .before .before .before .before .before .before .before .before .before .before .if1 .left)) (rw (c .before .before .before .before .before .before .before .before .before .before .word2 .ensures) at (c .before .before .before .before .before .before .before .before .before .if2 .left)) (rw (c .before .before .before .before .before .before .before .before .before .before .word2 .ensures) at (c .before .before .before .before .before .if3 .left))) (rw (c .before .before .before .before .before .before .before .before .word3 .ensures, c .before .before .before .before .before .before .before .word4 .ensures, c .before .before .before .word6 .ensures, c .before .before .before .before .before .before .word5 .ensures) at (c .before .before .put-scope3 .ensures))
+returns-3 : tie.Need-returns-3
+returns-3 c = rw (scope-default _ _ (c .before .before .before .before .before .before .before .before .before .before .before .before .before .pre .0 .1) (rw (c .before .before .before .before .before .before .before .before .before .before .word .ensures) at (c .before .before .before .before .before .before .before .before .before .if1 .left)) (rw (c .before .before .before .before .before .before .before .before .before .before .word .ensures) at (c .before .before .before .before .before .if2 .left))) (rw (c .before .before .before .before .before .before .before .before .word2 .ensures, c .before .before .before .before .before .before .before .word3 .ensures, c .before .before .before .word5 .ensures, c .before .before .before .before .before .before .word4 .ensures) at (c .before .before .put-scope3 .ensures))
 
 pub scope-spec : {M : Type 1} → statement M
 scope-spec =
     tie.close
     (tie.spec
     word-requires
+    put-scope-requires
+    same-length
     returns
     word-requires-2
-    put-scope-requires
-    add-result
-    same-length
-    returns-2
     word-requires-3
     word-requires-4
-    word-requires-5
     put-scope-requires-2
-    add-result-2
     same-length-2
-    returns-3
-    word-requires-6
+    returns-2
+    word-requires-5
     put-scope-requires-3
-    add-result-3
     same-length-3
-    returns-4)
+    returns-3)
