@@ -1,2 +1,3 @@
 pub mod FillLaws
+pub mod FrameLaws
 pub mod SumLaws

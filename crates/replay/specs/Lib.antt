@@ -1,3 +1,4 @@
 pub mod Answer
+pub mod Frame
 pub mod Pattern
 pub mod Sum

@@ -1,6 +1,8 @@
 // What a case is made of: two lines of numbers, then the rows of its sheets as lines.
 use libc::STDIN_FILENO;
 use lines::Read;
+ghost use mathlib.Core.Path.{_≡_};
+ghost use Rattle.replay.specs.Frame.{callOf, orStay, Text, Lines, Sheet};
 
 // What Expand is called with: the limits, the words of both sheets and of what is lent, and the rows of each sheet that are
 // kept from the cases before.
@@ -18,7 +20,9 @@ pub struct Call {
     pub work: u32,
 }
 
-pub fn read_head(head: &[u32; 16]) -> Call {
+pub fn read_head(head: &[u32; 16]) -> Call
+    ensures { λ r. ⌜ r ≡ callOf (now (head .entry)) ⌝ }
+{
     Call {
         max_nodes: head[0],
         max_depth: head[1],
@@ -35,7 +39,9 @@ pub fn read_head(head: &[u32; 16]) -> Call {
 }
 
 // Lines of standard input that fill the text, into the lent words: whether they are there, and all good.
-fn read(text: &mut [u8], words: &mut [u32]) -> bool {
+fn read(text: &mut [u8], words: &mut [u32]) -> bool
+    ensures { λ r. ⌜ orStay r (Text (now (text .exit))) (now (words .entry)) (now (words .exit)) ⌝ }
+{
     if io::read_full(STDIN_FILENO, text) < text.len() {
         return false;
     }
@@ -47,7 +53,9 @@ fn read(text: &mut [u8], words: &mut [u32]) -> bool {
 }
 
 // The next lines of standard input, into the lent words: whether there are so many, and all good.
-pub fn lines(count: usize, words: &mut [u32]) -> bool {
+pub fn lines(count: usize, words: &mut [u32]) -> bool
+    ensures { λ r. ⌜ orStay r (Lines count) (now (words .entry)) (now (words .exit)) ⌝ }
+{
     let mut text = [0u8; 11125];
     if text.len() / 89 < count {
         return false;
@@ -58,7 +66,9 @@ pub fn lines(count: usize, words: &mut [u32]) -> bool {
 
 // A sheet of so many words: its first rows are kept from the cases before, the others are the next lines. The last one is
 // filled up where the words end within a row.
-pub fn sheet(kept: u32, length: u32, words: &mut [u32]) -> bool {
+pub fn sheet(kept: u32, length: u32, words: &mut [u32]) -> bool
+    ensures { λ r. ⌜ orStay r (Sheet kept length) (now (words .entry)) (now (words .exit)) ⌝ }
+{
     let from = kept as usize;
     let rows = (length as usize + 7) / 8;
     if rows < from {

@@ -12,9 +12,13 @@ use lookup::walk::Found;
 use sheet::Checked;
 use sheet::grammar::Form;
 use sheet::row::Row;
+ghost use mathlib.Core.Path.{_≡_};
+ghost use Rattle.vectors.specs.Cases.{formOf, checkAt, readAt, writeAt, lookupAt};
 
 // 1 check: a form, b number of words, c number of rows kept; the other rows follow.
-pub fn check(input: &[u8], at: usize, h: Row, words: &mut [u32]) -> usize {
+pub fn check(input: &[u8], at: usize, h: Row, words: &mut [u32]) -> usize
+    ensures { λ r. ⌜ checkAt (now (input .entry)) at h (now (words .entry)) ≡ (r, now (words .exit)) ⌝ }
+{
     let n = h.b as usize;
     if 2 < h.a {
         return 0;
@@ -30,7 +34,9 @@ pub fn check(input: &[u8], at: usize, h: Row, words: &mut [u32]) -> usize {
     next
 }
 
-fn form_of(n: u32) -> Form {
+fn form_of(n: u32) -> Form
+    ensures { λ r. ⌜ r ≡ formOf n ⌝ }
+{
     match n {
         0 => Form::Root,
         1 => Form::Library,
@@ -46,7 +52,9 @@ fn print_check(checked: Checked) {
 }
 
 // 2 read lines: a number of bytes, b number of words lent; the bytes follow.
-pub fn read(input: &[u8], at: usize, h: Row) -> usize {
+pub fn read(input: &[u8], at: usize, h: Row) -> usize
+    ensures { λ r. ⌜ r ≡ readAt (now (input .entry)) at h ⌝ }
+{
     let n = h.a as usize;
     let lent = h.b as usize;
     let mut words = [3123456789u32; 1024];
@@ -73,7 +81,9 @@ fn print_read(text: &[u8], words: &mut [u32]) {
 }
 
 // 3 write lines: a number of words, b number of bytes lent, c number of rows kept; the other rows follow.
-pub fn write(input: &[u8], at: usize, h: Row, words: &mut [u32]) -> usize {
+pub fn write(input: &[u8], at: usize, h: Row, words: &mut [u32]) -> usize
+    ensures { λ r. ⌜ writeAt (now (input .entry)) at h (now (words .entry)) ≡ (r, now (words .exit)) ⌝ }
+{
     let n = h.a as usize;
     let lent = h.b as usize;
     let mut bytes = [165u8; 4096];
@@ -106,7 +116,9 @@ pub fn lookup<'a>(
     h: Row,
     root: &'a mut [u32],
     library: &'a mut [u32],
-) -> usize {
+) -> usize
+    ensures { λ r. ⌜ lookupAt (now (input .entry)) at h (now (root .entry)) (now (library .entry)) ≡ (r, now (root .exit), now (library .exit)) ⌝ }
+{
     let n = h.a as usize;
     let m = h.b as usize;
     if 3 < h.d {

@@ -1,14 +1,21 @@
 // What cases are made of: headers and rows as lines, and the lines of the answers.
 use libc::STDOUT_FILENO;
 use lines::Read;
+ghost use mathlib.Core.Path.{_≡_};
+ghost use Prim.Native.Nat.{min};
+ghost use Rattle.vectors.specs.Frame.{linesAt, rowsAt};
 
 // A number for an answer; none of the cases has a longer one.
-pub fn word(n: usize) -> u32 {
+pub fn word(n: usize) -> u32
+    ensures { λ r. ⌜ r ≡ min n 4294967295 ⌝ }
+{
     if n < 4294967295 { n as u32 } else { 4294967295 }
 }
 
 // Lines at a place, into the lent words: the place after them, or 0 where they are malformed.
-pub fn lines(input: &[u8], at: usize, count: usize, words: &mut [u32]) -> usize {
+pub fn lines(input: &[u8], at: usize, count: usize, words: &mut [u32]) -> usize
+    ensures { λ r. ⌜ linesAt (now (input .entry)) at count (now (words .entry)) ≡ (r, now (words .exit)) ⌝ }
+{
     if input.len() < at {
         return 0;
     }
@@ -25,7 +32,9 @@ pub fn lines(input: &[u8], at: usize, count: usize, words: &mut [u32]) -> usize 
 
 // Rows in the lent words: the first are kept from the cases before, the others stand as lines at a place. The place after
 // them, or 0 where they are malformed.
-pub fn rows(input: &[u8], at: usize, kept: u32, count: usize, words: &mut [u32]) -> usize {
+pub fn rows(input: &[u8], at: usize, kept: u32, count: usize, words: &mut [u32]) -> usize
+    ensures { λ r. ⌜ rowsAt (now (input .entry)) at kept count (now (words .entry)) ≡ (r, now (words .exit)) ⌝ }
+{
     let n = kept as usize;
     let from = 8 * n;
     if count < n {

@@ -5,7 +5,10 @@ use Rattle.replay.proofs.frame.lines.Tie as tie
 use Rattle.replay.proofs.frame.lines.Reads as reads
 use Rattle.replay.proofs.frame.lines.Lts as lts
 use Rattle.replay.proofs.frame.read.Reads as read-reads
+use mathlib.Core.Path.{_∙_}
+use denote.Ref.{now}
 use lib.ListN.{length-take}
+use Rattle.replay.proofs.FrameLaws.{some-lines}
 use native.Mathlib.Omega.{arith}
 
 returns : tie.Need-returns
@@ -27,7 +30,7 @@ same-length : tie.Need-same-length
 same-length c = search needs
 
 returns-2 : tie.Need-returns-2
-returns-2 c = search needs
+returns-2 c = some-lines (c .before .before .before .read .result) (c .before .before .before .before .before .before .before .before .args .count) (c .before .before .before .read .last .0) (now (c .before .before .before .before .before .before .before .before .args .words)) (c .before .before .before .read .last .1 .0) ((c .before .before .before .read .kept .0) ∙ simp length-take (omega arith)) (c .before .before .before .read .ensures)
 
 pub lines-spec : {M : Type 1} → statement M
 lines-spec =

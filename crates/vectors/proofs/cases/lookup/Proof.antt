@@ -6,7 +6,9 @@ use Rattle.vectors.proofs.cases.lookup.Reads as reads
 use Rattle.vectors.proofs.cases.lookup.Lts as lts
 use Rattle.vectors.proofs.cases.print_lookup.Reads as print-lookup-reads
 use Rattle.vectors.proofs.frame.rows.Reads as rows-reads
+use denote.Ref.{now}
 use lib.ListN.{length-take}
+use Rattle.vectors.proofs.CasesLaws.{no-kind, root-bad, library-bad, root-few, library-few, lookup-all}
 use native.Mathlib.Omega.{arith}
 
 cast-n : tie.Need-cast-n
@@ -16,7 +18,7 @@ cast-m : tie.Need-cast-m
 cast-m c = search needs
 
 returns : tie.Need-returns
-returns c = search needs
+returns c = no-kind (now (c .before .before .before .before .before .before .before .args .input)) _ (c .before .before .before .before .before .before .before .args .h) (now (c .before .before .before .before .before .before .before .args .root)) (now (c .before .before .before .before .before .before .before .args .library)) (c .if1 .taken)
 
 rows-requires : tie.Need-rows-requires
 rows-requires c κs = search needs
@@ -25,7 +27,7 @@ same-length : tie.Need-same-length
 same-length c = search needs
 
 returns-2 : tie.Need-returns-2
-returns-2 c = search needs
+returns-2 c = root-bad (now (c .before .before .before .before .before .before .before .before .before .before .before .before .args .input)) _ (c .before .before .before .before .before .before .before .before .before .before .before .before .args .h) (now (c .before .before .before .before .before .before .before .before .before .before .before .before .args .root)) (now (c .before .before .before .before .before .before .before .before .before .before .before .before .args .library)) (c .before .before .before .before .before .if1 .left) _ _ (c .before .before .before .rows .ensures) (c .if2 .taken)
 
 rows-requires-2 : tie.Need-rows-requires-2
 rows-requires-2 c κs = search needs
@@ -37,7 +39,7 @@ same-length-3 : tie.Need-same-length-3
 same-length-3 c = search needs
 
 returns-3 : tie.Need-returns-3
-returns-3 c = search needs
+returns-3 c = library-bad (now (c .before .before .before .before .before .before .before .before .before .before .before .before .before .before .before .before .before .args .input)) _ (c .before .before .before .before .before .before .before .before .before .before .before .before .before .before .before .before .before .args .h) (now (c .before .before .before .before .before .before .before .before .before .before .before .before .before .before .before .before .before .args .root)) (now (c .before .before .before .before .before .before .before .before .before .before .before .before .before .before .before .before .before .args .library)) (c .before .before .before .before .before .before .before .before .before .before .if1 .left) _ _ (c .before .before .before .before .before .before .before .before .rows .ensures) (c .before .before .before .before .before .if2 .left) _ _ (c .before .before .before .rows2 .ensures) (c .if3 .taken)
 
 same-length-4 : tie.Need-same-length-4
 same-length-4 c = search needs
@@ -46,7 +48,7 @@ same-length-5 : tie.Need-same-length-5
 same-length-5 c = search needs
 
 returns-4 : tie.Need-returns-4
-returns-4 c = search needs
+returns-4 c = root-few (now (c .before .before .before .before .before .before .before .before .before .before .before .before .before .before .before .before .before .before .args .input)) _ (c .before .before .before .before .before .before .before .before .before .before .before .before .before .before .before .before .before .before .args .h) (now (c .before .before .before .before .before .before .before .before .before .before .before .before .before .before .before .before .before .before .args .root)) (now (c .before .before .before .before .before .before .before .before .before .before .before .before .before .before .before .before .before .before .args .library)) (c .before .before .before .before .before .before .before .before .before .before .before .if1 .left) _ _ (c .before .before .before .before .before .before .before .before .before .rows .ensures) (c .before .before .before .before .before .before .if2 .left) _ _ (c .before .before .before .before .rows2 .ensures) (c .before .before .before .before .before .before .before .before .before .rows .kept .1 .1 .1 .1 .0) (c .if4 .taken)
 
 same-length-6 : tie.Need-same-length-6
 same-length-6 c = search needs
@@ -55,7 +57,7 @@ same-length-7 : tie.Need-same-length-7
 same-length-7 c = search needs
 
 returns-5 : tie.Need-returns-5
-returns-5 c = search needs
+returns-5 c = library-few (now (c .before .before .before .before .before .before .before .before .before .before .before .before .before .before .before .before .before .before .before .args .input)) _ (c .before .before .before .before .before .before .before .before .before .before .before .before .before .before .before .before .before .before .before .args .h) (now (c .before .before .before .before .before .before .before .before .before .before .before .before .before .before .before .before .before .before .before .args .root)) (now (c .before .before .before .before .before .before .before .before .before .before .before .before .before .before .before .before .before .before .before .args .library)) (c .before .before .before .before .before .before .before .before .before .before .before .before .if1 .left) _ _ (c .before .before .before .before .before .before .before .before .before .before .rows .ensures) (c .before .before .before .before .before .before .before .if2 .left) _ _ (c .before .before .before .before .before .rows2 .ensures) (c .before .before .before .before .before .before .before .before .before .before .rows .kept .1 .1 .1 .1 .0) (c .before .if4 .left) (c .before .before .before .before .before .rows2 .kept .1 .1 .1 .1 .0) (c .if5 .taken)
 
 mul-print-lookup : tie.Need-mul-print-lookup
 mul-print-lookup c = search needs
@@ -85,7 +87,7 @@ same-length-9 : tie.Need-same-length-9
 same-length-9 c = search needs
 
 returns-6 : tie.Need-returns-6
-returns-6 c = search needs
+returns-6 c = lookup-all (now (c .before .before .before .before .before .before .before .before .before .before .before .before .before .before .before .before .before .before .before .before .before .before .args .input)) _ (c .before .before .before .before .before .before .before .before .before .before .before .before .before .before .before .before .before .before .before .before .before .before .args .h) (now (c .before .before .before .before .before .before .before .before .before .before .before .before .before .before .before .before .before .before .before .before .before .before .args .root)) (now (c .before .before .before .before .before .before .before .before .before .before .before .before .before .before .before .before .before .before .before .before .before .before .args .library)) (c .before .before .before .before .before .before .before .before .before .before .before .before .before .before .before .if1 .left) _ _ (c .before .before .before .before .before .before .before .before .before .before .before .before .before .rows .ensures) (c .before .before .before .before .before .before .before .before .before .before .if2 .left) _ _ (c .before .before .before .before .before .before .before .before .rows2 .ensures) (c .before .before .before .before .before .before .before .before .before .before .before .before .before .rows .kept .1 .1 .1 .1 .0) (c .before .before .before .before .if4 .left) (c .before .before .before .before .before .before .before .before .rows2 .kept .1 .1 .1 .1 .0) (c .before .before .before .if5 .left)
 
 pub lookup-spec : {M : Type 1} → statement M
 lookup-spec =

@@ -5,7 +5,9 @@ use Rattle.vectors.proofs.cases.read.Tie as tie
 use Rattle.vectors.proofs.cases.read.Reads as reads
 use Rattle.vectors.proofs.cases.read.Lts as lts
 use Rattle.vectors.proofs.cases.print_read.Reads as print-read-reads
+use denote.Ref.{now}
 use lib.ListN.{length-take}
+use Rattle.vectors.proofs.CasesLaws.{read-far, read-few, read-short, read-all}
 use native.Mathlib.Omega.{arith}
 
 cast-n : tie.Need-cast-n
@@ -15,16 +17,16 @@ cast-lent : tie.Need-cast-lent
 cast-lent c = search needs
 
 returns : tie.Need-returns
-returns c = search needs
+returns c = read-far (now (c .before .before .before .before .args .input)) _ (c .before .before .before .before .args .h) (c .if1 .taken)
 
 sub-if2 : tie.Need-sub-if2
 sub-if2 c = search needs
 
 returns-2 : tie.Need-returns-2
-returns-2 c = search needs
+returns-2 c = read-few (now (c .before .before .before .before .before .args .input)) _ (c .before .before .before .before .before .args .h) (c .before .if1 .left) (c .if2 .taken)
 
 returns-3 : tie.Need-returns-3
-returns-3 c = search needs
+returns-3 c = read-short (now (c .before .before .before .before .before .before .args .input)) _ (c .before .before .before .before .before .before .args .h) (c .before .before .if1 .left) (c .before .if2 .left) (c .if3 .taken)
 
 add-end : tie.Need-add-end
 add-end c = search needs
@@ -48,7 +50,7 @@ print-read-requires : tie.Need-print-read-requires
 print-read-requires c κs = search needs
 
 returns-4 : tie.Need-returns-4
-returns-4 c = search needs
+returns-4 c = read-all (now (c .before .before .before .before .before .before .before .before .before .before .args .input)) _ (c .before .before .before .before .before .before .before .before .before .before .args .h) (c .before .before .before .before .before .before .if1 .left) (c .before .before .before .before .before .if2 .left) (c .before .before .before .before .if3 .left)
 
 pub read-spec : {M : Type 1} → statement M
 read-spec =

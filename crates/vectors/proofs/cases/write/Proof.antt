@@ -6,7 +6,9 @@ use Rattle.vectors.proofs.cases.write.Reads as reads
 use Rattle.vectors.proofs.cases.write.Lts as lts
 use Rattle.vectors.proofs.cases.print_write.Reads as print-write-reads
 use Rattle.vectors.proofs.frame.rows.Reads as rows-reads
+use denote.Ref.{now}
 use lib.ListN.{length-take}
+use Rattle.vectors.proofs.CasesLaws.{write-bad, write-few, write-short, write-all}
 use native.Mathlib.Omega.{arith}
 
 cast-n : tie.Need-cast-n
@@ -25,19 +27,19 @@ same-length : tie.Need-same-length
 same-length c = search needs
 
 returns : tie.Need-returns
-returns c = search needs
+returns c = write-bad (now (c .before .before .before .before .before .before .before .before .before .args .input)) _ (c .before .before .before .before .before .before .before .before .before .args .h) (now (c .before .before .before .before .before .before .before .before .before .args .words)) _ _ (c .before .before .before .rows .ensures) (c .if1 .taken)
 
 same-length-2 : tie.Need-same-length-2
 same-length-2 c = search needs
 
 returns-2 : tie.Need-returns-2
-returns-2 c = search needs
+returns-2 c = write-few (now (c .before .before .before .before .before .before .before .before .before .before .args .input)) _ (c .before .before .before .before .before .before .before .before .before .before .args .h) (now (c .before .before .before .before .before .before .before .before .before .before .args .words)) _ _ (c .before .before .before .before .rows .ensures) (c .before .before .before .before .rows .kept .1 .1 .1 .1 .0) (c .if2 .taken)
 
 same-length-3 : tie.Need-same-length-3
 same-length-3 c = search needs
 
 returns-3 : tie.Need-returns-3
-returns-3 c = search needs
+returns-3 c = write-short (now (c .before .before .before .before .before .before .before .before .before .before .before .args .input)) _ (c .before .before .before .before .before .before .before .before .before .before .before .args .h) (now (c .before .before .before .before .before .before .before .before .before .before .before .args .words)) _ _ (c .before .before .before .before .before .rows .ensures) (c .before .before .before .before .before .rows .kept .1 .1 .1 .1 .0) (c .before .if2 .left) (c .if3 .taken)
 
 slice-reshare-prefix-print-write : tie.Need-slice-reshare-prefix-print-write
 slice-reshare-prefix-print-write c = search needs
@@ -58,7 +60,7 @@ same-length-4 : tie.Need-same-length-4
 same-length-4 c = search needs
 
 returns-4 : tie.Need-returns-4
-returns-4 c = search needs
+returns-4 c = write-all (now (c .before .before .before .before .before .before .before .before .before .before .before .before .before .before .before .args .input)) _ (c .before .before .before .before .before .before .before .before .before .before .before .before .before .before .before .args .h) (now (c .before .before .before .before .before .before .before .before .before .before .before .before .before .before .before .args .words)) _ _ (c .before .before .before .before .before .before .before .before .before .rows .ensures) (c .before .before .before .before .before .before .before .before .before .rows .kept .1 .1 .1 .1 .0) (c .before .before .before .before .before .if2 .left) (c .before .before .before .before .if3 .left)
 
 pub write-spec : {M : Type 1} → statement M
 write-spec =

@@ -5,19 +5,22 @@ use Rattle.vectors.proofs.sum.of_bytes.Reads as reads
 use Rattle.vectors.proofs.sum.of_bytes.Lts as lts
 use Rattle.vectors.proofs.sum.wide.Reads as wide-reads
 use Rattle.vectors.proofs.sum.with.Reads as with-reads
-use Prim.Native.Nat.{_≤_, _-_}
+use Prim.Native.Nat.{_≤_, _<_, _-_}
+use mathlib.Core.Path.{_≡_, _∙_, refl, sym}
 use lib.ListN.{length}
+use denote.Ref.{now}
+use Rattle.vectors.proofs.SumLaws.{left, turn, end}
 use native.Mathlib.Omega.{arith}
 use borrow.Author.Needs.{needs}
 
 abbrev Inv-loop : tie.InvT-loop
-Inv-loop bytes sum₀ i₀ sum i = i ≤ length bytes
+Inv-loop bytes total₀ i₀ total i = (i ≤ length bytes) × (left bytes total i ≡ left bytes 0 0)
 
 abbrev μ-loop : tie.MeasureT-loop
-μ-loop bytes sum₀ i₀ sum i = length bytes - i
+μ-loop bytes total₀ i₀ total i = length bytes - i
 
 loop-holds : tie.Need-loop-holds Inv-loop μ-loop
-loop-holds c = omega arith
+loop-holds c = (omega arith, refl)
 
 shared-slice-read-wide : tie.Need-shared-slice-read-wide Inv-loop μ-loop
 shared-slice-read-wide c = omega arith
@@ -35,10 +38,10 @@ loop-less : tie.Need-loop-less Inv-loop μ-loop
 loop-less c = omega arith
 
 loop-again : tie.Need-loop-again Inv-loop μ-loop
-loop-again c = omega arith
+loop-again c = let h : (c .before .before .before .before .loop .i) < length (now (c .before .before .before .before .before .before .args .bytes)) = omega arith in (omega arith, rw (c .with .ensures, c .before .wide .ensures) (sym (turn _ _ _ h) ∙ (c .before .before .before .before .loop .inv .1)))
 
 returns : tie.Need-returns Inv-loop μ-loop
-returns c = tt
+returns c = let h : length (now (c .before .before .before .args .bytes)) ≤ (c .before .loop .i) = omega arith in sym (end _ _ _ (c .before .loop .inv .0) h) ∙ (c .before .loop .inv .1)
 
 pub of-bytes-spec : {M : Type 1} → statement M
 of-bytes-spec =

@@ -4,19 +4,22 @@ use Rattle.vectors.proofs.sum.of_words.Tie as tie
 use Rattle.vectors.proofs.sum.of_words.Reads as reads
 use Rattle.vectors.proofs.sum.of_words.Lts as lts
 use Rattle.vectors.proofs.sum.with.Reads as with-reads
-use Prim.Native.Nat.{_≤_, _-_}
+use Prim.Native.Nat.{_≤_, _<_, _-_}
+use mathlib.Core.Path.{_≡_, _∙_, refl, sym}
 use lib.ListN.{length}
+use denote.Ref.{now}
+use Rattle.vectors.proofs.SumLaws.{left, turn, end}
 use native.Mathlib.Omega.{arith}
 use borrow.Author.Needs.{needs}
 
 abbrev Inv-loop : tie.InvT-loop
-Inv-loop words sum₀ i₀ sum i = i ≤ length words
+Inv-loop words total₀ i₀ total i = (i ≤ length words) × (left words total i ≡ left words 0 0)
 
 abbrev μ-loop : tie.MeasureT-loop
-μ-loop words sum₀ i₀ sum i = length words - i
+μ-loop words total₀ i₀ total i = length words - i
 
 loop-holds : tie.Need-loop-holds Inv-loop μ-loop
-loop-holds c = omega arith
+loop-holds c = (omega arith, refl)
 
 mul-with : tie.Need-mul-with Inv-loop μ-loop
 mul-with c = omega arith
@@ -34,10 +37,10 @@ loop-less : tie.Need-loop-less Inv-loop μ-loop
 loop-less c = omega arith
 
 loop-again : tie.Need-loop-again Inv-loop μ-loop
-loop-again c = omega arith
+loop-again c = let h : (c .before .before .before .loop .i) < length (now (c .before .before .before .before .before .args .words)) = omega arith in (omega arith, rw (c .with .ensures) (sym (turn _ _ _ h) ∙ (c .before .before .before .loop .inv .1)))
 
 returns : tie.Need-returns Inv-loop μ-loop
-returns c = tt
+returns c = let h : length (now (c .before .before .before .args .words)) ≤ (c .before .loop .i) = omega arith in sym (end _ _ _ (c .before .loop .inv .0) h) ∙ (c .before .loop .inv .1)
 
 pub of-words-spec : {M : Type 1} → statement M
 of-words-spec =
