@@ -14,6 +14,8 @@ use crate::{flights, reckon, sweeps, versus};
 const FAMILY_ROWS: u32 = 400;
 /// Scenes with every K, every N and every D.
 const SWEPT: u64 = 300;
+/// Threads that call at the same time.
+const THREADS: u64 = 4;
 
 /// Counts of some calls.
 #[derive(Clone, Copy, Default)]
@@ -32,6 +34,13 @@ impl Counts {
         counts.differences -= before.differences;
         counts.refused.iter_mut().zip(before.refused).for_each(|(now, then)| *now -= then);
         counts
+    }
+
+    fn add(&mut self, more: &Counts) {
+        self.calls += more.calls;
+        self.original += more.original;
+        self.differences += more.differences;
+        self.refused.iter_mut().zip(more.refused).for_each(|(now, then)| *now += then);
     }
 }
 
@@ -113,6 +122,30 @@ impl Run {
         }
         println!("answers of 0 to 6, 8 and 16 words: {}", self.counts.since(&before));
     }
+
+    /// Calls in several threads at the same time, each with slices of its own.
+    fn threads(&mut self, count: u64, seed: u64) {
+        let before = self.counts;
+        let runs: Vec<Run> = std::thread::scope(|scope| {
+            let thread = |first| {
+                move || {
+                    let mut run = Run::default();
+                    for number in (first..count).step_by(THREADS as usize) {
+                        let call = lent::call(seed, number, lent::USUAL);
+                        run.note(&call, &reckon::expand(&call, None));
+                    }
+                    run
+                }
+            };
+            let threads: Vec<_> = (0..THREADS).map(|first| scope.spawn(thread(first))).collect();
+            threads.into_iter().map(|t| t.join().expect("a thread ended early")).collect()
+        });
+        for run in runs {
+            self.counts.add(&run.counts);
+            self.smallest = self.smallest.take().or(run.smallest);
+        }
+        println!("{THREADS} threads at the same time: {}", self.counts.since(&before));
+    }
 }
 
 /// A call with N and K just enough, with K one less and with N one less; the call itself where it is refused.
@@ -144,6 +177,7 @@ pub fn run(count: u64, seed: u64) -> u64 {
         false,
     );
     run.stage("everything at its cap", [large::most(4000).call(MOST_CHARGES)].into_iter(), false);
+    run.threads(count.min(20_000), seed + 1);
     run.answers((0..count.min(100)).map(|number| lent::call(seed, number, lent::USUAL)));
     println!("what the accepted and refused scenes contained, calls:");
     let missing = run.coverage.print();
