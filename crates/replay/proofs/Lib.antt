@@ -1,3 +1,2 @@
 pub mod FillLaws
 pub mod FrameLaws
-pub mod SumLaws

@@ -1,4 +1,3 @@
 pub mod Answer
 pub mod Frame
 pub mod Pattern
-pub mod Sum

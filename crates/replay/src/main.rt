@@ -4,7 +4,6 @@
 mod answer;
 mod fill;
 mod frame;
-mod sum;
 
 use frame::Call;
 
@@ -33,7 +32,10 @@ fn run<'a>(
         scopes,
         work,
     );
-    let sum = sum::of(sum::of(sum::of(0, out), ledger), scopes);
+    let sum = checksum::of_words(
+        checksum::of_words(checksum::of_words(0, out), ledger),
+        scopes,
+    );
     answer::print(outcome, sum);
 }
 

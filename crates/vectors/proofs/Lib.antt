@@ -1,3 +1,2 @@
 pub mod CasesLaws
 pub mod FrameLaws
-pub mod SumLaws

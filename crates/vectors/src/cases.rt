@@ -1,6 +1,5 @@
 // The cases, by their tag. Each prints its answer and hands back the place after its data, or 0 where it is malformed.
 use super::frame;
-use super::sum;
 use ast::ExternProtoId;
 use ast::NodeId;
 use ast::ProtoId;
@@ -74,9 +73,9 @@ pub fn read(input: &[u8], at: usize, h: Row) -> usize
 
 fn print_read(text: &[u8], words: &mut [u32]) {
     match lines::read_lines(text, words) {
-        Read::Rows(n) => frame::print(2, 0, 0, frame::word(n), sum::of_words(words)),
-        Read::WrongLength => frame::print(2, 12, 0, 0, sum::of_words(words)),
-        Read::BadLine(i) => frame::print(2, 13, frame::word(i), 0, sum::of_words(words)),
+        Read::Rows(n) => frame::print(2, 0, 0, frame::word(n), checksum::of_words(0, words)),
+        Read::WrongLength => frame::print(2, 12, 0, 0, checksum::of_words(0, words)),
+        Read::BadLine(i) => frame::print(2, 13, frame::word(i), 0, checksum::of_words(0, words)),
     }
 }
 
@@ -103,8 +102,8 @@ pub fn write(input: &[u8], at: usize, h: Row, words: &mut [u32]) -> usize
 
 fn print_write(words: &[u32], bytes: &mut [u8]) {
     match lines::write_lines(words, bytes) {
-        Written::Bytes(n) => frame::print(3, 0, frame::word(n), sum::of_bytes(bytes), 0),
-        Written::Refused => frame::print(3, 14, 0, sum::of_bytes(bytes), 0),
+        Written::Bytes(n) => frame::print(3, 0, frame::word(n), checksum::of_bytes(0, bytes), 0),
+        Written::Refused => frame::print(3, 14, 0, checksum::of_bytes(0, bytes), 0),
     }
 }
 
@@ -162,5 +161,11 @@ fn print_found(found: Found) {
 }
 
 fn print_part(part: &[u32]) {
-    frame::print(4, frame::word(part.len()), sum::of_words(part), 0, 0);
+    frame::print(
+        4,
+        frame::word(part.len()),
+        checksum::of_words(0, part),
+        0,
+        0,
+    );
 }

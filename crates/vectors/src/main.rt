@@ -2,7 +2,6 @@
 // its tag and the answer. vectors/README.md says what a case is made of.
 mod cases;
 mod frame;
-mod sum;
 
 use libc::STDIN_FILENO;
 use sheet::row;

@@ -5,9 +5,9 @@ use Rattle.replay.proofs.run.Tie as tie
 use Rattle.replay.proofs.run.Reads as reads
 use Rattle.replay.proofs.run.Lts as lts
 use Rattle.call.proofs.expand.Reads as expand-reads
+use Rattle.checksum.proofs.of_words.Reads as of-words-reads
 use Rattle.replay.proofs.answer.print.Reads as print-reads
 use Rattle.replay.proofs.fill.fill.Reads as fill-reads
-use Rattle.replay.proofs.sum.of.Reads as of-reads
 use mathlib.Core.Path.{_∙_}
 
 fill-requires : tie.Need-fill-requires
@@ -25,14 +25,14 @@ fill-requires-4 c κs = search needs
 expand-requires : tie.Need-expand-requires
 expand-requires c κs = search needs
 
-of-requires : tie.Need-of-requires
-of-requires c κs = search needs
+of-words-requires : tie.Need-of-words-requires
+of-words-requires c κs = search needs
 
-of-requires-2 : tie.Need-of-requires-2
-of-requires-2 c κs = search needs
+of-words-requires-2 : tie.Need-of-words-requires-2
+of-words-requires-2 c κs = search needs
 
-of-requires-3 : tie.Need-of-requires-3
-of-requires-3 c κs = search needs
+of-words-requires-3 : tie.Need-of-words-requires-3
+of-words-requires-3 c κs = search needs
 
 print-requires : tie.Need-print-requires
 print-requires c κs = search needs
@@ -61,9 +61,9 @@ run-spec =
     fill-requires-3
     fill-requires-4
     expand-requires
-    of-requires
-    of-requires-2
-    of-requires-3
+    of-words-requires
+    of-words-requires-2
+    of-words-requires-3
     print-requires
     same-length
     same-length-2

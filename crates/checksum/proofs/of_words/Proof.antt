@@ -1,14 +1,14 @@
 -- Written by `needs write`, from answers.txt: edit that. The proof.
-use Rattle.replay.proofs.sum.of.Statement.{statement}
-use Rattle.replay.proofs.sum.of.Tie as tie
-use Rattle.replay.proofs.sum.of.Reads as reads
-use Rattle.replay.proofs.sum.of.Lts as lts
-use Rattle.replay.proofs.sum.with.Reads as with-reads
+use Rattle.checksum.proofs.of_words.Statement.{statement}
+use Rattle.checksum.proofs.of_words.Tie as tie
+use Rattle.checksum.proofs.of_words.Reads as reads
+use Rattle.checksum.proofs.of_words.Lts as lts
+use Rattle.checksum.proofs.with.Reads as with-reads
 use Prim.Native.Nat.{_≤_, _<_, _-_}
 use mathlib.Core.Path.{_≡_, _∙_, refl, sym}
 use lib.ListN.{length}
 use denote.Ref.{now}
-use Rattle.replay.proofs.SumLaws.{left, turn, end}
+use Rattle.checksum.proofs.SumLaws.{left, turn, end}
 use native.Mathlib.Omega.{arith}
 use borrow.Author.Needs.{needs}
 
@@ -42,8 +42,8 @@ loop-again c = let h : (c .before .before .before .loop .i) < length (now (c .be
 returns : tie.Need-returns Inv-loop μ-loop
 returns c = let h : length (now (c .before .before .before .args .words)) ≤ (c .before .loop .i) = omega arith in sym (end _ _ _ (c .before .loop .inv .0) h) ∙ (c .before .loop .inv .1)
 
-pub of-spec : {M : Type 1} → statement M
-of-spec =
+pub of-words-spec : {M : Type 1} → statement M
+of-words-spec =
     tie.close
     (tie.spec
     Inv-loop

@@ -1,4 +1,4 @@
--- A turn of the sum: one word less is left.
+-- A turn of the sum: one number less is left.
 use mathlib.Core.Path.{_≡_}
 use mathlib.Core.List.{List, []}
 use Prim.Native.Nat.{ℕ, suc, _+_, _≤_, _<_}
@@ -6,7 +6,7 @@ use native.Mathlib.Numerals.{add-one}
 use native.Mathlib.Omega.{arith}
 use lib.ListN.{length, drop, getD}
 use lib.Seq.{drop-cons, drop-length}
-use Rattle.replay.specs.Sum.{with, sum}
+use Rattle.checksum.specs.Sum.{with, sum}
 
 module _ (words : List ℕ) where
   -- the sum of what is left

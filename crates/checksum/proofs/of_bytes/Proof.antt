@@ -1,23 +1,23 @@
 -- Written by `needs write`, from answers.txt: edit that. The proof.
-use Rattle.vectors.proofs.sum.of_bytes.Statement.{statement}
-use Rattle.vectors.proofs.sum.of_bytes.Tie as tie
-use Rattle.vectors.proofs.sum.of_bytes.Reads as reads
-use Rattle.vectors.proofs.sum.of_bytes.Lts as lts
-use Rattle.vectors.proofs.sum.wide.Reads as wide-reads
-use Rattle.vectors.proofs.sum.with.Reads as with-reads
+use Rattle.checksum.proofs.of_bytes.Statement.{statement}
+use Rattle.checksum.proofs.of_bytes.Tie as tie
+use Rattle.checksum.proofs.of_bytes.Reads as reads
+use Rattle.checksum.proofs.of_bytes.Lts as lts
+use Rattle.checksum.proofs.wide.Reads as wide-reads
+use Rattle.checksum.proofs.with.Reads as with-reads
 use Prim.Native.Nat.{_≤_, _<_, _-_}
 use mathlib.Core.Path.{_≡_, _∙_, refl, sym}
 use lib.ListN.{length}
 use denote.Ref.{now}
-use Rattle.vectors.proofs.SumLaws.{left, turn, end}
+use Rattle.checksum.proofs.SumLaws.{left, turn, end}
 use native.Mathlib.Omega.{arith}
 use borrow.Author.Needs.{needs}
 
 abbrev Inv-loop : tie.InvT-loop
-Inv-loop bytes total₀ i₀ total i = (i ≤ length bytes) × (left bytes total i ≡ left bytes 0 0)
+Inv-loop before bytes total₀ i₀ total i = (i ≤ length bytes) × (left bytes total i ≡ left bytes before 0)
 
 abbrev μ-loop : tie.MeasureT-loop
-μ-loop bytes total₀ i₀ total i = length bytes - i
+μ-loop before bytes total₀ i₀ total i = length bytes - i
 
 loop-holds : tie.Need-loop-holds Inv-loop μ-loop
 loop-holds c = (omega arith, refl)
