@@ -2,8 +2,8 @@
 pub mod c;
 mod run;
 
-use sheet::Checked;
-use sheet::grammar::Form;
+use checker::Checked;
+use checker::grammar::Form;
 ghost use mathlib.Core.Path.{_≡_};
 ghost use Rattle.operation.specs.Operation.{wrongLength};
 ghost use Rattle.luhetami.specs.Calls.{limitsOf, callOf, lacksRoom, Says, Demand1, Demand3};
@@ -109,10 +109,10 @@ pub fn expand<'a>(
     if wrong_length(library) {
         return refused(2, 0, 0);
     }
-    if let Checked::Bad(row) = sheet::check(root, Form::Root) {
+    if let Checked::Bad(row) = checker::check(root, Form::Root) {
         return refused(3, 0, row as u32);
     }
-    if let Checked::Bad(row) = sheet::check(library, Form::Library) {
+    if let Checked::Bad(row) = checker::check(library, Form::Library) {
         return refused(3, 1, row as u32);
     }
     run::run(

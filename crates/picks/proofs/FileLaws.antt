@@ -14,8 +14,7 @@ use Rattle.ast.specs.Choice.{choose, first}
 use Rattle.sheet.specs.declared.row.Row.{Row}
 use Rattle.sheet.specs.declared.part.Part.{Part}
 use Rattle.sheet.specs.declared.part.Part.the-variants.{Protos, Statements, Tops}
-use Rattle.sheet.specs.Rows.{blank, front}
-use Rattle.sheet.specs.Grammar.{none#}
+use Rattle.sheet.specs.Rows.{none#, blank, front}
 use Rattle.sheet.specs.Parse.{elements, kindOf, passes, optional, statementOf, statementsOf, protoOf, documentOf}
 use Rattle.lookup.specs.declared.walk.Found.{Found}
 use Rattle.lookup.specs.declared.walk.Found.the-variants.{At, Nothing}

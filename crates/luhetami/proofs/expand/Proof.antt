@@ -8,10 +8,10 @@ use Rattle.luhetami.proofs.lacks_room.Reads as lacks-room-reads
 use Rattle.luhetami.proofs.refused.Reads as refused-reads
 use Rattle.luhetami.proofs.run.run.Reads as run-reads
 use Rattle.luhetami.proofs.wrong_length.Reads as wrong-length-reads
-use Rattle.sheet.proofs.check.Reads as check-reads
+use Rattle.checker.proofs.check.Reads as check-reads
 use mathlib.Core.Path.{_≡_, refl, sym, _∙_}
 use denote.Ref.{now}
-use Rattle.sheet.specs.declared.grammar.Form.the-variants as form
+use Rattle.checker.specs.declared.grammar.Form.the-variants as form
 use Rattle.luhetami.specs.declared.Outcome.the-variants.{Refused}
 use Rattle.luhetami.specs.Calls.{callOf}
 use Rattle.luhetami.proofs.Refusals.{bad-low, at-1, at-2-root, at-2-library, allowed, at-3-root, at-3-library, past-3, demands}
