@@ -2,10 +2,9 @@
 // many fields. The list of the tables has a place for 16 rows, fewer than such a node has.
 use lookup::walk;
 use lookup::walk::Found;
-use picks::words;
-use picks::words::wide;
 use sheet::part::Part;
 use sheet::row;
+use words::wide;
 ghost use Prim.Native.Nat.{_+_, _*_, _≤_, _<_};
 ghost use lib.ListN.{length};
 ghost use Rattle.sheet.specs.Rows.{rows};

@@ -1,8 +1,5 @@
 // Picks (document 01, Modules: Picks): for each extern of the root, the document and the PROTO that its urls lead to.
-mod file;
-pub mod memo;
 pub mod table;
-pub mod words;
 
 use ast::ExternProtoId;
 use ast::ProtoId;
@@ -21,8 +18,9 @@ ghost use lib.ListN.{length};
 ghost use Rattle.sheet.specs.Rows.{rows};
 ghost use Rattle.sheet.specs.Parse.{documentOf, filesOf};
 ghost use Rattle.picks.specs.Picks.{pickAt};
-ghost use Rattle.picks.specs.Table.{Capped, Sound};
-ghost use Rattle.picks.specs.Memo.{Kept};
+ghost use Rattle.file.specs.File.{Capped};
+ghost use Rattle.picks.specs.Table.{Sound};
+ghost use Rattle.memo.specs.Memo.{Kept};
 ghost use Rattle.picks.specs.Chosen.{pickOf, Leads, Tried, Final};
 
 // The picked document's number and the PROTO's id in it.

@@ -2,8 +2,8 @@
 use lookup::index;
 use lookup::rows;
 use lookup::walk::Found;
-use picks::words::wide;
 use sheet::part::Part;
+use words::wide;
 ghost use mathlib.Core.Path.{_≡_};
 ghost use Prim.Native.Nat.{_+_, _-_, _*_, _≤_, _<_};
 ghost use lib.ListN.{length};

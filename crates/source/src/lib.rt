@@ -11,7 +11,7 @@ use ast::NodeId;
 use ast::ProtoId;
 use instance::Target;
 use lookup::walk::Found;
-use picks::words::wide;
+use words::wide;
 ghost use Prim.Native.Nat.{_<_};
 ghost use lib.ListN.{length};
 ghost use Rattle.ast.specs.Lookups.{nodeAt, protoAt, externProtoAt};

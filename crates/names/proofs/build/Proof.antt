@@ -5,7 +5,7 @@ use Rattle.names.proofs.build.Reads as reads
 use Rattle.names.proofs.build.Lts as lts
 use Rattle.lookup.proofs.walk.seek.Reads as seek-reads
 use Rattle.names.proofs.add.Reads as add-reads
-use Rattle.picks.proofs.words.clear.Reads as clear-reads
+use Rattle.words.proofs.clear.Reads as clear-reads
 use Prim.Native.Nat.{_+_, _-_}
 use denote.Ref.{now}
 use lib.ListN.{length}

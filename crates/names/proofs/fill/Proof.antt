@@ -5,8 +5,8 @@ use Rattle.names.proofs.fill.Reads as reads
 use Rattle.names.proofs.fill.Lts as lts
 use Rattle.lookup.proofs.walk.seek.Reads as seek-reads
 use Rattle.sheet.proofs.row.row_at.Reads as row-at-reads
-use Rattle.picks.proofs.words.wide.Reads as wide-reads
-use Rattle.picks.proofs.words.clear.Reads as clear-reads
+use Rattle.words.proofs.wide.Reads as wide-reads
+use Rattle.words.proofs.clear.Reads as clear-reads
 use mathlib.Core.Path.{subst}
 use Prim.Native.Nat.{_≤_, _-_}
 use native.Mathlib.Nat.{mod-lt}

@@ -5,7 +5,7 @@ use Rattle.picks.proofs.pick.Tie as tie
 use Rattle.picks.proofs.pick.Reads as reads
 use Rattle.picks.proofs.pick.Lts as lts
 use Rattle.lookup.proofs.document.extern_row.Reads as extern-row-reads
-use Rattle.picks.proofs.memo.fresh.Reads as fresh-reads
+use Rattle.memo.proofs.fresh.Reads as fresh-reads
 use Rattle.picks.proofs.pick_urls.Reads as pick-urls-reads
 use mathlib.Core.Path.{subst}
 use denote.Ref.{now}

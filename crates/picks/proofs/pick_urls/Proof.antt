@@ -15,7 +15,7 @@ use Rattle.sheet.specs.declared.part.Part.the-variants.{Urls}
 use Rattle.sheet.specs.Rows.{rows}
 use Rattle.sheet.proofs.RowLaws.{rows-length}
 use Rattle.lookup.proofs.WalkLaws.{stands, missing}
-use Rattle.picks.specs.Memo.{Kept}
+use Rattle.memo.specs.Memo.{Kept}
 use Rattle.picks.proofs.PickLaws.{Trying, try-start, try-none, try-proto, try-next}
 use native.Mathlib.Omega.{arith}
 use borrow.Author.Needs.{needs}

@@ -6,7 +6,7 @@ use Rattle.source.proofs.group.index_one.Reads as reads
 use Rattle.source.proofs.group.index_one.Lts as lts
 use Rattle.lookup.proofs.index.index.Reads as index-reads
 use Rattle.lookup.proofs.rows.select.Reads as select-reads
-use Rattle.picks.proofs.words.wide.Reads as wide-reads
+use Rattle.words.proofs.wide.Reads as wide-reads
 use Rattle.source.proofs.group.part_of.Reads as part-of-reads
 use mathlib.Core.Path.{_∙_}
 use Prim.Native.Nat.{_+_, _-_}
