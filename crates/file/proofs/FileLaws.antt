@@ -16,11 +16,11 @@ use Rattle.sheet.specs.declared.part.Part.{Part}
 use Rattle.sheet.specs.declared.part.Part.the-variants.{Protos, Statements, Tops}
 use Rattle.sheet.specs.Rows.{none#, blank, front}
 use Rattle.sheet.specs.Parse.{elements, kindOf, passes, optional, statementOf, statementsOf, protoOf, documentOf}
-use Rattle.lookup.specs.declared.walk.Found.{Found}
-use Rattle.lookup.specs.declared.walk.Found.the-variants.{At, Nothing}
-use Rattle.lookup.specs.Walk.{Stands, Nth}
+use Rattle.walks.specs.declared.walk.Found.{Found}
+use Rattle.walks.specs.declared.walk.Found.the-variants.{At, Nothing}
+use Rattle.walks.specs.Walk.{Stands, Nth}
 use Rattle.lookup.specs.Lookup.{documentAt}
-use Rattle.lookup.proofs.WalkLaws.{each-at, each-none, at-map, front-drop, rest-drop, from-here}
+use Rattle.walks.proofs.WalkLaws.{each-at, each-none, at-map, front-drop, rest-drop, from-here}
 use Rattle.file.specs.declared.TopProto.{TopProto}
 use Rattle.file.specs.declared.TopProto.the-variants as top
 use Rattle.file.specs.PickIn.{topProtos, isNamed, firstNamed, pickIn}

@@ -8,7 +8,7 @@ use Rattle.ast.specs.Ast.{ProtoDecl, Document}
 use Rattle.sheet.specs.declared.row.Row.{Row}
 use Rattle.sheet.specs.declared.part.Part.the-variants.{Protos}
 use Rattle.sheet.specs.Parse.{elements, protoOf, statementsOf}
-use Rattle.lookup.specs.Index.{Filled}
+use Rattle.walks.specs.Index.{Filled}
 use Rattle.file.specs.declared.ProtoIndex.{ProtoIndex}
 use Rattle.file.specs.declared.TopProto.{TopProto}
 use Rattle.file.specs.declared.TopProto.the-variants.{At, Nothing}

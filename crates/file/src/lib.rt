@@ -1,16 +1,16 @@
 // The pick within a file: a top-level Proto statement of its document.
-use lookup::index;
-use lookup::walk;
-use lookup::walk::Found;
 use sheet::part::Part;
 use sheet::row;
+use walks::index;
+use walks::walk;
+use walks::walk::Found;
 ghost use mathlib.Core.Path.{_≡_};
 ghost use Prim.Native.Nat.{_*_, _≤_, _<_};
 ghost use lib.ListN.{length, drop, getElem?};
 ghost use Rattle.sheet.specs.declared.part.Part.the-variants.{Protos};
 ghost use Rattle.sheet.specs.Rows.{rows};
 ghost use Rattle.sheet.specs.Parse.{elements, optional};
-ghost use Rattle.lookup.specs.Walk.{Nth};
+ghost use Rattle.walks.specs.Walk.{Nth};
 ghost use Rattle.lookup.specs.Lookup.{documentAt};
 ghost use Rattle.file.specs.PickIn.{isNamed, pickIn};
 ghost use Rattle.file.specs.File.{Capped, idOf, NextProto, protosAt, ProtosIndexed, FirstNamed};

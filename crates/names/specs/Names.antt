@@ -8,9 +8,9 @@ use Rattle.ast.specs.Choice.{mapO}
 use Rattle.sheet.specs.declared.row.Row.{Row}
 use Rattle.sheet.specs.Rows.{blank}
 use Rattle.sheet.specs.Parse.{fieldOf, nodeOf}
-use Rattle.lookup.specs.declared.walk.Found.{Found}
-use Rattle.lookup.specs.declared.walk.Found.the-variants.{At, Nothing}
-use Rattle.lookup.specs.Walk.{rowsAt, Below}
+use Rattle.walks.specs.declared.walk.Found.{Found}
+use Rattle.walks.specs.declared.walk.Found.the-variants.{At, Nothing}
+use Rattle.walks.specs.Walk.{rowsAt, Below}
 use Rattle.expansion.specs.Input.{lastField}
 use Rattle.words.specs.Words.{Outside}
 

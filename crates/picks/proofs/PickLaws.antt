@@ -12,11 +12,11 @@ use Rattle.sheet.specs.declared.row.Row.{Row}
 use Rattle.sheet.specs.declared.part.Part.the-variants.{Externs, Urls}
 use Rattle.sheet.specs.Rows.{blank}
 use Rattle.sheet.specs.Parse.{elements, optional, urlOf, externProtoOf, documentOf, filesOf}
-use Rattle.lookup.specs.declared.walk.Found.{Found}
-use Rattle.lookup.specs.declared.walk.Found.the-variants as found
-use Rattle.lookup.specs.Walk.{Stands, rowsAt}
+use Rattle.walks.specs.declared.walk.Found.{Found}
+use Rattle.walks.specs.declared.walk.Found.the-variants as found
+use Rattle.walks.specs.Walk.{Stands, rowsAt}
 use Rattle.lookup.specs.Lookup.{documentAt, Looked}
-use Rattle.lookup.proofs.WalkLaws.{each-at, each-none, front-drop, rest-drop}
+use Rattle.walks.proofs.WalkLaws.{each-at, each-none, front-drop, rest-drop}
 use Rattle.file.specs.declared.TopProto.{TopProto}
 use Rattle.file.specs.declared.TopProto.the-variants as top
 use Rattle.memo.specs.declared.Memo.{Memo}

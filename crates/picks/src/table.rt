@@ -1,8 +1,8 @@
 // The table of the bases that were looked for, each with the library's first file of that base.
-use lookup::walk;
-use lookup::walk::Found;
 use sheet::part::Part;
 use sheet::row;
+use walks::walk;
+use walks::walk::Found;
 ghost use Prim.Native.Nat.{_≤_, _<_};
 ghost use Rattle.sheet.specs.Rows.{rows};
 ghost use Rattle.file.specs.File.{Capped};

@@ -13,7 +13,7 @@ use Rattle.ast.specs.Choice.{choose, andThen}
 use Rattle.sheet.specs.declared.row.Row.{Row}
 use Rattle.sheet.specs.Rows.{rows}
 use Rattle.sheet.specs.Parse.{externProtoOf, documentOf, filesOf}
-use Rattle.lookup.specs.declared.walk.Found.the-variants as found
+use Rattle.walks.specs.declared.walk.Found.the-variants as found
 use Rattle.lookup.specs.Lookup.{documentAt, Looked}
 use Rattle.picks.specs.declared.table.Table.{Table}
 use Rattle.picks.specs.declared.Choice.{Choice}

@@ -11,8 +11,8 @@ use borrow.Author.Tests.{ne-eqb}
 use Rattle.sheet.specs.declared.row.Row.{Row}
 use Rattle.sheet.specs.Rows.{rows}
 use Rattle.sheet.specs.Parse.{documentOf, filesOf}
-use Rattle.lookup.specs.declared.walk.Found.{Found}
-use Rattle.lookup.specs.Index.{Filled}
+use Rattle.walks.specs.declared.walk.Found.{Found}
+use Rattle.walks.specs.Index.{Filled}
 use Rattle.lookup.specs.Lookup.{sheetOf}
 use Rattle.memo.specs.declared.Memo.{Memo}
 use Rattle.picks.specs.declared.table.Table.{Table}

@@ -10,7 +10,7 @@ use ast::ExternProtoId;
 use ast::NodeId;
 use ast::ProtoId;
 use instance::Target;
-use lookup::walk::Found;
+use walks::walk::Found;
 use words::wide;
 ghost use Prim.Native.Nat.{_<_};
 ghost use lib.ListN.{length};

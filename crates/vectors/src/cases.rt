@@ -10,8 +10,8 @@ use lines::Read;
 use lines::Written;
 use lookup::document;
 use lookup::rows;
-use lookup::walk::Found;
 use sheet::row::Row;
+use walks::walk::Found;
 ghost use mathlib.Core.Path.{_≡_};
 ghost use Rattle.vectors.specs.Cases.{formOf, checkAt, readAt, writeAt, lookupAt};
 

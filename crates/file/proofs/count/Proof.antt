@@ -3,7 +3,7 @@ use Rattle.file.proofs.count.Statement.{statement}
 use Rattle.file.proofs.count.Tie as tie
 use Rattle.file.proofs.count.Reads as reads
 use Rattle.file.proofs.count.Lts as lts
-use Rattle.lookup.proofs.walk.seek.Reads as seek-reads
+use Rattle.walks.proofs.walk.seek.Reads as seek-reads
 use mathlib.Core.Path.{_≡_, ap}
 use mathlib.Core.List.{List}
 use Prim.Native.Nat.{_+_, _≤_, _-_}
@@ -14,7 +14,7 @@ use Rattle.sheet.specs.declared.part.Part.the-variants.{Protos}
 use Rattle.sheet.specs.Rows.{rows}
 use Rattle.sheet.specs.Parse.{elements}
 use Rattle.sheet.proofs.RowLaws.{rows-length}
-use Rattle.lookup.proofs.WalkLaws.{stands, missing}
+use Rattle.walks.proofs.WalkLaws.{stands, missing}
 use Rattle.file.proofs.FileLaws.{one-more}
 use native.Mathlib.Omega.{arith}
 use borrow.Author.Needs.{needs}

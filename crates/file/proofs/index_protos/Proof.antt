@@ -4,7 +4,7 @@ use Rattle.file.proofs.index_protos.Statement.{statement}
 use Rattle.file.proofs.index_protos.Tie as tie
 use Rattle.file.proofs.index_protos.Reads as reads
 use Rattle.file.proofs.index_protos.Lts as lts
-use Rattle.lookup.proofs.index.index.Reads as index-reads
+use Rattle.walks.proofs.index.index.Reads as index-reads
 use Rattle.file.proofs.count.Reads as count-reads
 use Rattle.file.proofs.stride.Reads as stride-reads
 use denote.Ref.{now}

@@ -3,7 +3,7 @@ use Rattle.file.proofs.next_proto.Statement.{statement}
 use Rattle.file.proofs.next_proto.Tie as tie
 use Rattle.file.proofs.next_proto.Reads as reads
 use Rattle.file.proofs.next_proto.Lts as lts
-use Rattle.lookup.proofs.walk.seek.Reads as seek-reads
+use Rattle.walks.proofs.walk.seek.Reads as seek-reads
 use Rattle.sheet.proofs.row.row_at.Reads as row-at-reads
 use mathlib.Core.Path.{_≡_, refl, _∙_}
 use Prim.Native.Nat.{_≤_, _-_}
@@ -12,7 +12,7 @@ use lib.ListN.{length}
 use Rattle.sheet.specs.declared.part.Part.the-variants.{Statements}
 use Rattle.sheet.specs.Rows.{rows}
 use Rattle.sheet.proofs.RowLaws.{rows-length}
-use Rattle.lookup.proofs.WalkLaws.{stands, missing}
+use Rattle.walks.proofs.WalkLaws.{stands, missing}
 use Rattle.file.specs.File.{protosFrom}
 use Rattle.file.proofs.FileLaws.{proto-none, proto-here, proto-from, proto-pass}
 use native.Mathlib.Omega.{arith}

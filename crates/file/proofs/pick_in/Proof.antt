@@ -4,7 +4,7 @@ use Rattle.file.proofs.pick_in.Statement.{statement}
 use Rattle.file.proofs.pick_in.Tie as tie
 use Rattle.file.proofs.pick_in.Reads as reads
 use Rattle.file.proofs.pick_in.Lts as lts
-use Rattle.lookup.proofs.walk.seek.Reads as seek-reads
+use Rattle.walks.proofs.walk.seek.Reads as seek-reads
 use Rattle.file.proofs.first_named.Reads as first-named-reads
 use Rattle.file.proofs.index_protos.Reads as index-protos-reads
 use Rattle.file.proofs.next_proto.Reads as next-proto-reads
@@ -14,7 +14,7 @@ use Rattle.sheet.specs.declared.part.Part.the-variants.{Tops}
 use Rattle.sheet.specs.Rows.{rows}
 use Rattle.sheet.specs.Parse.{optional}
 use Rattle.sheet.proofs.RowLaws.{rows-count, rows-length}
-use Rattle.lookup.proofs.WalkLaws.{stands, missing}
+use Rattle.walks.proofs.WalkLaws.{stands, missing}
 use Rattle.file.proofs.FileLaws.{top-none, top-at, pick-none, pick-past, pick-first, pick-named}
 use native.Mathlib.Omega.{arith}
 

@@ -4,7 +4,7 @@ use Rattle.file.proofs.proto_row.Statement.{statement}
 use Rattle.file.proofs.proto_row.Tie as tie
 use Rattle.file.proofs.proto_row.Reads as reads
 use Rattle.file.proofs.proto_row.Lts as lts
-use Rattle.lookup.proofs.index.find.Reads as find-reads
+use Rattle.walks.proofs.index.find.Reads as find-reads
 use denote.Ref.{now}
 use Rattle.sheet.specs.declared.part.Part.the-variants.{Protos}
 use Rattle.sheet.specs.Rows.{rows}

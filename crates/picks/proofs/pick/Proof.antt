@@ -10,7 +10,7 @@ use Rattle.picks.proofs.pick_urls.Reads as pick-urls-reads
 use mathlib.Core.Path.{subst}
 use denote.Ref.{now}
 use Rattle.sheet.specs.Rows.{rows}
-use Rattle.lookup.specs.Walk.{Below}
+use Rattle.walks.specs.Walk.{Below}
 use Rattle.picks.proofs.PickLaws.{pick-missing, pick-found}
 
 extern-row-requires : tie.Need-extern-row-requires

@@ -15,7 +15,7 @@ use denote.Ref.{now}
 use Rattle.sheet.specs.Rows.{rows}
 use Rattle.sheet.specs.Parse.{externProtoOf}
 use Rattle.lookup.specs.Lookup.{documentAt, Looked}
-use Rattle.lookup.specs.Walk.{Below}
+use Rattle.walks.specs.Walk.{Below}
 use Rattle.source.proofs.InstanceLaws.{target-missing}
 use native.Mathlib.Omega.{arith}
 

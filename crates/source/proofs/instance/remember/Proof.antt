@@ -17,7 +17,7 @@ use lib.Seq.{length-take-le}
 use Rattle.sheet.specs.Rows.{rows}
 use Rattle.sheet.specs.Parse.{externProtoOf}
 use Rattle.lookup.specs.Lookup.{documentAt, Looked}
-use Rattle.lookup.specs.Walk.{Below}
+use Rattle.walks.specs.Walk.{Below}
 use Rattle.words.proofs.WordLaws.{stays-front}
 use Rattle.source.proofs.SourcedLaws.{Adding, add-start, add-within, add-copy, add-more, added, small-of}
 use native.Mathlib.Omega.{arith}

@@ -1,4 +1,4 @@
--- `lookup::walk::seek` meets its contract: the rows passed begin nothing of the part, so its elements from here on are those from the start.
+-- `walks::walk::seek` meets its contract: the rows passed begin nothing of the part, so its elements from here on are those from the start.
 -- Assumes nothing.
 use mathlib.Core.Path.{_≡_, refl, sym, ap, _∙_}
 use Prim.Native.Nat.{ℕ, _≤_, _-_}
@@ -12,9 +12,9 @@ use Rattle.sheet.specs.declared.row.Row.{Row}
 use Rattle.sheet.specs.Rows.{rows}
 use Rattle.sheet.specs.Parse.{elements, kindOf, passes}
 use Rattle.sheet.proofs.RowLaws.{rows-count}
-use Rattle.lookup.proofs.WalkLaws.{walk-take, walk-pass, walk-stop, elements-end}
-use Rattle.lookup.proofs.walk.seek.Statement.{statement}
-use Rattle.lookup.proofs.walk.seek.Tie as tie
+use Rattle.walks.proofs.WalkLaws.{walk-take, walk-pass, walk-stop, elements-end}
+use Rattle.walks.proofs.walk.seek.Statement.{statement}
+use Rattle.walks.proofs.walk.seek.Tie as tie
 
 abbrev Inv-loop : tie.InvT-loop
 Inv-loop sheet part from count kind at₀ at =

@@ -1,9 +1,9 @@
 -- Written by `needs write`, from answers.txt: edit that. The proof.
 use borrow.Author.Needs.{needs}
-use Rattle.lookup.proofs.index.slot_of.Statement.{statement}
-use Rattle.lookup.proofs.index.slot_of.Tie as tie
-use Rattle.lookup.proofs.index.slot_of.Reads as reads
-use Rattle.lookup.proofs.index.slot_of.Lts as lts
+use Rattle.walks.proofs.index.slot_of.Statement.{statement}
+use Rattle.walks.proofs.index.slot_of.Tie as tie
+use Rattle.walks.proofs.index.slot_of.Reads as reads
+use Rattle.walks.proofs.index.slot_of.Lts as lts
 use native.Mathlib.Nat.{div-le-self, div-mul-le-self, le-trans, mul-le-mul-right}
 use native.Mathlib.Omega.{arith}
 

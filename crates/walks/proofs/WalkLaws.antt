@@ -14,11 +14,10 @@ use Rattle.sheet.specs.declared.part.Part.{Part}
 use Rattle.ast.specs.Choice.{choose, mapO}
 use Rattle.sheet.specs.Rows.{blank, front, rest}
 use native.Mathlib.Omega.{arith}
-use Rattle.lookup.specs.declared.walk.Found.{Found}
-use Rattle.lookup.specs.declared.walk.Found.the-variants.{At, Nothing}
+use Rattle.walks.specs.declared.walk.Found.{Found}
+use Rattle.walks.specs.declared.walk.Found.the-variants.{At, Nothing}
 use Rattle.sheet.specs.Parse.{elements, kindOf, passes}
-use Rattle.lookup.specs.Walk.{Stands, Sought, Past, From, Nth, Child, rowsAt, Below}
-use Rattle.lookup.specs.Lookup.{Looked}
+use Rattle.walks.specs.Walk.{Stands, Sought, Past, From, Nth, Child, rowsAt, Below}
 
 module _ (t : Part) (R : List Row) (p : ℕ) where
   elements-at : p < length R → elements t (drop p R) ≡ elements t (getD R p blank ∷ drop (suc p) R)
@@ -135,7 +134,3 @@ child-of t R p n x s = record { is = rw (rest-drop R p) (s .is); below = s .belo
 
 pub child-none : (t : Part) (R : List Row) (p n : ℕ) → length R ≤ p → Child t R p n Nothing
 child-none t R p n h = record { is = rw (rest-drop R p) (nth-none t R (p + 1) n (elements-end t R (p + 1) (omega arith))); below = tt }
-
--- a lookup among what is read at the elements of a part
-pub looked : {A : Type 0} (f : List Row → A) (t : Part) (R : List Row) (p n : ℕ) (x : Found) → Child t R p n x → Looked f (map f (elements t (rest (drop p R)))) R n x
-looked f t R p n x s = record { is = at-map f (elements t (rest (drop p R))) n ∙ ap (mapO f) (s .is); below = s .below }

@@ -9,8 +9,8 @@ use Rattle.sheet.specs.declared.part.Part.{Part}
 use Rattle.sheet.specs.declared.part.Part.the-variants.{Interfaces, Statements, BodyOrder}
 use Rattle.sheet.specs.Rows.{blank, rest}
 use Rattle.sheet.specs.Parse.{kindOf, elements}
-use Rattle.lookup.specs.declared.walk.Found.{Found}
-use Rattle.lookup.specs.declared.walk.Found.the-variants.{At, Nothing}
+use Rattle.walks.specs.declared.walk.Found.{Found}
+use Rattle.walks.specs.declared.walk.Found.the-variants.{At, Nothing}
 
 -- the next element from row p on stands at q, and the walk goes on after it
 pub record Stands (t : Part) (R : List Row) (p q : ℕ) : Type 0 where

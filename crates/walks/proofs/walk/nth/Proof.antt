@@ -1,4 +1,4 @@
--- `lookup::walk::nth` meets its contract: past each element there is one fewer to go.
+-- `walks::walk::nth` meets its contract: past each element there is one fewer to go.
 -- Assumes nothing.
 use mathlib.Core.Path.{_≡_, refl, sym, ap, _∙_}
 use mathlib.Core.List.{List}
@@ -11,11 +11,11 @@ use denote.Ref.{now}
 use lib.ListN.{length, drop, getElem?}
 use Rattle.sheet.specs.Rows.{rows}
 use Rattle.sheet.specs.Parse.{elements}
-use Rattle.lookup.specs.Walk.{Stands}
+use Rattle.walks.specs.Walk.{Stands}
 use Rattle.sheet.proofs.RowLaws.{rows-length}
-use Rattle.lookup.proofs.WalkLaws.{stands, missing, at-drop, past-one, nth-past, nth-from, first-is, first-below}
-use Rattle.lookup.proofs.walk.nth.Statement.{statement}
-use Rattle.lookup.proofs.walk.nth.Tie as tie
+use Rattle.walks.proofs.WalkLaws.{stands, missing, at-drop, past-one, nth-past, nth-from, first-is, first-below}
+use Rattle.walks.proofs.walk.nth.Statement.{statement}
+use Rattle.walks.proofs.walk.nth.Tie as tie
 
 abbrev Inv-loop : tie.InvT-loop
 Inv-loop sheet part from n at₀ left₀ at left =

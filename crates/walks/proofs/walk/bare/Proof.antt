@@ -1,8 +1,8 @@
 -- Written by `needs write`, from answers.txt: edit that. The proof.
-use Rattle.lookup.proofs.walk.bare.Statement.{statement}
-use Rattle.lookup.proofs.walk.bare.Tie as tie
-use Rattle.lookup.proofs.walk.bare.Reads as reads
-use Rattle.lookup.proofs.walk.bare.Lts as lts
+use Rattle.walks.proofs.walk.bare.Statement.{statement}
+use Rattle.walks.proofs.walk.bare.Tie as tie
+use Rattle.walks.proofs.walk.bare.Reads as reads
+use Rattle.walks.proofs.walk.bare.Lts as lts
 use Rattle.sheet.proofs.part.passes.Reads as passes-reads
 use Rattle.sheet.proofs.row.row_at.Reads as row-at-reads
 use mathlib.Core.Path.{_≡_, refl, sym, _∙_}
@@ -14,8 +14,8 @@ use denote.Ref.{now}
 use lib.ListN.{length}
 use Rattle.sheet.specs.Rows.{rows}
 use Rattle.sheet.proofs.RowLaws.{rows-length}
-use Rattle.lookup.specs.Walk.{Bare}
-use Rattle.lookup.proofs.BareLaws.{bare-end, bare-pass, bare-low, bare-high}
+use Rattle.walks.specs.Walk.{Bare}
+use Rattle.walks.proofs.BareLaws.{bare-end, bare-pass, bare-low, bare-high}
 use borrow.Author.Needs.{needs}
 
 abbrev Inv-loop : tie.InvT-loop

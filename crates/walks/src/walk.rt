@@ -5,7 +5,7 @@ use sheet::row;
 ghost use mathlib.Core.Path.{_≡_};
 ghost use mathlib.Core.Bool.{true};
 ghost use Rattle.sheet.specs.Rows.{rows};
-ghost use Rattle.lookup.specs.Walk.{Sought, Bare, Nth, Child};
+ghost use Rattle.walks.specs.Walk.{Sought, Bare, Nth, Child};
 
 pub enum Found {
     At(usize),

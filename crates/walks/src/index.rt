@@ -4,8 +4,8 @@ use super::walk::Found;
 use sheet::part::Part;
 ghost use Prim.Native.Nat.{_*_, _<_, _≤_};
 ghost use Rattle.sheet.specs.Rows.{rows};
-ghost use Rattle.lookup.specs.Walk.{Nth};
-ghost use Rattle.lookup.specs.Index.{Filled, Indexed};
+ghost use Rattle.walks.specs.Walk.{Nth};
+ghost use Rattle.walks.specs.Index.{Filled, Indexed};
 
 // Fills slot j with the row of the (j * stride)-th element from a row on, while there are slots; how many it filled.
 pub fn index(sheet: &[u32], part: Part, from: usize, stride: u32, slots: &mut [u32]) -> usize

@@ -10,11 +10,11 @@ use lib.Seq.{drop-drop, drop-set-lt, getD-set-same, getD-set-other}
 use Rattle.sheet.specs.declared.row.Row.{Row}
 use Rattle.sheet.specs.declared.part.Part.{Part}
 use Rattle.sheet.specs.Parse.{elements}
-use Rattle.lookup.specs.declared.walk.Found.{Found}
-use Rattle.lookup.specs.declared.walk.Found.the-variants.{At, Nothing}
-use Rattle.lookup.specs.Walk.{Nth, Past, From, Stands, rowsAt}
-use Rattle.lookup.specs.Index.{Filled, Indexed}
-use Rattle.lookup.proofs.WalkLaws.{at-drop, from-here, first-is, past-one}
+use Rattle.walks.specs.declared.walk.Found.{Found}
+use Rattle.walks.specs.declared.walk.Found.the-variants.{At, Nothing}
+use Rattle.walks.specs.Walk.{Nth, Past, From, Stands, rowsAt}
+use Rattle.walks.specs.Index.{Filled, Indexed}
+use Rattle.walks.proofs.WalkLaws.{at-drop, from-here, first-is, past-one}
 
 -- a lookup from a place where the elements from the m-th on are found
 pub nth-shift : (t : Part) (R : List Row) (p slot m k n : ℕ) (x : Found) → elements t (drop slot R) ≡ drop m (elements t (drop p R)) → m + k ≡ n → Nth t R slot k x → Nth t R p n x

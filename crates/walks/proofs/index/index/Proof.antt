@@ -1,20 +1,20 @@
 -- Written by `needs write`, from answers.txt: edit that. The proof.
-use Rattle.lookup.proofs.index.index.Statement.{statement}
-use Rattle.lookup.proofs.index.index.Tie as tie
-use Rattle.lookup.proofs.index.index.Reads as reads
-use Rattle.lookup.proofs.index.index.Lts as lts
-use Rattle.lookup.proofs.walk.nth.Reads as nth-reads
-use Rattle.lookup.proofs.walk.seek.Reads as seek-reads
+use Rattle.walks.proofs.index.index.Statement.{statement}
+use Rattle.walks.proofs.index.index.Tie as tie
+use Rattle.walks.proofs.index.index.Reads as reads
+use Rattle.walks.proofs.index.index.Lts as lts
+use Rattle.walks.proofs.walk.nth.Reads as nth-reads
+use Rattle.walks.proofs.walk.seek.Reads as seek-reads
 use mathlib.Core.Path.{_≡_, refl, sym}
 use Prim.Native.Nat.{_+_, _-_, _*_, _≤_}
 use denote.Ref.{now}
 use lib.ListN.{length, length-set}
 use Rattle.sheet.specs.Rows.{rows}
-use Rattle.lookup.specs.declared.walk.Found.the-variants.{At}
-use Rattle.lookup.specs.Walk.{Nth}
-use Rattle.lookup.specs.Index.{Indexed}
-use Rattle.lookup.proofs.WalkLaws.{stands}
-use Rattle.lookup.proofs.IndexLaws.{fill-none, fill-more, ready-first, ready-next}
+use Rattle.walks.specs.declared.walk.Found.the-variants.{At}
+use Rattle.walks.specs.Walk.{Nth}
+use Rattle.walks.specs.Index.{Indexed}
+use Rattle.walks.proofs.WalkLaws.{stands}
+use Rattle.walks.proofs.IndexLaws.{fill-none, fill-more, ready-first, ready-next}
 use native.Mathlib.Omega.{arith}
 use borrow.Author.Needs.{needs}
 

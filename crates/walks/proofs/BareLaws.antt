@@ -11,8 +11,8 @@ use Rattle.sheet.specs.declared.row.Row.{Row}
 use Rattle.sheet.specs.declared.part.Part.the-variants.{Interfaces, Statements, BodyOrder}
 use Rattle.sheet.specs.Rows.{blank}
 use Rattle.sheet.specs.Parse.{passes}
-use Rattle.lookup.specs.Walk.{Bare}
-use Rattle.lookup.proofs.WalkLaws.{walk-pass, walk-stop, elements-end}
+use Rattle.walks.specs.Walk.{Bare}
+use Rattle.walks.proofs.WalkLaws.{walk-pass, walk-stop, elements-end}
 
 -- the walk over interfaces passes 3 and 9, and so do the later ones
 record Passed (k : ℕ) : Type 0 where

@@ -2,13 +2,13 @@ use native.Mathlib.Omega.{arith}
 use denote.Ref.{now}
 use Rattle.sheet.specs.Rows.{rows}
 use Rattle.sheet.proofs.RowLaws.{rows-count}
-use Rattle.lookup.proofs.WalkLaws.{child-of, child-none}
+use Rattle.walks.proofs.WalkLaws.{child-of, child-none}
 use borrow.Author.Needs.{needs}
-use Rattle.lookup.proofs.walk.child.Statement.{statement}
-use Rattle.lookup.proofs.walk.child.Tie as tie
-use Rattle.lookup.proofs.walk.child.Reads as reads
-use Rattle.lookup.proofs.walk.child.Lts as lts
-use Rattle.lookup.proofs.walk.nth.Reads as nth-reads
+use Rattle.walks.proofs.walk.child.Statement.{statement}
+use Rattle.walks.proofs.walk.child.Tie as tie
+use Rattle.walks.proofs.walk.child.Reads as reads
+use Rattle.walks.proofs.walk.child.Lts as lts
+use Rattle.walks.proofs.walk.nth.Reads as nth-reads
 
 returns : tie.Need-returns
 returns c = let a = c .before .before .args in child-none (a .part) (rows (now (a .sheet))) (a .of) (a .n) (omega (arith, rows-count (now (a .sheet))))

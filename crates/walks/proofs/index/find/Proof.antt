@@ -1,17 +1,17 @@
 -- Written by `needs write`, from answers.txt: edit that. The proof.
 use borrow.Author.Needs.{needs}
-use Rattle.lookup.proofs.index.find.Statement.{statement}
-use Rattle.lookup.proofs.index.find.Tie as tie
-use Rattle.lookup.proofs.index.find.Reads as reads
-use Rattle.lookup.proofs.index.find.Lts as lts
-use Rattle.lookup.proofs.index.slot_of.Reads as slot-of-reads
-use Rattle.lookup.proofs.walk.nth.Reads as nth-reads
+use Rattle.walks.proofs.index.find.Statement.{statement}
+use Rattle.walks.proofs.index.find.Tie as tie
+use Rattle.walks.proofs.index.find.Reads as reads
+use Rattle.walks.proofs.index.find.Lts as lts
+use Rattle.walks.proofs.index.slot_of.Reads as slot-of-reads
+use Rattle.walks.proofs.walk.nth.Reads as nth-reads
 use Prim.Native.Nat.{_+_, _-_, _*_}
 use mathlib.Core.Path.{_≡_}
 use native.Mathlib.Nat.{mul-one}
 use denote.Ref.{now}
 use Rattle.sheet.specs.Rows.{rows}
-use Rattle.lookup.proofs.IndexLaws.{nth-shift}
+use Rattle.walks.proofs.IndexLaws.{nth-shift}
 use native.Mathlib.Omega.{arith}
 
 mul-t13 : tie.Need-mul-t13

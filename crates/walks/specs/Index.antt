@@ -5,8 +5,8 @@ use Prim.Native.Nat.{ℕ, _*_, _≤_, _<_}
 use lib.ListN.{length, drop, getD}
 use Rattle.sheet.specs.declared.row.Row.{Row}
 use Rattle.sheet.specs.declared.part.Part.{Part}
-use Rattle.lookup.specs.declared.walk.Found.the-variants.{At}
-use Rattle.lookup.specs.Walk.{Nth}
+use Rattle.walks.specs.declared.walk.Found.the-variants.{At}
+use Rattle.walks.specs.Walk.{Nth}
 
 -- each of the first n slots: slot j holds the row of the (j * stride)-th element
 pub record Filled (t : Part) (R : List Row) (p stride : ℕ) (slots : List ℕ) (n : ℕ) : Type 0 where
