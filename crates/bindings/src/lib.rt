@@ -2,6 +2,7 @@
 use journal;
 use journal::Found;
 use journal::Record;
+use journal::wide;
 use refine;
 use refine::Answer;
 use refine::Counts;
@@ -12,19 +13,13 @@ ghost use mathlib.Core.Path.{_≡_};
 ghost use Prim.Native.Nat.{_≤_};
 ghost use Rattle.ast.specs.Choice.{orElse};
 ghost use Rattle.sheet.specs.Parse.{optional};
-ghost use Rattle.journal.specs.Records.{tagField, tagInterface, tagStored, Wide};
+ghost use Rattle.journal.specs.Records.{tagField, tagInterface, tagStored};
 ghost use Rattle.reading.specs.Fair.{HandleAt, NodeAt};
 ghost use Rattle.refine.specs.Sound.{Standing, EnvAt};
 ghost use Rattle.refine.specs.Contract.{Keepable, Kept};
 ghost use Rattle.bindings.specs.Contract.{Classed, interfaceRecord, Associated, Giving, FieldDone, InterfaceDone, GivenDone, Remappable, Remapped, Recordable, Recorded};
 
 const NONE: u32 = 4294967295;
-
-fn wide(x: u32) -> usize
-    ensures { λ r. ⌜ Wide x r ⌝ }
-{
-    x as usize
-}
 
 // An IS adds an association to its scope.
 pub fn associate(

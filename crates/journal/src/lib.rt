@@ -29,7 +29,8 @@ pub enum Found {
     Nothing,
 }
 
-fn wide(x: u32) -> usize
+// A word as a number that indexes.
+pub fn wide(x: u32) -> usize
     ensures { λ r. ⌜ Wide x r ⌝ }
 {
     x as usize

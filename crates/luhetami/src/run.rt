@@ -58,7 +58,7 @@ pub fn run<'a>(
     let mut dir = [0u32; 592];
     source::prepare(root, library, work, rows * 12 + slots, slots, &mut dir);
     let lim = Limits { nodes, rows, slots };
-    match expander::top(root, library, &dir, work, lim, depth) {
+    match tops::top(root, library, &dir, work, lim, depth) {
         Answer::Done {
             st,
             value,

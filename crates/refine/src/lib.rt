@@ -2,10 +2,11 @@
 use journal;
 use journal::Found;
 use journal::Record;
+use journal::wide;
 ghost use mathlib.Core.Path.{_≡_};
 ghost use Prim.Native.Nat.{_+_, _-_, _≤_};
 ghost use lib.ListN.{length};
-ghost use Rattle.journal.specs.Records.{tagId, tagStored, Wide, Pushed};
+ghost use Rattle.journal.specs.Records.{tagId, tagStored, Pushed};
 ghost use Rattle.reading.specs.Reading.{idsAt};
 ghost use Rattle.reading.specs.Fair.{HandleAt, NodeAt, Walkable};
 ghost use Rattle.refine.specs.Sound.{Standing, EnvAt};
@@ -51,12 +52,6 @@ pub enum Answer {
         first: u32,
         second: u32,
     },
-}
-
-fn wide(x: u32) -> usize
-    ensures { λ r. ⌜ Wide x r ⌝ }
-{
-    x as usize
 }
 
 // The charge that would make more than K.

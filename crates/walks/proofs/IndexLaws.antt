@@ -56,5 +56,5 @@ module _ (t : Part) (R : List Row) (p stride : ℕ) (slots₀ slots : List ℕ) 
   ready-first {q} h s = rw (h, zero-mul stride) (nth-first t R p q s)
 
   -- as many elements further as a slot stands for
-  pub ready-next : {q : ℕ} {x : Found} → Nth t R p (n * stride) (At q) → Nth t R q stride x → (r : ℕ) → x ≡ At r → Nth t R p ((n + 1) * stride) (At r)
-  ready-next {q} {x} e s r i = nth-shift t R p q (n * stride) stride ((n + 1) * stride) (At r) (e .here) (omega arith) (subst (Nth t R q stride) i s)
+  pub ready-next : {q : ℕ} {x : Found} → Nth t R p (n * stride) (At q) → ¬ (stride ≡ 0) → Nth t R (q + 1) (stride - 1) x → (r : ℕ) → x ≡ At r → Nth t R p ((n + 1) * stride) (At r)
+  ready-next {q} {x} e z s r i = nth-shift t R p (q + 1) (n * stride + 1) (stride - 1) ((n + 1) * stride) (At r) (e .past) (omega arith) (subst (Nth t R (q + 1) (stride - 1)) i s)

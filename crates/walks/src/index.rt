@@ -22,7 +22,10 @@ pub fn index(sheet: &[u32], part: Part, from: usize, stride: u32, slots: &mut [u
         }
         slots[n] = q as u32;
         n += 1;
-        let Found::At(next) = walk::nth(sheet, part, q, stride) else {
+        if stride == 0 {
+            return n;
+        }
+        let Found::At(next) = walk::nth(sheet, part, q + 1, stride - 1) else {
             return n;
         };
         q = next;
@@ -43,7 +46,30 @@ fn slot_of(n: u32, stride: u32, filled: usize) -> u32
     }
 }
 
-// The n-th element, by an index of any size: from the last slot before it.
+// The n-th element, from the last slot before it.
+fn from_slot(
+    sheet: &[u32],
+    part: Part,
+    from: usize,
+    stride: u32,
+    slots: &[u32],
+    filled: usize,
+    n: u32,
+) -> Found
+    requires { ⌜ Filled part (rows (now sheet)) from stride (now slots) filled ⌝ }
+    ensures { λ x. ⌜ Nth part (rows (now (sheet .entry))) from n x ⌝ }
+{
+    if 0 < filled {
+        if 0 < stride {
+            let j = slot_of(n, stride, filled);
+            let left = n - j * stride;
+            return walk::nth(sheet, part, slots[j as usize] as usize, left);
+        }
+    }
+    walk::nth(sheet, part, from, n)
+}
+
+// The n-th element, by an index of any size. An index of every element answers without a walk.
 pub fn find(
     sheet: &[u32],
     part: Part,
@@ -62,12 +88,5 @@ pub fn find(
             return Found::At(slots[j] as usize);
         }
     }
-    if 0 < filled {
-        if 0 < stride {
-            let j = slot_of(n, stride, filled);
-            let left = n - j * stride;
-            return walk::nth(sheet, part, slots[j as usize] as usize, left);
-        }
-    }
-    walk::nth(sheet, part, from, n)
+    from_slot(sheet, part, from, stride, slots, filled, n)
 }

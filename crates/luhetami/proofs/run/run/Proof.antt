@@ -4,7 +4,7 @@ use Rattle.luhetami.proofs.run.run.Statement.{statement}
 use Rattle.luhetami.proofs.run.run.Tie as tie
 use Rattle.luhetami.proofs.run.run.Reads as reads
 use Rattle.luhetami.proofs.run.run.Lts as lts
-use Rattle.expander.proofs.top.Reads as top-reads
+use Rattle.tops.proofs.top.Reads as top-reads
 use Rattle.luhetami.proofs.run.write.Reads as write-reads
 use Rattle.source.proofs.prepare.Reads as prepare-reads
 use mathlib.Core.Path.{_≡_, refl, sym, _∙_}

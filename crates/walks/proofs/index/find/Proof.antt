@@ -4,77 +4,29 @@ use Rattle.walks.proofs.index.find.Statement.{statement}
 use Rattle.walks.proofs.index.find.Tie as tie
 use Rattle.walks.proofs.index.find.Reads as reads
 use Rattle.walks.proofs.index.find.Lts as lts
-use Rattle.walks.proofs.index.slot_of.Reads as slot-of-reads
-use Rattle.walks.proofs.walk.nth.Reads as nth-reads
-use Prim.Native.Nat.{_+_, _-_, _*_}
-use mathlib.Core.Path.{_≡_}
+use Rattle.walks.proofs.index.from_slot.Reads as from-slot-reads
 use native.Mathlib.Nat.{mul-one}
-use denote.Ref.{now}
-use Rattle.sheet.specs.Rows.{rows}
-use Rattle.walks.proofs.IndexLaws.{nth-shift}
 use native.Mathlib.Omega.{arith}
 
-mul-t13 : tie.Need-mul-t13
-mul-t13 c = search needs
+mul-t11 : tie.Need-mul-t11
+mul-t11 c = search needs
 
-shared-slice-read-t15 : tie.Need-shared-slice-read-t15
-shared-slice-read-t15 c = search needs
+shared-slice-read-t13 : tie.Need-shared-slice-read-t13
+shared-slice-read-t13 c = search needs
 
-cast-t16 : tie.Need-cast-t16
-cast-t16 c = omega (arith, (c .shared-slice-known3 .given) (c .before .before .before .before .before .args .n))
+cast-t14 : tie.Need-cast-t14
+cast-t14 c = omega (arith, (c .shared-slice-known3 .given) (c .before .before .before .before .before .args .n))
 
 returns : tie.Need-returns
 returns c = let h = (c .before .before .before .before .before .pre .slot) (c .before .before .before .before .before .args .n) (c .before .if2 .taken) in rw (c .before .before .if1 .taken, mul-one (c .before .before .before .before .before .args .n)) at h
 
-slot-of-requires : tie.Need-slot-of-requires
-slot-of-requires c κs = search needs
-
-mul-left : tie.Need-mul-left
-mul-left c = search needs
-
-sub-left : tie.Need-sub-left
-sub-left c = search needs
-
-cast-nth : tie.Need-cast-nth
-cast-nth c = search needs
-
-mul-nth : tie.Need-mul-nth
-mul-nth c = search needs
-
-shared-slice-read-nth : tie.Need-shared-slice-read-nth
-shared-slice-read-nth c = search needs
-
-cast-nth-2 : tie.Need-cast-nth-2
-cast-nth-2 c = omega (arith, (c .shared-slice-known4 .given) (c .before .slot-of .result))
-
-nth-requires : tie.Need-nth-requires
-nth-requires c κs = search needs
+from-slot-requires : tie.Need-from-slot-requires
+from-slot-requires c κs = search needs
 
 returns-2 : tie.Need-returns-2
-returns-2 c = let z : (c .before .before .slot-of .result) * (c .before .before .before .before .before .before .before .before .args .stride) + ((c .before .before .before .before .before .before .before .before .args .n) - (c .before .before .slot-of .result) * (c .before .before .before .before .before .before .before .before .args .stride)) ≡ (c .before .before .before .before .before .before .before .before .args .n) = omega arith in nth-shift (c .before .before .before .before .before .before .before .before .args .part) (rows (now (c .before .before .before .before .before .before .before .before .args .sheet))) (c .before .before .before .before .before .before .before .before .args .from) _ ((c .before .before .slot-of .result) * (c .before .before .before .before .before .before .before .before .args .stride)) ((c .before .before .before .before .before .before .before .before .args .n) - (c .before .before .slot-of .result) * (c .before .before .before .before .before .before .before .before .args .stride)) (c .before .before .before .before .before .before .before .before .args .n) (c .nth .result) ((c .before .before .before .before .before .before .before .before .pre .slot) (c .before .before .slot-of .result) (c .before .before .slot-of .ensures .0) .here) z (c .nth .ensures)
-
-nth-requires-2 : tie.Need-nth-requires-2
-nth-requires-2 c κs = search needs
-
-returns-3 : tie.Need-returns-3
-returns-3 c = search needs
+returns-2 c = c .from-slot .ensures
 
 pub find-spec : {M : Type 1} → statement M
 find-spec =
     tie.close
-    (tie.spec
-    mul-t13
-    shared-slice-read-t15
-    cast-t16
-    returns
-    slot-of-requires
-    mul-left
-    sub-left
-    cast-nth
-    mul-nth
-    shared-slice-read-nth
-    cast-nth-2
-    nth-requires
-    returns-2
-    nth-requires-2
-    returns-3)
+    (tie.spec mul-t11 shared-slice-read-t13 cast-t14 returns from-slot-requires returns-2)

@@ -6,7 +6,7 @@ use Rattle.walks.proofs.index.index.Lts as lts
 use Rattle.walks.proofs.walk.nth.Reads as nth-reads
 use Rattle.walks.proofs.walk.seek.Reads as seek-reads
 use mathlib.Core.Path.{_≡_, refl, sym}
-use Prim.Native.Nat.{_+_, _-_, _*_, _≤_}
+use Prim.Native.Nat.{_+_, _-_, _*_, _≤_, _<_}
 use denote.Ref.{now}
 use lib.ListN.{length, length-set}
 use Rattle.sheet.specs.Rows.{rows}
@@ -57,6 +57,18 @@ slice-write-slots c = omega arith
 add-n : tie.Need-add-n Inv-loop μ-loop
 add-n c = omega arith
 
+same-length-2 : tie.Need-same-length-2 Inv-loop μ-loop
+same-length-2 c = simp length-set (c .before .before .before .loop .inv .0)
+
+returns-3 : tie.Need-returns-3 Inv-loop μ-loop
+returns-3 c = fill-more (c .before .before .before .before .before .before .before .before .before .before .args .part) (rows (now (c .before .before .before .before .before .before .before .before .before .before .args .sheet))) (c .before .before .before .before .before .before .before .before .before .before .args .from) (c .before .before .before .before .before .before .before .before .before .before .args .stride) (now (c .before .before .before .before .before .before .before .before .before .before .args .slots)) (c .before .before .before .loop .slots) (c .before .before .before .loop .n) _ (c .before .before .loop-test .taken) (c .before .before .before .loop .inv .2) (c .before .before .before .loop .inv .1)
+
+add-nth : tie.Need-add-nth Inv-loop μ-loop
+add-nth c = omega arith
+
+sub-nth : tie.Need-sub-nth Inv-loop μ-loop
+sub-nth c = omega arith
+
 nth-requires : tie.Need-nth-requires Inv-loop μ-loop
 nth-requires c κs = search needs
 
@@ -66,23 +78,23 @@ enum-known-next c = search needs
 enum-told-2 : tie.Need-enum-told-2 Inv-loop μ-loop
 enum-told-2 c = search needs
 
-same-length-2 : tie.Need-same-length-2 Inv-loop μ-loop
-same-length-2 c = simp length-set (c .before .before .before .before .before .loop .inv .0)
+same-length-3 : tie.Need-same-length-3 Inv-loop μ-loop
+same-length-3 c = simp length-set (c .before .before .before .before .before .before .loop .inv .0)
 
-returns-3 : tie.Need-returns-3 Inv-loop μ-loop
-returns-3 c = fill-more (c .before .before .before .before .before .before .before .before .before .before .before .before .args .part) (rows (now (c .before .before .before .before .before .before .before .before .before .before .before .before .args .sheet))) (c .before .before .before .before .before .before .before .before .before .before .before .before .args .from) (c .before .before .before .before .before .before .before .before .before .before .before .before .args .stride) (now (c .before .before .before .before .before .before .before .before .before .before .before .before .args .slots)) (c .before .before .before .before .before .loop .slots) (c .before .before .before .before .before .loop .n) _ (c .before .before .before .before .loop-test .taken) (c .before .before .before .before .before .loop .inv .2) (c .before .before .before .before .before .loop .inv .1)
+returns-4 : tie.Need-returns-4 Inv-loop μ-loop
+returns-4 c = fill-more (c .before .before .before .before .before .before .before .before .before .before .before .before .before .args .part) (rows (now (c .before .before .before .before .before .before .before .before .before .before .before .before .before .args .sheet))) (c .before .before .before .before .before .before .before .before .before .before .before .before .before .args .from) (c .before .before .before .before .before .before .before .before .before .before .before .before .before .args .stride) (now (c .before .before .before .before .before .before .before .before .before .before .before .before .before .args .slots)) (c .before .before .before .before .before .before .loop .slots) (c .before .before .before .before .before .before .loop .n) _ (c .before .before .before .before .before .loop-test .taken) (c .before .before .before .before .before .before .loop .inv .2) (c .before .before .before .before .before .before .loop .inv .1)
 
 loop-less : tie.Need-loop-less Inv-loop μ-loop
 loop-less c = simp length-set (omega arith)
 
 loop-again : tie.Need-loop-again Inv-loop μ-loop
-loop-again c = (simp length-set (c .before .before .before .before .before .before .loop .inv .0), fill-more (c .before .before .before .before .before .before .before .before .before .before .before .before .before .args .part) (rows (now (c .before .before .before .before .before .before .before .before .before .before .before .before .before .args .sheet))) (c .before .before .before .before .before .before .before .before .before .before .before .before .before .args .from) (c .before .before .before .before .before .before .before .before .before .before .before .before .before .args .stride) (now (c .before .before .before .before .before .before .before .before .before .before .before .before .before .args .slots)) (c .before .before .before .before .before .before .loop .slots) (c .before .before .before .before .before .before .loop .n) _ (c .before .before .before .before .before .loop-test .taken) (c .before .before .before .before .before .before .loop .inv .2) (c .before .before .before .before .before .before .loop .inv .1), ready-next (c .before .before .before .before .before .before .before .before .before .before .before .before .before .args .part) (rows (now (c .before .before .before .before .before .before .before .before .before .before .before .before .before .args .sheet))) (c .before .before .before .before .before .before .before .before .before .before .before .before .before .args .from) (c .before .before .before .before .before .before .before .before .before .before .before .before .before .args .stride) (now (c .before .before .before .before .before .before .before .before .before .before .before .before .before .args .slots)) (c .before .before .before .before .before .before .loop .slots) (c .before .before .before .before .before .before .loop .n) (c .before .before .before .before .before .before .loop .inv .2) (c .before .before .before .nth .ensures) _ (c .before .next .given .1), simp length-set (omega arith))
+loop-again c = (simp length-set (c .before .before .before .before .before .before .before .loop .inv .0), fill-more (c .before .before .before .before .before .before .before .before .before .before .before .before .before .before .args .part) (rows (now (c .before .before .before .before .before .before .before .before .before .before .before .before .before .before .args .sheet))) (c .before .before .before .before .before .before .before .before .before .before .before .before .before .before .args .from) (c .before .before .before .before .before .before .before .before .before .before .before .before .before .before .args .stride) (now (c .before .before .before .before .before .before .before .before .before .before .before .before .before .before .args .slots)) (c .before .before .before .before .before .before .before .loop .slots) (c .before .before .before .before .before .before .before .loop .n) _ (c .before .before .before .before .before .before .loop-test .taken) (c .before .before .before .before .before .before .before .loop .inv .2) (c .before .before .before .before .before .before .before .loop .inv .1), ready-next (c .before .before .before .before .before .before .before .before .before .before .before .before .before .before .args .part) (rows (now (c .before .before .before .before .before .before .before .before .before .before .before .before .before .before .args .sheet))) (c .before .before .before .before .before .before .before .before .before .before .before .before .before .before .args .from) (c .before .before .before .before .before .before .before .before .before .before .before .before .before .before .args .stride) (now (c .before .before .before .before .before .before .before .before .before .before .before .before .before .before .args .slots)) (c .before .before .before .before .before .before .before .loop .slots) (c .before .before .before .before .before .before .before .loop .n) (c .before .before .before .before .before .before .before .loop .inv .2) (c .before .before .before .before .if2 .left) (c .before .before .before .nth .ensures) _ (c .before .next .given .1), simp length-set (omega arith))
 
-same-length-3 : tie.Need-same-length-3 Inv-loop μ-loop
-same-length-3 c = c .before .loop .inv .0
+same-length-4 : tie.Need-same-length-4 Inv-loop μ-loop
+same-length-4 c = c .before .loop .inv .0
 
-returns-4 : tie.Need-returns-4 Inv-loop μ-loop
-returns-4 c = c .before .loop .inv .1
+returns-5 : tie.Need-returns-5 Inv-loop μ-loop
+returns-5 c = c .before .loop .inv .1
 
 pub index-spec : {M : Type 1} → statement M
 index-spec =
@@ -101,12 +113,16 @@ index-spec =
     mul-slots
     slice-write-slots
     add-n
+    same-length-2
+    returns-3
+    add-nth
+    sub-nth
     nth-requires
     enum-known-next
     enum-told-2
-    same-length-2
-    returns-3
+    same-length-3
+    returns-4
     loop-less
     loop-again
-    same-length-3
-    returns-4)
+    same-length-4
+    returns-5)

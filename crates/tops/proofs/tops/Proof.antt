@@ -1,9 +1,9 @@
 -- Written by `needs write`, from answers.txt: edit that. The proof.
-use Rattle.expander.proofs.tops.Statement.{statement}
-use Rattle.expander.proofs.tops.Tie as tie
-use Rattle.expander.proofs.tops.Reads as reads
-use Rattle.expander.proofs.tops.Lts as lts
-use Rattle.expander.proofs.top_statement.Reads as top-statement-reads
+use Rattle.tops.proofs.tops.Statement.{statement}
+use Rattle.tops.proofs.tops.Tie as tie
+use Rattle.tops.proofs.tops.Reads as reads
+use Rattle.tops.proofs.tops.Lts as lts
+use Rattle.tops.proofs.top_statement.Reads as top-statement-reads
 use Rattle.walks.proofs.walk.seek.Reads as seek-reads
 use mathlib.Core.Path.{_∙_}
 use Prim.Native.Nat.{_-_}

@@ -1,11 +1,11 @@
 -- Written by `needs write`, from answers.txt: edit that. The proof.
 use borrow.Author.Needs.{needs}
-use Rattle.expander.proofs.top.Statement.{statement}
-use Rattle.expander.proofs.top.Tie as tie
-use Rattle.expander.proofs.top.Reads as reads
-use Rattle.expander.proofs.top.Lts as lts
-use Rattle.expander.proofs.tops.Reads as tops-reads
-use Rattle.expander.proofs.wide.Reads as wide-reads
+use Rattle.tops.proofs.top.Statement.{statement}
+use Rattle.tops.proofs.top.Tie as tie
+use Rattle.tops.proofs.top.Reads as reads
+use Rattle.tops.proofs.top.Lts as lts
+use Rattle.tops.proofs.tops.Reads as tops-reads
+use Rattle.journal.proofs.wide.Reads as wide-reads
 use Rattle.journal.proofs.paid.Reads as paid-reads
 use Rattle.walks.proofs.walk.seek.Reads as seek-reads
 use Rattle.refine.proofs.open.Reads as open-reads

@@ -1,10 +1,10 @@
 -- Written by `needs write`, from answers.txt: edit that. The proof.
 use borrow.Author.Needs.{needs}
-use Rattle.expander.proofs.top_statement.Statement.{statement}
-use Rattle.expander.proofs.top_statement.Tie as tie
-use Rattle.expander.proofs.top_statement.Reads as reads
-use Rattle.expander.proofs.top_statement.Lts as lts
+use Rattle.tops.proofs.top_statement.Statement.{statement}
+use Rattle.tops.proofs.top_statement.Tie as tie
+use Rattle.tops.proofs.top_statement.Reads as reads
+use Rattle.tops.proofs.top_statement.Lts as lts
 use Rattle.expander.proofs.copy.Reads as copy-reads
 use Rattle.parts.proofs.extern_statement.Reads as extern-statement-reads
 use Rattle.parts.proofs.route.Reads as route-reads
 use Rattle.refine.proofs.keep.Reads as keep-reads
