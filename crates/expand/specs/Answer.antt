@@ -4,9 +4,9 @@ use mathlib.Core.Path.{_≡_}
 use Prim.Native.Nat.{ℕ, _*_, _<_, min}
 use lib.ListN.{length, take, replicate}
 use Rattle.operation.specs.Operation.{Call, expandWords}
-use Rattle.luhetami.specs.Calls.{callOf, numbersOf}
-use Rattle.luhetami.specs.declared.Outcome.{Outcome}
-use Rattle.luhetami.specs.declared.Outcome.the-variants.{Expanded, Refused}
+use Rattle.call.specs.Calls.{callOf, numbersOf}
+use Rattle.call.specs.declared.Outcome.{Outcome}
+use Rattle.call.specs.declared.Outcome.the-variants.{Expanded, Refused}
 use Rattle.lines.specs.Read.{readLines}
 
 -- "It prints a line (refusal or 0, two place numbers, 0, nodes, scopes, charges, 0)"

@@ -1,5 +1,5 @@
 // What the program writes of an answer: the first line, and how many rows of out come after it.
-use luhetami::Outcome;
+use call::Outcome;
 ghost use mathlib.Core.Path.{_≡_};
 ghost use Prim.Native.Nat.{_≤_};
 ghost use Rattle.expand.specs.Answer.{firstLine, outRows};

@@ -4,11 +4,11 @@ mod answer;
 mod input;
 mod scene;
 
+use call::Outcome;
 use input::Input;
 use libc::STDIN_FILENO;
 use libc::STDOUT_FILENO;
 use lines::Written;
-use luhetami::Outcome;
 
 // Standard input's scene, expanded into out. Input that is longer than the lines, or cannot be read, has no length that Read
 // lines takes.

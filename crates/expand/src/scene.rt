@@ -1,7 +1,7 @@
 // A scene, read and expanded with the limits of the program: 400 nodes, depth 64, 400 charges.
 use super::answer;
+use call::Outcome;
 use lines::Read;
-use luhetami::Outcome;
 ghost use Rattle.expand.specs.Answer.{Expands, ReadRefused, ReadExpanded};
 
 // The expansion of some rows, with no library.
@@ -12,7 +12,7 @@ fn expand_rows<'a>(root: &'a [u32], out: &mut [u32]) -> Outcome
     let mut ledger = [0u32; 1200];
     let mut scopes = [0u32; 2000];
     let mut work = [0u32; 10560];
-    luhetami::expand(
+    call::expand(
         root,
         &library,
         400,

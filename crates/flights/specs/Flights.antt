@@ -10,7 +10,7 @@ use Rattle.sheet.specs.Parse.{elements, idsOf, fieldOf, interfaceOf, routeOf, s
 use Rattle.sheet.specs.Print.{documentRows}
 use Rattle.expansion.specs.Scenes.{computed}
 use Rattle.operation.specs.Operation.{Numbers, outcome, expandWords}
-use Rattle.luhetami.specs.Calls.{callOf}
+use Rattle.call.specs.Calls.{callOf}
 
 -- the numbers that Expand answers to some rows, with no library, N, D and 400 charges
 unfoldable pub answerOf : List ℕ → ℕ → ℕ → Numbers

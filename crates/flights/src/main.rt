@@ -1,9 +1,9 @@
 // The ten flights of document 01 ("Flights to prove"), run through the code: each function's contract is its flight's answer.
+use call::Outcome;
 use libc::STDOUT_FILENO;
 use lines::Written;
-use luhetami::Outcome;
 ghost use mathlib.Core.Path.{_≡_};
-ghost use Rattle.luhetami.specs.Calls.{numbersOf};
+ghost use Rattle.call.specs.Calls.{numbersOf};
 ghost use Rattle.flights.specs.Flights.{answerOf, accepted, refused, numberLine};
 
 // Expand on some rows, with no library and 400 charges.
@@ -15,7 +15,7 @@ fn answer<'a>(root: &'a [u32], nodes: u32, depth: u32) -> Outcome
     let mut ledger = [0u32; 1200];
     let mut scopes = [0u32; 2000];
     let mut work = [0u32; 10560];
-    luhetami::expand(
+    call::expand(
         root,
         &library,
         nodes,

@@ -14,8 +14,8 @@ use Rattle.lines.specs.Answer.{Answer, accepted, refused}
 use Rattle.lines.specs.Read.{goodLines, wordsOf, readLines}
 use Rattle.lines.specs.Write.{linesOf, writeLines}
 use Rattle.operation.specs.Operation.{Call, over}
-use Rattle.luhetami.specs.declared.Outcome.{Outcome}
-use Rattle.luhetami.specs.Calls.{numbersOf, Says, Demand1, Demand3}
+use Rattle.call.specs.declared.Outcome.{Outcome}
+use Rattle.call.specs.Calls.{numbersOf, Says, Demand1, Demand3}
 use Rattle.luhetami.specs.Exports.{numberWords, expandC, SaysC, Demand1C, Demand3C, lineWords, unlessShort, readCounted, writeCounted}
 
 -- ---- put

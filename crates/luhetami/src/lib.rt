@@ -1,83 +1,30 @@
-// Expand whole (document 01): what is refused before the first step, the run, and the writing of what it gave.
-pub mod c;
-mod run;
-
-use checker::Checked;
-use checker::grammar::Form;
+// What C calls (include/luhetami.h). A slice is a pointer and a length; the result is the refusal, 0 where accepted.
+use call::Outcome;
+use lines::Read;
+use lines::Written;
 ghost use mathlib.Core.Path.{_≡_};
-ghost use Rattle.operation.specs.Operation.{wrongLength};
-ghost use Rattle.luhetami.specs.Calls.{limitsOf, callOf, lacksRoom, Says, Demand1, Demand3};
+ghost use Prim.Native.Nat.{_≤_, _<_};
+ghost use lib.ListN.{length, getD};
+ghost use Rattle.operation.specs.Operation.{over};
+ghost use Rattle.call.specs.Calls.{callOf};
+ghost use Rattle.luhetami.specs.Exports.{SaysC, Demand1C, Demand3C, readC, writeC};
 
-// What a call answers: the counts of an expansion, or a refusal by its number and two places.
-pub enum Outcome {
-    Expanded {
-        nodes: u32,
-        scopes: u32,
-        charges: u32,
-        rows: u32,
-    },
-    Refused {
-        number: u32,
-        first: u32,
-        second: u32,
-    },
-}
-
-fn refused(number: u32, first: u32, second: u32) -> Outcome
-    ensures { λ a. ⌜ a ≡ Outcome.Refused number first second ⌝ }
+// Writes the words of an answer. The result is the first of them, the refusal.
+fn put(answer: &mut [u32], words: &[u32]) -> u32
+    requires { ⌜ (0 < length (now words)) × (length (now words) ≤ length (now answer)) ⌝ }
+    ensures { λ r. ⌜ (r ≡ getD (now (words .entry)) 0 0) × (now (answer .exit) ≡ over (now (words .entry)) (now (answer .entry))) ⌝ }
 {
-    Outcome::Refused {
-        number,
-        first,
-        second,
+    let mut i = 0;
+    while i < words.len() {
+        answer[i] = words[i];
+        i += 1;
     }
+    words[0]
 }
 
-// Refusal 1: a limit over its cap, or a slice too short for the limits.
-fn lacks_room(
-    max_nodes: u32,
-    max_depth: u32,
-    max_rows: u32,
-    out: usize,
-    ledger: usize,
-    scopes: usize,
-    work: usize,
-) -> bool
-    ensures { λ b. ⌜ b ≡ lacksRoom (limitsOf «max_nodes» «max_depth» «max_rows») out ledger scopes work ⌝ }
-{
-    if max_nodes > 4000000 {
-        return true;
-    }
-    if max_depth > 512 {
-        return true;
-    }
-    if max_rows > 16777216 {
-        return true;
-    }
-    if out < 8 * (max_rows as usize) {
-        return true;
-    }
-    if ledger < 3 * (max_nodes as usize) {
-        return true;
-    }
-    if scopes < 5 * (max_rows as usize) {
-        return true;
-    }
-    work < 16 * (max_rows as usize) + 64 * (max_depth as usize + 1)
-}
-
-// Refusal 2: a sheet that is no multiple of 8 words, or over 1,048,576 rows.
-fn wrong_length(sheet: &[u32]) -> bool
-    ensures { λ b. ⌜ b ≡ wrongLength (now (sheet .entry)) ⌝ }
-{
-    if sheet.len() % 8 != 0 {
-        return true;
-    }
-    sheet.len() / 8 > 1048576
-}
-
-// Expands the prototypes of a scene. Accepted, out has the rows, ledger the triples and scopes the entries.
-pub fn expand<'a>(
+// Expand. Answer: refusal, first place, second place, nodes, scopes, charges, rows of out.
+#[no_mangle]
+pub extern "C" fn luhetami_expand<'a>(
     root: &'a [u32],
     library: &'a [u32],
     max_nodes: u32,
@@ -87,43 +34,71 @@ pub fn expand<'a>(
     ledger: &mut [u32],
     scopes: &mut [u32],
     work: &mut [u32],
-) -> Outcome
-    ensures { λ a. ⌜ Says (callOf (now (root .entry)) (now (library .entry)) «max_nodes» «max_depth» «max_rows» (now (out .entry)) (now (ledger .entry)) (now (scopes .entry)) (now (work .entry))) a (now (out .exit)) (now (ledger .exit)) (now (scopes .exit)) ⌝ }
-    ensures { λ a. ⌜ Demand1 (callOf (now (root .entry)) (now (library .entry)) «max_nodes» «max_depth» «max_rows» (now (out .entry)) (now (ledger .entry)) (now (scopes .entry)) (now (work .entry))) a (now (out .exit)) (now (ledger .exit)) (now (scopes .exit)) ⌝ }
-    ensures { λ a. ⌜ Demand3 (callOf (now (root .entry)) (now (library .entry)) «max_nodes» «max_depth» «max_rows» (now (out .entry)) (now (ledger .entry)) (now (scopes .entry)) (now (work .entry))) a (now (out .exit)) (now (ledger .exit)) (now (scopes .exit)) ⌝ }
+    answer: &mut [u32],
+) -> u32
+    ensures { λ r. ⌜ SaysC (callOf (now (root .entry)) (now (library .entry)) «max_nodes» «max_depth» «max_rows» (now (out .entry)) (now (ledger .entry)) (now (scopes .entry)) (now (work .entry))) (now (answer .entry)) r (now (out .exit)) (now (ledger .exit)) (now (scopes .exit)) (now (answer .exit)) ⌝ }
+    ensures { λ r. ⌜ Demand1C (callOf (now (root .entry)) (now (library .entry)) «max_nodes» «max_depth» «max_rows» (now (out .entry)) (now (ledger .entry)) (now (scopes .entry)) (now (work .entry))) (now (answer .entry)) r (now (out .exit)) (now (ledger .exit)) (now (scopes .exit)) (now (answer .exit)) ⌝ }
+    ensures { λ r. ⌜ Demand3C (callOf (now (root .entry)) (now (library .entry)) «max_nodes» «max_depth» «max_rows» (now (out .entry)) (now (ledger .entry)) (now (scopes .entry)) (now (work .entry))) r (now (out .exit)) (now (ledger .exit)) (now (scopes .exit)) (now (answer .exit)) ⌝ }
 {
-    if lacks_room(
+    if answer.len() < 7 {
+        return 1;
+    }
+    match call::expand(
+        root,
+        library,
         max_nodes,
         max_depth,
         max_rows,
-        out.len(),
-        ledger.len(),
-        scopes.len(),
-        work.len(),
-    ) {
-        return refused(1, 0, 0);
-    }
-    if wrong_length(root) {
-        return refused(2, 0, 0);
-    }
-    if wrong_length(library) {
-        return refused(2, 0, 0);
-    }
-    if let Checked::Bad(row) = checker::check(root, Form::Root) {
-        return refused(3, 0, row as u32);
-    }
-    if let Checked::Bad(row) = checker::check(library, Form::Library) {
-        return refused(3, 1, row as u32);
-    }
-    run::run(
-        root,
-        library,
-        max_nodes as usize,
-        max_depth as usize,
-        max_rows as usize,
         out,
         ledger,
         scopes,
         work,
-    )
+    ) {
+        Outcome::Expanded {
+            nodes,
+            scopes: opened,
+            charges,
+            rows,
+        } => put(answer, &[0, 0, 0, nodes, opened, charges, rows]),
+        Outcome::Refused {
+            number,
+            first,
+            second,
+        } => put(answer, &[number, first, second, 0, 0, 0, 0]),
+    }
+}
+
+// Read lines. Answer: refusal, place, rows. More lines than a u32 counts are refused.
+#[no_mangle]
+pub extern "C" fn luhetami_read_lines(lines: &[u8], words: &mut [u32], answer: &mut [u32]) -> u32
+    ensures { λ r. ⌜ record { result = r; lent = now (words .exit); answer = now (answer .exit) } ≡ readC (now (lines .entry)) (now (words .entry)) (now (answer .entry)) ⌝ }
+{
+    if answer.len() < 3 {
+        return 12;
+    }
+    if lines.len() / 89 > 4294967295 {
+        return put(answer, &[12, 0, 0]);
+    }
+    match lines::read_lines(lines, words) {
+        Read::Rows(rows) => put(answer, &[0, 0, rows as u32]),
+        Read::WrongLength => put(answer, &[12, 0, 0]),
+        Read::BadLine(line) => put(answer, &[13, line as u32, 0]),
+    }
+}
+
+// Write lines. Answer: refusal, place, bytes. Rows of more bytes than a u32 counts are refused.
+#[no_mangle]
+pub extern "C" fn luhetami_write_lines(words: &[u32], lines: &mut [u8], answer: &mut [u32]) -> u32
+    ensures { λ r. ⌜ record { result = r; lent = now (lines .exit); answer = now (answer .exit) } ≡ writeC (now (words .entry)) (now (lines .entry)) (now (answer .entry)) ⌝ }
+{
+    if answer.len() < 3 {
+        return 14;
+    }
+    if words.len() / 8 > 48258059 {
+        return put(answer, &[14, 0, 0]);
+    }
+    match lines::write_lines(words, lines) {
+        Written::Bytes(bytes) => put(answer, &[0, 0, bytes as u32]),
+        Written::Refused => put(answer, &[14, 0, 0]),
+    }
 }

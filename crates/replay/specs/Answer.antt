@@ -1,8 +1,8 @@
 -- A case's line, by what Expand answers.
 use mathlib.Core.List.{List, [], _∷_}
 use Prim.Native.Nat.{ℕ}
-use Rattle.luhetami.specs.declared.Outcome.{Outcome}
-use Rattle.luhetami.specs.declared.Outcome.the-variants.{Expanded, Refused}
+use Rattle.call.specs.declared.Outcome.{Outcome}
+use Rattle.call.specs.declared.Outcome.the-variants.{Expanded, Refused}
 
 -- refusal, two place numbers, nodes, scopes, charges, rows of out, and the sum over what was lent
 abbrev pub answerLine : Outcome → ℕ → List ℕ

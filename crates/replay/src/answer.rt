@@ -1,6 +1,6 @@
 // The lines that the program writes.
+use call::Outcome;
 use libc::STDOUT_FILENO;
-use luhetami::Outcome;
 ghost use mathlib.Core.Path.{_≡_};
 ghost use Rattle.replay.specs.Answer.{answerLine};
 

@@ -22,7 +22,7 @@ fn run<'a>(
     fill::fill(ledger, 1526726656, 1);
     fill::fill(scopes, 1543503872, 1);
     fill::fill(work, 0, 2654435761);
-    let outcome = luhetami::expand(
+    let outcome = call::expand(
         root,
         library,
         call.max_nodes,

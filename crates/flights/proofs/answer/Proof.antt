@@ -4,7 +4,7 @@ use Rattle.flights.proofs.answer.Statement.{statement}
 use Rattle.flights.proofs.answer.Tie as tie
 use Rattle.flights.proofs.answer.Reads as reads
 use Rattle.flights.proofs.answer.Lts as lts
-use Rattle.luhetami.proofs.expand.Reads as expand-reads
+use Rattle.call.proofs.expand.Reads as expand-reads
 use mathlib.Core.Path.{ap}
 use Rattle.operation.specs.Operation.{After}
 use Rattle.flights.specs.Flights.{answerOf}

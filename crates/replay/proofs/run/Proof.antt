@@ -4,7 +4,7 @@ use Rattle.replay.proofs.run.Statement.{statement}
 use Rattle.replay.proofs.run.Tie as tie
 use Rattle.replay.proofs.run.Reads as reads
 use Rattle.replay.proofs.run.Lts as lts
-use Rattle.luhetami.proofs.expand.Reads as expand-reads
+use Rattle.call.proofs.expand.Reads as expand-reads
 use Rattle.replay.proofs.answer.print.Reads as print-reads
 use Rattle.replay.proofs.fill.fill.Reads as fill-reads
 use Rattle.replay.proofs.sum.of.Reads as of-reads

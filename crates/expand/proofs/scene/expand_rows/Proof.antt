@@ -4,7 +4,7 @@ use Rattle.expand.proofs.scene.expand_rows.Statement.{statement}
 use Rattle.expand.proofs.scene.expand_rows.Tie as tie
 use Rattle.expand.proofs.scene.expand_rows.Reads as reads
 use Rattle.expand.proofs.scene.expand_rows.Lts as lts
-use Rattle.luhetami.proofs.expand.Reads as expand-reads
+use Rattle.call.proofs.expand.Reads as expand-reads
 use mathlib.Core.Path.{ap}
 use Rattle.operation.specs.Operation.{After}
 
