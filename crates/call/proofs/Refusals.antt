@@ -7,15 +7,15 @@ use native.Mathlib.Omega.{arith}
 use lib.ListN.{length}
 use Rattle.ast.specs.Choice.{choose}
 use Rattle.sheet.specs.declared.row.Row.{Row}
-use Rattle.sheet.specs.declared.Checked.{Checked}
-use Rattle.sheet.specs.declared.Checked.the-variants.{Fits, Bad}
-use Rattle.sheet.specs.declared.grammar.Form.{Form}
-use Rattle.sheet.specs.declared.grammar.State.{State}
-use Rattle.sheet.specs.declared.grammar.Next.{Next}
-use Rattle.sheet.specs.declared.grammar.Next.the-variants as next
-use Rattle.sheet.specs.declared.grammar.Form.the-variants as form
+use Rattle.checker.specs.declared.Checked.{Checked}
+use Rattle.checker.specs.declared.Checked.the-variants.{Fits, Bad}
+use Rattle.checker.specs.declared.grammar.Form.{Form}
+use Rattle.checker.specs.declared.grammar.State.{State}
+use Rattle.checker.specs.declared.grammar.Next.{Next}
+use Rattle.checker.specs.declared.grammar.Next.the-variants as next
+use Rattle.checker.specs.declared.grammar.Form.the-variants as form
 use Rattle.sheet.specs.Rows.{rows}
-use Rattle.sheet.specs.Grammar.{hasEnded, fits, goOn, run, checked}
+use Rattle.checker.specs.Grammar.{hasEnded, fits, goOn, run, checked}
 use Rattle.sheet.proofs.RowLaws.{rows-length}
 use Rattle.expansion.specs.Expand.{Answer, expand}
 use Rattle.operation.specs.Operation.{Call, After, overCaps, tooShort, wrongLength, refuseIf, refuseBad, input, outcome, after, expandWords}

@@ -1,8 +1,8 @@
 // Expand whole (document 01): what is refused before the first step, the run, and the writing of what it gave.
 mod run;
 
-use sheet::Checked;
-use sheet::grammar::Form;
+use checker::Checked;
+use checker::grammar::Form;
 ghost use mathlib.Core.Path.{_≡_};
 ghost use Rattle.operation.specs.Operation.{wrongLength};
 ghost use Rattle.call.specs.Calls.{limitsOf, callOf, lacksRoom, Says, Demand1, Demand3};
@@ -108,10 +108,10 @@ pub fn expand<'a>(
     if wrong_length(library) {
         return refused(2, 0, 0);
     }
-    if let Checked::Bad(row) = sheet::check(root, Form::Root) {
+    if let Checked::Bad(row) = checker::check(root, Form::Root) {
         return refused(3, 0, row as u32);
     }
-    if let Checked::Bad(row) = sheet::check(library, Form::Library) {
+    if let Checked::Bad(row) = checker::check(library, Form::Library) {
         return refused(3, 1, row as u32);
     }
     run::run(

@@ -11,11 +11,11 @@ use Rattle.ast.specs.Lookups.{nodeAt}
 use Rattle.sheet.specs.declared.row.Row.{Row}
 use Rattle.sheet.specs.Rows.{rows, blank}
 use Rattle.sheet.specs.Parse.{originOf, nodeOf, documentOf, filesOf}
-use Rattle.lookup.specs.declared.walk.Found as walk
-use Rattle.lookup.specs.declared.walk.Found.the-variants as walked
+use Rattle.walks.specs.declared.walk.Found as walk
+use Rattle.walks.specs.declared.walk.Found.the-variants as walked
 use Rattle.lookup.specs.Lookup.{documentsOf, Located}
-use Rattle.lookup.specs.Walk.{rowsAt}
-use Rattle.lookup.proofs.WalkLaws.{front-drop}
+use Rattle.walks.specs.Walk.{rowsAt}
+use Rattle.walks.proofs.WalkLaws.{front-drop}
 use Rattle.picks.specs.Picks.{pickAt}
 use Rattle.source.specs.Directory.{numberOf, Slot}
 use Rattle.source.specs.declared.instance.Target.{Target}

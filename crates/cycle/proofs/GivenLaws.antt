@@ -13,10 +13,10 @@ use Rattle.ast.specs.Ast.{FieldValue, FieldBinding}
 use Rattle.sheet.specs.declared.row.Row.{Row}
 use Rattle.sheet.specs.Rows.{blank, front}
 use Rattle.sheet.specs.Parse.{valueOf, fieldOf, interfaceOf}
-use Rattle.lookup.specs.declared.walk.Found.{Found}
-use Rattle.lookup.specs.declared.walk.Found.the-variants.{At, Nothing}
-use Rattle.lookup.specs.Walk.{rowsAt}
-use Rattle.lookup.proofs.WalkLaws.{front-drop}
+use Rattle.walks.specs.declared.walk.Found.{Found}
+use Rattle.walks.specs.declared.walk.Found.the-variants.{At, Nothing}
+use Rattle.walks.specs.Walk.{rowsAt}
+use Rattle.walks.proofs.WalkLaws.{front-drop}
 use Rattle.source.specs.Directory.{numberOf, Slot}
 use Rattle.names.specs.Names.{LastField}
 use Rattle.expansion.specs.Input.{Input}

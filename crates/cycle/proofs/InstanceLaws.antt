@@ -13,11 +13,11 @@ use Rattle.ast.specs.Lookups.{protoAt}
 use Rattle.sheet.specs.declared.row.Row.{Row}
 use Rattle.sheet.specs.Rows.{blank, front, rest}
 use Rattle.sheet.specs.Parse.{optional, interfacesOf, statementsOf, nodeOf, protoOf}
-use Rattle.lookup.specs.declared.walk.Found.{Found}
-use Rattle.lookup.specs.declared.walk.Found.the-variants.{At, Nothing}
+use Rattle.walks.specs.declared.walk.Found.{Found}
+use Rattle.walks.specs.declared.walk.Found.the-variants.{At, Nothing}
 use Rattle.lookup.specs.Lookup.{documentsOf, Located}
-use Rattle.lookup.specs.Walk.{rowsAt}
-use Rattle.lookup.proofs.WalkLaws.{front-drop}
+use Rattle.walks.specs.Walk.{rowsAt}
+use Rattle.walks.proofs.WalkLaws.{front-drop}
 use Rattle.picks.specs.Picks.{Pick}
 use Rattle.source.specs.Directory.{numberOf, Slot}
 use Rattle.expansion.specs.Input.{Input, docs}

@@ -12,11 +12,10 @@ use Rattle.ast.specs.Choice.{choose}
 use Rattle.ast.specs.Ast.{FieldData, FieldValue, InterfaceDecl}
 use Rattle.sheet.specs.declared.row.Row.{Row}
 use Rattle.sheet.specs.declared.part.Part.the-variants.{Interfaces}
-use Rattle.sheet.specs.Rows.{rows, blank, front, rest}
-use Rattle.sheet.specs.Grammar.{none#}
+use Rattle.sheet.specs.Rows.{none#, rows, blank, front, rest}
 use Rattle.sheet.specs.Parse.{elements, optional, valueOf, interfaceOf, interfacesOf, nodeOf}
-use Rattle.lookup.specs.Walk.{Stands}
-use Rattle.lookup.proofs.WalkLaws.{front-drop}
+use Rattle.walks.specs.Walk.{Stands}
+use Rattle.walks.proofs.WalkLaws.{front-drop}
 use Rattle.expansion.specs.Input.{Input}
 use Rattle.expansion.specs.State.{State, Result, refusal, ok, Comp, bindR, _>>=_, _>>_, ret, mapM}
 use Rattle.expansion.specs.Charges.{charge, paid}

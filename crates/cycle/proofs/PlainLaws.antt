@@ -10,8 +10,8 @@ use Rattle.ast.specs.Ast.{NodeOrigin, BodyElement, FieldValue, FieldBinding, Fi
 use Rattle.sheet.specs.declared.row.Row.{Row}
 use Rattle.sheet.specs.Rows.{blank, front}
 use Rattle.sheet.specs.Parse.{originOf, nodeOf}
-use Rattle.lookup.specs.Walk.{Bare}
-use Rattle.lookup.proofs.WalkLaws.{front-drop}
+use Rattle.walks.specs.Walk.{Bare}
+use Rattle.walks.proofs.WalkLaws.{front-drop}
 use Rattle.expansion.specs.Input.{Input}
 use Rattle.expansion.specs.State.{State, Result, refusal, ok, Comp, bindR, _>>=_, _>>_, ret, mapM, withNodes}
 use Rattle.expansion.specs.Charges.{charge, chargeEach, paid}

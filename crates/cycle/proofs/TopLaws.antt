@@ -11,8 +11,8 @@ use Rattle.sheet.specs.declared.row.Row.{Row}
 use Rattle.sheet.specs.declared.part.Part.the-variants.{Statements, Tops}
 use Rattle.sheet.specs.Rows.{rows, blank, front, rest}
 use Rattle.sheet.specs.Parse.{elements, routeOf, statementOf, statementsOf, afterTop, documentOf}
-use Rattle.lookup.specs.Walk.{Stands}
-use Rattle.lookup.proofs.WalkLaws.{front-drop, rest-drop}
+use Rattle.walks.specs.Walk.{Stands}
+use Rattle.walks.proofs.WalkLaws.{front-drop, rest-drop}
 use Rattle.source.specs.Directory.{numberOf}
 use Rattle.expansion.specs.Input.{Input}
 use Rattle.expansion.specs.Scopes.{Scope}

@@ -13,8 +13,8 @@ use Rattle.sheet.specs.declared.row.Row.{Row}
 use Rattle.sheet.specs.declared.part.Part.the-variants.{Ids}
 use Rattle.sheet.specs.Rows.{rows, blank, front, rest}
 use Rattle.sheet.specs.Parse.{elements, idsOf, valueOf}
-use Rattle.lookup.specs.Walk.{Stands}
-use Rattle.lookup.proofs.WalkLaws.{front-drop}
+use Rattle.walks.specs.Walk.{Stands}
+use Rattle.walks.proofs.WalkLaws.{front-drop}
 use Rattle.expansion.specs.Input.{Input}
 use Rattle.expansion.specs.State.{State, Result, refusal, ok, Comp, bindR, _>>=_, _>>_, ret, mapM}
 use Rattle.expansion.specs.Charges.{charge, paid}

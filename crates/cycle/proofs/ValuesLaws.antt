@@ -11,8 +11,8 @@ use Rattle.sheet.specs.declared.row.Row.{Row}
 use Rattle.sheet.specs.declared.part.Part.the-variants.{Interfaces}
 use Rattle.sheet.specs.Rows.{rest}
 use Rattle.sheet.specs.Parse.{elements, interfaceOf, interfacesOf}
-use Rattle.lookup.specs.Walk.{Stands}
-use Rattle.lookup.proofs.WalkLaws.{rest-drop, each-at}
+use Rattle.walks.specs.Walk.{Stands}
+use Rattle.walks.proofs.WalkLaws.{rest-drop, each-at}
 use Rattle.picks.specs.Picks.{Pick}
 use Rattle.expansion.specs.Input.{Input, lastField}
 use Rattle.expansion.specs.Scopes.{Scope}

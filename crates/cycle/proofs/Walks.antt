@@ -12,8 +12,8 @@ use Rattle.sheet.specs.declared.part.Part.{Part}
 use Rattle.sheet.specs.Rows.{rows, rest}
 use Rattle.sheet.specs.Parse.{elements}
 use Rattle.sheet.proofs.RowLaws.{rows-length}
-use Rattle.lookup.specs.Walk.{Stands}
-use Rattle.lookup.proofs.WalkLaws.{rest-drop, each-at, each-none}
+use Rattle.walks.specs.Walk.{Stands}
+use Rattle.walks.proofs.WalkLaws.{rest-drop, each-at, each-none}
 use Rattle.source.specs.Directory.{numberOf}
 use Rattle.expansion.specs.Input.{Input}
 use Rattle.expansion.specs.State.{State, Comp, bindR, _>>=_, ret, mapM, foldM}

@@ -5,7 +5,8 @@ use mathlib.Core.Option.{Option, none, some}
 use Prim.Native.Nat.{ℕ, _+_}
 use Rattle.ast.specs.Ast.{NodeOrigin, BodyElement, FieldData, FieldValue, FieldBinding, Field, InterfaceDecl, Route, Statement, Node, ProtoDecl, ExternProtoDecl, Url, Document}
 use Rattle.ast.specs.Lookups.{nodeAt, protoAt, externProtoAt}
-use Rattle.picks.specs.Picks.{firstFile, topProtos, firstNamed, pickIn, pickUrl, member, remember, pickUrls, picksFrom, picks}
+use Rattle.file.specs.PickIn.{topProtos, firstNamed, pickIn}
+use Rattle.picks.specs.Picks.{firstFile, pickUrl, member, remember, pickUrls, picksFrom, picks}
 use Rattle.expansion.specs.Input.{Limits, Input, pickOf, protoOf, lastField}
 use Rattle.expansion.specs.Scopes.{Scope, isBody}
 use Rattle.expansion.specs.State.{bindR, mapM, foldM, lookup}

@@ -4,7 +4,8 @@ use mathlib.Core.List.{List, [], _∷_}
 use Prim.Native.Nat.{ℕ}
 use lib.ListN.{replicate}
 use Rattle.sheet.specs.Rows.{rows, words}
-use Rattle.sheet.specs.Grammar.{run, fits, shapeFits, roleOf, moves}
+use Rattle.shape.specs.Shape.{shapeFits}
+use Rattle.checker.specs.Grammar.{run, fits, roleOf, moves}
 use Rattle.sheet.specs.Parse.{elements, idsOf, fieldOf, interfaceOf, routeOf, statementOf, bodyElementOf, originOf, associationOf, instanceOf, fieldsOf, interfacesOf, statementsOf, nodeOf, protoOf, urlOf, externProtoOf, documentOf, filesOf}
 use Rattle.sheet.specs.Print.{documentRows}
 use Rattle.expansion.specs.Scenes.{computed}

@@ -9,14 +9,15 @@ use borrow.Author.Tests.{ne-eqb}
 use Rattle.ast.specs.Ast.{Document}
 use Rattle.ast.specs.Choice.{andThen, mapO}
 use Rattle.sheet.specs.declared.row.Row.{Row}
+use Rattle.sheet.specs.declared.part.Part.{Part}
 use Rattle.sheet.specs.declared.part.Part.the-variants.{Files}
 use Rattle.sheet.specs.Rows.{rows, rest}
 use Rattle.sheet.specs.Parse.{elements, documentOf, fileOf, filesOf}
-use Rattle.lookup.specs.declared.walk.Found.{Found}
-use Rattle.lookup.specs.declared.walk.Found.the-variants.{At, Nothing}
-use Rattle.lookup.specs.Walk.{Nth, rowsAt}
+use Rattle.walks.specs.declared.walk.Found.{Found}
+use Rattle.walks.specs.declared.walk.Found.the-variants.{At, Nothing}
+use Rattle.walks.specs.Walk.{Nth, Child, rowsAt}
 use Rattle.lookup.specs.Lookup.{sheetOf, documentsOf, documentAt, Begins, Looked, Located}
-use Rattle.lookup.proofs.WalkLaws.{at-map, rest-drop}
+use Rattle.walks.proofs.WalkLaws.{at-map, rest-drop}
 
 -- document 0 is the root's
 pub begins-root : (library : List ℕ) → Begins library 0 (At 0)
@@ -69,3 +70,7 @@ module _ {A : Type 0} (f : List Row → A) (g : Document → List A) (root libra
   unlocated b e =
       let z : getElem? (documentsOf root library) doc ≡ none = b root ∙ ap (λ (y : Found). mapO documentOf (rowsAt R y)) e in
       record { is = rw z; below = tt }
+
+-- a lookup among what is read at the elements of a part
+pub looked : {A : Type 0} (f : List Row → A) (t : Part) (R : List Row) (p n : ℕ) (x : Found) → Child t R p n x → Looked f (map f (elements t (rest (drop p R)))) R n x
+looked f t R p n x s = record { is = at-map f (elements t (rest (drop p R))) n ∙ ap (mapO f) (s .is); below = s .below }

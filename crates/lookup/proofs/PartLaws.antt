@@ -17,12 +17,12 @@ use Rattle.sheet.specs.declared.part.Part.the-variants.{Interfaces, Statements,
 use Rattle.sheet.specs.Rows.{rows, blank, front, rest}
 use Rattle.sheet.specs.Parse.{elements, kindOf, passes, idsOf, interfaceOf, statementOf, routeOf, interfacesOf, statementsOf, protoOf}
 use Rattle.sheet.proofs.RowLaws.{rows-length, rows-count, skip0}
-use Rattle.lookup.specs.declared.walk.Found.{Found}
-use Rattle.lookup.specs.declared.walk.Found.the-variants.{At, Nothing}
-use Rattle.lookup.specs.Walk.{rowsAt, Below}
+use Rattle.walks.specs.declared.walk.Found.{Found}
+use Rattle.walks.specs.declared.walk.Found.the-variants.{At, Nothing}
+use Rattle.walks.specs.Walk.{rowsAt, Below}
 use Rattle.lookup.specs.Lookup.{sheetOf, Located}
 use Rattle.lookup.specs.Part.{partOf, Says, HandedBack, Ends, Cut, ProtoEnd}
-use Rattle.lookup.proofs.WalkLaws.{elements-stop, elements-end}
+use Rattle.walks.proofs.WalkLaws.{elements-stop, elements-end}
 
 -- ---- rows of a part of the words
 

@@ -1,4 +1,2 @@
-pub mod Walk
-pub mod Index
 pub mod Lookup
 pub mod Part

@@ -11,8 +11,8 @@ use Rattle.ast.specs.Lookups.{documents}
 use Rattle.sheet.specs.declared.row.Row.{Row}
 use Rattle.sheet.specs.Rows.{rows}
 use Rattle.sheet.specs.Parse.{documentOf, filesOf}
-use Rattle.lookup.specs.declared.walk.Found.{Found}
-use Rattle.lookup.specs.Walk.{rowsAt, Below}
+use Rattle.walks.specs.declared.walk.Found.{Found}
+use Rattle.walks.specs.Walk.{rowsAt, Below}
 
 -- the sheet that a document number selects: 0 the root, any other the library
 abbrev pub sheetOf : List ℕ → List ℕ → ℕ → List ℕ

@@ -1,11 +1,11 @@
 // Lookups by id in document 0 or in the n-th file. Node, prototype and extern ids are three numberings kept apart.
 use super::rows;
-use super::walk;
-use super::walk::Found;
 use ast::ExternProtoId;
 use ast::NodeId;
 use ast::ProtoId;
 use sheet::part::Part;
+use walks::walk;
+use walks::walk::Found;
 ghost use Rattle.sheet.specs.Rows.{rows};
 ghost use Rattle.sheet.specs.Parse.{nodeOf, protoOf, externProtoOf};
 ghost use Rattle.lookup.specs.Lookup.{Begins, documentAt, documentsOf, sheetOf, Looked, Located};

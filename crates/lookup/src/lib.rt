@@ -1,5 +1,3 @@
 // Lookups (document 01, Modules: Lookups): a node, prototype or extern by id answers its row or nothing.
 pub mod document;
-pub mod index;
 pub mod rows;
-pub mod walk;

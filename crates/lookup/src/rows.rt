@@ -1,10 +1,10 @@
 // A part of one of two sheets, and the rows of a prototype as such a part.
 use super::document;
-use super::walk::Found;
 use ast::ProtoId;
 use sheet::part;
 use sheet::part::Part;
 use sheet::row;
+use walks::walk::Found;
 ghost use mathlib.Core.Path.{_≡_};
 ghost use Rattle.ast.specs.Lookups.{protoAt};
 ghost use Rattle.sheet.specs.Rows.{rows};

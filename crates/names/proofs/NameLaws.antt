@@ -16,14 +16,14 @@ use Rattle.sheet.specs.declared.row.Row.{Row}
 use Rattle.sheet.specs.declared.part.Part.the-variants.{Fields}
 use Rattle.sheet.specs.Rows.{blank}
 use Rattle.sheet.specs.Parse.{elements, fieldOf, fieldsOf, nodeOf}
-use Rattle.lookup.specs.declared.walk.Found.{Found}
-use Rattle.lookup.specs.declared.walk.Found.the-variants.{At, Nothing}
-use Rattle.lookup.specs.Walk.{Stands, rowsAt, Below}
-use Rattle.lookup.proofs.WalkLaws.{each-at, each-none, front-drop, rest-drop}
+use Rattle.walks.specs.declared.walk.Found.{Found}
+use Rattle.walks.specs.declared.walk.Found.the-variants.{At, Nothing}
+use Rattle.walks.specs.Walk.{Stands, rowsAt, Below}
+use Rattle.walks.proofs.WalkLaws.{each-at, each-none, front-drop, rest-drop}
 use Rattle.expansion.specs.Input.{lastField}
-use Rattle.picks.specs.Words.{Outside, Cleared}
+use Rattle.words.specs.Words.{Outside, Cleared}
 use Rattle.names.specs.Names.{LastField, Tells, NameTable, Tabled, Listed, Told, Grown}
-use Rattle.picks.proofs.WordLaws.{stays, stays-set, stays-on, stays-wide}
+use Rattle.words.proofs.WordLaws.{stays, stays-set, stays-on, stays-wide}
 
 -- ---- the fields of a node
 pub fields-at : {R : List Row} {p q : ℕ} → Stands Fields R p q → fieldsOf (drop p R) ≡ fieldOf (drop q R) ∷ fieldsOf (drop (q + 1) R)

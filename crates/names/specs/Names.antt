@@ -8,11 +8,11 @@ use Rattle.ast.specs.Choice.{mapO}
 use Rattle.sheet.specs.declared.row.Row.{Row}
 use Rattle.sheet.specs.Rows.{blank}
 use Rattle.sheet.specs.Parse.{fieldOf, nodeOf}
-use Rattle.lookup.specs.declared.walk.Found.{Found}
-use Rattle.lookup.specs.declared.walk.Found.the-variants.{At, Nothing}
-use Rattle.lookup.specs.Walk.{rowsAt, Below}
+use Rattle.walks.specs.declared.walk.Found.{Found}
+use Rattle.walks.specs.declared.walk.Found.the-variants.{At, Nothing}
+use Rattle.walks.specs.Walk.{rowsAt, Below}
 use Rattle.expansion.specs.Input.{lastField}
-use Rattle.picks.specs.Words.{Outside}
+use Rattle.words.specs.Words.{Outside}
 
 -- the last field of a name, of the node that stands at a row
 pub record LastField (name : ℕ) (R : List Row) (node : ℕ) (x : Found) : Type 0 where

@@ -1,11 +1,10 @@
 // The last field of a name, of a node: by a walk over its fields, or by a table where it is an instance of the root with
 // many fields. The list of the tables has a place for 16 rows, fewer than such a node has.
-use lookup::walk;
-use lookup::walk::Found;
-use picks::words;
-use picks::words::wide;
 use sheet::part::Part;
 use sheet::row;
+use walks::walk;
+use walks::walk::Found;
+use words::wide;
 ghost use Prim.Native.Nat.{_+_, _*_, _≤_, _<_};
 ghost use lib.ListN.{length};
 ghost use Rattle.sheet.specs.Rows.{rows};

@@ -3,8 +3,8 @@ use mathlib.Core.Path.{_≡_, ap}
 use mathlib.Core.Logic.{_↔_}
 use Prim.Native.Nat.{ℕ, _≤_}
 use native.Mathlib.Omega.{arith}
-use Rattle.sheet.specs.declared.Checked.{Checked}
-use Rattle.sheet.specs.declared.Checked.the-variants.{Fits, Bad}
+use Rattle.checker.specs.declared.Checked.{Checked}
+use Rattle.checker.specs.declared.Checked.the-variants.{Fits, Bad}
 use Rattle.expansion.specs.Expand.{Expansion, Answer, expand}
 use Rattle.expansion.specs.Expanded.{Refusal, four, five, six, seven, eight, nine, ten}
 use Rattle.operation.specs.Operation.{Call, After, Numbers, input}

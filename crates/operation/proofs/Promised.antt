@@ -7,11 +7,11 @@ use native.Mathlib.Omega.{arith}
 use lib.ListN.{length, take, drop, length-append, length-drop}
 use lib.Seq.{take-at, drop-at}
 use Rattle.sheet.specs.declared.row.Row.{Row}
-use Rattle.sheet.specs.declared.Checked.{Checked}
-use Rattle.sheet.specs.declared.Checked.the-variants.{Fits, Bad}
-use Rattle.sheet.specs.declared.grammar.Form.the-variants as form
+use Rattle.checker.specs.declared.Checked.{Checked}
+use Rattle.checker.specs.declared.Checked.the-variants.{Fits, Bad}
+use Rattle.checker.specs.declared.grammar.Form.the-variants as form
 use Rattle.sheet.specs.Rows.{rows, words}
-use Rattle.sheet.specs.Grammar.{checked}
+use Rattle.checker.specs.Grammar.{checked}
 use Rattle.sheet.specs.Parse.{documentOf}
 use Rattle.sheet.specs.Print.{documentRows}
 use Rattle.roundtrip.proofs.RoundTrip.{root-in-range, library-in-range}

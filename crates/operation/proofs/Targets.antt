@@ -11,8 +11,7 @@ use Rattle.ast.specs.Choice.{choose}
 use Rattle.sheet.specs.declared.row.Row.{Row}
 use Rattle.sheet.specs.declared.part.Part.{Part}
 use Rattle.sheet.specs.declared.part.Part.the-variants.{Files, Nodes, Interfaces}
-use Rattle.sheet.specs.Rows.{rows, front, rest}
-use Rattle.sheet.specs.Grammar.{none#}
+use Rattle.sheet.specs.Rows.{none#, rows, front, rest}
 use Rattle.sheet.specs.Parse.{kindOf, passes, elements, optional, interfaceOf, interfacesOf, nodeOf, documentOf, fileOf, filesOf}
 use Rattle.roundtrip.specs.Each.{Each}
 use Rattle.output.specs.Input.{IsTarget, NodeTargets, Targets}

@@ -4,11 +4,11 @@ use mathlib.Core.List.{List, [], _∷_, _++_}
 use Prim.Native.Nat.{ℕ, _+_, _*_, _/_, _%_}
 use lib.ListN.{length, drop}
 use lib.Dec.{ltb, eqb}
-use Rattle.sheet.specs.declared.Checked.{Checked}
-use Rattle.sheet.specs.declared.Checked.the-variants.{Fits, Bad}
-use Rattle.sheet.specs.declared.grammar.Form.the-variants as form
+use Rattle.checker.specs.declared.Checked.{Checked}
+use Rattle.checker.specs.declared.Checked.the-variants.{Fits, Bad}
+use Rattle.checker.specs.declared.grammar.Form.the-variants as form
 use Rattle.sheet.specs.Rows.{rows, words}
-use Rattle.sheet.specs.Grammar.{checked}
+use Rattle.checker.specs.Grammar.{checked}
 use Rattle.sheet.specs.Parse.{documentOf, filesOf}
 use Rattle.sheet.specs.Print.{documentRows}
 use Rattle.expansion.specs.Input.{Limits, Input}

@@ -4,10 +4,10 @@ use mathlib.Core.List.{List, [], _∷_}
 use Prim.Native.Nat.{ℕ, zero, suc, _+_, _*_, _/_, _%_, _≤_, _<_}
 use lib.ListN.{length, getD, take, drop}
 use Rattle.sheet.specs.declared.row.Row.{Row}
-use Rattle.sheet.specs.declared.Checked.the-variants.{Fits, Bad}
-use Rattle.sheet.specs.declared.grammar.Form.the-variants as form
+use Rattle.checker.specs.declared.Checked.the-variants.{Fits, Bad}
+use Rattle.checker.specs.declared.grammar.Form.the-variants as form
 use Rattle.sheet.specs.Rows.{rows}
-use Rattle.sheet.specs.Grammar.{checked}
+use Rattle.checker.specs.Grammar.{checked}
 use Rattle.sheet.specs.Parse.{documentOf}
 use Rattle.picks.specs.Picks.{Pick}
 use Rattle.expansion.specs.Scopes.{Scope, scopeEntry}

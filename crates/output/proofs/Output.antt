@@ -5,9 +5,9 @@ use Prim.Native.Nat.{ℕ}
 use native.Mathlib.Omega.{arith}
 use lib.ListN.{length}
 use Rattle.ast.specs.Ast.{Statement, NodeOrigin, Node}
-use Rattle.sheet.specs.declared.grammar.Form.the-variants.{Expanded as Form·Expanded}
-use Rattle.sheet.specs.declared.Checked.the-variants.{Fits}
-use Rattle.sheet.specs.Grammar.{checked}
+use Rattle.checker.specs.declared.grammar.Form.the-variants.{Expanded as Form·Expanded}
+use Rattle.checker.specs.declared.Checked.the-variants.{Fits}
+use Rattle.checker.specs.Grammar.{checked}
 use Rattle.sheet.specs.Parse.{documentOf}
 use Rattle.sheet.specs.Print.{documentRows}
 use Rattle.roundtrip.specs.Each.{Each}

@@ -7,7 +7,7 @@ use lib.ListN.{length, drop}
 use Rattle.sheet.specs.declared.row.Row.{Row}
 use Rattle.sheet.specs.declared.part.Part.{Part}
 use Rattle.sheet.specs.Parse.{elements}
-use Rattle.lookup.specs.Walk.{Stands}
+use Rattle.walks.specs.Walk.{Stands}
 use Rattle.parts.specs.Contract.{Counted}
 
 -- n so far, and those from a row on

@@ -17,10 +17,10 @@ use Rattle.sheet.specs.declared.part.Part.the-variants.{Interfaces, Urls}
 use Rattle.sheet.specs.Rows.{rows, rest}
 use Rattle.sheet.proofs.RowLaws.{rows-length}
 use Rattle.sheet.specs.Parse.{elements, externProtoOf, interfaceOf, interfacesOf, urlOf}
-use Rattle.lookup.specs.declared.walk.Found as walk
-use Rattle.lookup.specs.declared.walk.Found.the-variants as walked
+use Rattle.walks.specs.declared.walk.Found as walk
+use Rattle.walks.specs.declared.walk.Found.the-variants as walked
 use Rattle.lookup.specs.Lookup.{sheetOf, documentsOf, Located}
-use Rattle.lookup.proofs.WalkLaws.{rest-drop}
+use Rattle.walks.proofs.WalkLaws.{rest-drop}
 use Rattle.expansion.specs.Input.{Input, docs}
 use Rattle.expansion.specs.State.{State, Result, refusal, ok, Comp, bindR, _>>=_, _>>_, ret, fail}
 use Rattle.expansion.specs.Charges.{oneMore, charge, chargeEach}

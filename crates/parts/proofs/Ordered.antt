@@ -15,8 +15,8 @@ use Rattle.sheet.specs.declared.part.Part.the-variants.{Fields, Statements, Bod
 use Rattle.sheet.specs.Rows.{blank, front}
 use Rattle.sheet.specs.Parse.{elements, fieldOf, fieldsOf, routeOf, statementOf, statementsOf, bodyElementOf, nodeOf, valueOf as rowValue}
 use Rattle.sheet.specs.Print.{row}
-use Rattle.lookup.specs.Walk.{Stands}
-use Rattle.lookup.proofs.WalkLaws.{each-at, each-none, front-drop, rest-drop}
+use Rattle.walks.specs.Walk.{Stands}
+use Rattle.walks.proofs.WalkLaws.{each-at, each-none, front-drop, rest-drop}
 use Rattle.expansion.specs.State.{Result, refusal, ok, Comp, bindR, _>>=_, _>>_, ret}
 use Rattle.expansion.specs.Charges.{charge, chargeEach}
 use Rattle.expansion.specs.Values.{Env, Values, valueOf}

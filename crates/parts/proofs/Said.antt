@@ -12,8 +12,8 @@ use Rattle.sheet.specs.declared.part.Part.the-variants.{Statements}
 use Rattle.sheet.specs.Rows.{blank, front}
 use Rattle.sheet.specs.Parse.{elements, routeOf, statementOf, statementsOf, nodeOf}
 use Rattle.sheet.specs.Print.{row}
-use Rattle.lookup.specs.Walk.{Stands}
-use Rattle.lookup.proofs.WalkLaws.{each-at, each-none, front-drop, rest-drop}
+use Rattle.walks.specs.Walk.{Stands}
+use Rattle.walks.proofs.WalkLaws.{each-at, each-none, front-drop, rest-drop}
 use Rattle.expansion.specs.State.{State, Result, refusal, ok, Comp, bindR, _>>=_, _>>_, ret, mapM}
 use Rattle.expansion.specs.Charges.{charge, paid}
 use Rattle.picks.specs.Picks.{Pick}

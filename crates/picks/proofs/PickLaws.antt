@@ -12,23 +12,24 @@ use Rattle.sheet.specs.declared.row.Row.{Row}
 use Rattle.sheet.specs.declared.part.Part.the-variants.{Externs, Urls}
 use Rattle.sheet.specs.Rows.{blank}
 use Rattle.sheet.specs.Parse.{elements, optional, urlOf, externProtoOf, documentOf, filesOf}
-use Rattle.lookup.specs.declared.walk.Found.{Found}
-use Rattle.lookup.specs.declared.walk.Found.the-variants as found
-use Rattle.lookup.specs.Walk.{Stands, rowsAt}
+use Rattle.walks.specs.declared.walk.Found.{Found}
+use Rattle.walks.specs.declared.walk.Found.the-variants as found
+use Rattle.walks.specs.Walk.{Stands, rowsAt}
 use Rattle.lookup.specs.Lookup.{documentAt, Looked}
-use Rattle.lookup.proofs.WalkLaws.{each-at, each-none, front-drop, rest-drop}
-use Rattle.picks.specs.declared.file.TopProto.{TopProto}
-use Rattle.picks.specs.declared.file.TopProto.the-variants as top
-use Rattle.picks.specs.declared.memo.Memo.{Memo}
+use Rattle.walks.proofs.WalkLaws.{each-at, each-none, front-drop, rest-drop}
+use Rattle.file.specs.declared.TopProto.{TopProto}
+use Rattle.file.specs.declared.TopProto.the-variants as top
+use Rattle.memo.specs.declared.Memo.{Memo}
 use Rattle.picks.specs.declared.table.Source.{Source}
 use Rattle.picks.specs.declared.table.Table.{Table}
 use Rattle.picks.specs.declared.table.Looked as looked
 use Rattle.picks.specs.declared.Chosen.{Chosen}
 use Rattle.picks.specs.declared.Chosen.the-variants.{Proto, Nothing}
 use Rattle.picks.specs.declared.Choice.{Choice}
-use Rattle.picks.specs.Picks.{Bases, Picked, firstFile, pickIn, pickFrom, pickUrl, remember, orNext, pickUrls, pickAt, basesFrom, finalBases}
+use Rattle.file.specs.PickIn.{pickIn}
+use Rattle.picks.specs.Picks.{Bases, Picked, firstFile, pickFrom, pickUrl, remember, orNext, pickUrls, pickAt, basesFrom, finalBases}
 use Rattle.picks.specs.Table.{basesOf, Empty, Sound, Remembered}
-use Rattle.picks.specs.File.{idOf}
+use Rattle.file.specs.File.{idOf}
 use Rattle.picks.specs.Chosen.{pickOf, Leads, Tried, Final}
 use Rattle.picks.proofs.GrowLaws.{try-kept, pick-final}
 

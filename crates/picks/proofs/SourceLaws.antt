@@ -11,8 +11,8 @@ use Rattle.sheet.specs.declared.row.Row.{Row}
 use Rattle.sheet.specs.declared.part.Part.the-variants.{Files}
 use Rattle.sheet.specs.Rows.{blank, front}
 use Rattle.sheet.specs.Parse.{elements, fileOf, filesOf}
-use Rattle.lookup.specs.Walk.{Stands}
-use Rattle.lookup.proofs.WalkLaws.{each-at, each-none, front-drop, rest-drop}
+use Rattle.walks.specs.Walk.{Stands}
+use Rattle.walks.proofs.WalkLaws.{each-at, each-none, front-drop, rest-drop}
 use Rattle.picks.specs.Picks.{firstFile}
 use Rattle.picks.specs.Table.{Sourced}
 

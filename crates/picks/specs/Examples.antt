@@ -4,7 +4,8 @@ use mathlib.Core.List.{List, [], _∷_, map}
 use mathlib.Core.Option.{Option, none, some}
 use Prim.Native.Nat.{ℕ, zero, suc}
 use Rattle.ast.specs.Ast.{Statement, Url, Document, File}
-use Rattle.picks.specs.Picks.{Pick, firstFile, topProtos, firstNamed, pickIn, pickUrl, member, remember, pickUrls, picksFrom, picks}
+use Rattle.file.specs.PickIn.{topProtos, firstNamed, pickIn}
+use Rattle.picks.specs.Picks.{Pick, firstFile, pickUrl, member, remember, pickUrls, picksFrom, picks}
 
 -- a root with an extern for each list of urls
 abbrev root : List (List Url) → Document

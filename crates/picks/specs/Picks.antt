@@ -5,8 +5,9 @@ use mathlib.Core.Option.{Option, none, some}
 use Prim.Native.Nat.{ℕ, suc}
 use lib.ListN.{length, getElem?}
 use lib.Dec.{ltb, eqb}
-use Rattle.ast.specs.Ast.{Statement, ProtoDecl, Url, ExternProtoDecl, Document, File}
-use Rattle.ast.specs.Choice.{choose, andThen, first}
+use Rattle.ast.specs.Ast.{Url, ExternProtoDecl, Document, File}
+use Rattle.ast.specs.Choice.{choose, andThen}
+use Rattle.file.specs.PickIn.{pickIn}
 
 -- the picked document's number and the PROTO's id in it
 pub record Pick : Type 0 where
@@ -17,29 +18,6 @@ pub record Pick : Type 0 where
 unfoldable pub firstFile : ℕ → ℕ → List File → Option (ℕ × File)
 firstFile base n [] = none
 firstFile base n (f ∷ l) = choose (eqb (f .base) base) (some (n, f)) (firstFile base (suc n) l)
-
--- the ids of the top-level Proto statements, in order
-unfoldable pub topProtos : List Statement → List ℕ
-topProtos [] = []
-topProtos (Statement.Node i ∷ l) = topProtos l
-topProtos (Statement.Proto p ∷ l) = p ∷ topProtos l
-topProtos (Statement.ExternProto x ∷ l) = topProtos l
-topProtos (Statement.Route r ∷ l) = topProtos l
-topProtos (Statement.Other p ∷ l) = topProtos l
-
--- a dangling id has no name
-abbrev pub isNamed : ℕ → Option ProtoDecl → Bool
-isNamed name none = false
-isNamed name (some d) = eqb (d .name) name
-
-unfoldable pub firstNamed : Document → ℕ → List ℕ → Option ℕ
-firstNamed file name [] = none
-firstNamed file name (p ∷ l) = choose (isNamed name (getElem? (file .protos) p)) (some p) (firstNamed file name l)
-
--- "With a fragment, the first top-level Proto of that name; without, the first top-level Proto, dangling or not."
-unfoldable pub pickIn : Document → Option ℕ → Option ℕ
-pickIn file none = first (topProtos (file .statements))
-pickIn file (some name) = firstNamed file name (topProtos (file .statements))
 
 abbrev pub pickFrom : Url → ℕ × File → Option Pick
 pickFrom url f = andThen (pickIn (f .1 .document) (url .fragment)) (λ p. some (record { document = f .0; proto = p }))

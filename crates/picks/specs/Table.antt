@@ -2,7 +2,7 @@
 use mathlib.Core.Path.{_≡_}
 use mathlib.Core.List.{List, []}
 use mathlib.Core.Option.{Option, none, some}
-use Prim.Native.Nat.{ℕ, _+_, _*_, _≤_, _<_}
+use Prim.Native.Nat.{ℕ, _+_, _≤_, _<_}
 use lib.ListN.{length, getD, take, set}
 use lib.Dec.{eqb}
 use Rattle.ast.specs.Ast.{File}
@@ -14,10 +14,6 @@ use Rattle.picks.specs.declared.table.Source.{Source}
 use Rattle.picks.specs.declared.table.Table.{Table}
 use Rattle.picks.specs.declared.table.Looked.{Looked}
 use Rattle.picks.specs.Picks.{Bases, firstFile, remember}
-
--- a sheet of at most 1,048,576 rows, as refusal 2 has it
-abbrev pub Capped : List ℕ → Type 0
-Capped sheet = length sheet ≤ 8 * 1048576
 
 -- the bases that a table holds, in order
 abbrev pub basesOf : Table → Bases

@@ -1,28 +1,26 @@
 // Picks (document 01, Modules: Picks): for each extern of the root, the document and the PROTO that its urls lead to.
-mod file;
-pub mod memo;
 pub mod table;
-pub mod words;
 
 use ast::ExternProtoId;
 use ast::ProtoId;
 use file::TopProto;
 use lookup::document;
-use lookup::walk;
-use lookup::walk::Found;
 use memo::Memo;
 use sheet::part::Part;
 use sheet::row;
 use table::Source;
 use table::Table;
+use walks::walk;
+use walks::walk::Found;
 ghost use mathlib.Core.Path.{_≡_};
 ghost use Prim.Native.Nat.{_<_};
 ghost use lib.ListN.{length};
 ghost use Rattle.sheet.specs.Rows.{rows};
 ghost use Rattle.sheet.specs.Parse.{documentOf, filesOf};
 ghost use Rattle.picks.specs.Picks.{pickAt};
-ghost use Rattle.picks.specs.Table.{Capped, Sound};
-ghost use Rattle.picks.specs.Memo.{Kept};
+ghost use Rattle.file.specs.File.{Capped};
+ghost use Rattle.picks.specs.Table.{Sound};
+ghost use Rattle.memo.specs.Memo.{Kept};
 ghost use Rattle.picks.specs.Chosen.{pickOf, Leads, Tried, Final};
 
 // The picked document's number and the PROTO's id in it.

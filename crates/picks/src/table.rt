@@ -1,11 +1,12 @@
 // The table of the bases that were looked for, each with the library's first file of that base.
-use lookup::walk;
-use lookup::walk::Found;
 use sheet::part::Part;
 use sheet::row;
+use walks::walk;
+use walks::walk::Found;
 ghost use Prim.Native.Nat.{_≤_, _<_};
 ghost use Rattle.sheet.specs.Rows.{rows};
-ghost use Rattle.picks.specs.Table.{Capped, Empty, Position, Sourced, Sound, Added, Remembered};
+ghost use Rattle.file.specs.File.{Capped};
+ghost use Rattle.picks.specs.Table.{Empty, Position, Sourced, Sound, Added, Remembered};
 
 // A file of the library: its number, from 1, and the row where its document begins. Number 0 stands for no file.
 pub struct Source {

@@ -5,13 +5,13 @@ use mathlib.Core.Bool.{Bool, true, false}
 use Prim.Native.Nat.{ℕ, suc}
 use native.Mathlib.Omega.{arith}
 use Rattle.sheet.specs.declared.row.Row.{Row}
-use Rattle.sheet.specs.declared.grammar.Form.{Form}
-use Rattle.sheet.specs.declared.grammar.State.{State}
-use Rattle.sheet.specs.declared.grammar.Next.{Next}
-use Rattle.sheet.specs.declared.grammar.Next.the-variants.{Go, No}
-use Rattle.sheet.specs.declared.Checked.the-variants.{Fits, Bad}
+use Rattle.checker.specs.declared.grammar.Form.{Form}
+use Rattle.checker.specs.declared.grammar.State.{State}
+use Rattle.checker.specs.declared.grammar.Next.{Next}
+use Rattle.checker.specs.declared.grammar.Next.the-variants.{Go, No}
+use Rattle.checker.specs.declared.Checked.the-variants.{Fits, Bad}
 use Rattle.ast.specs.Choice.{choose}
-use Rattle.sheet.specs.Grammar.{fits, run, goOn, hasEnded}
+use Rattle.checker.specs.Grammar.{fits, run, goOn, hasEnded}
 
 -- a state by its columns
 abbrev pub at : ℕ → ℕ → ℕ → ℕ → ℕ → State

@@ -11,9 +11,10 @@ use lib.Dec.{leb, eqb}
 use borrow.Author.Tests.{eq-eqb, ne-eqb, leb-true}
 use Rattle.sheet.specs.declared.row.Row.{Row}
 use Rattle.ast.specs.Ast.{FieldData}
-use Rattle.sheet.proofs.Numbers.{between}
+use Rattle.shape.proofs.Numbers.{between}
 use Rattle.ast.specs.Choice.{choose}
-use Rattle.sheet.specs.Grammar.{none#, isName, hasValue, zeroFromC, zeroFromE, originFits, routeFits, nodeFits, fieldFits, interfaceFits, statementFits, orderFits, nameFits, urlFits, topFits, associationFits, zeroFromB}
+use Rattle.sheet.specs.Rows.{none#}
+use Rattle.shape.specs.Shape.{isName, hasValue, zeroFromC, zeroFromE, originFits, routeFits, nodeFits, fieldFits, interfaceFits, statementFits, orderFits, nameFits, urlFits, topFits, associationFits, zeroFromB}
 use Rattle.sheet.specs.Parse.{optional, idsOf, fieldOf, interfaceOf, statementOf, routeOf, bodyElementOf, originOf, associationOf, urlOf}
 use Rattle.sheet.specs.Print.{row, class, amount, dataRows, topRow, orNone, idRow, fieldRows, interfaceRows, statementRow, routeRow, bodyElementRow, nodeRow, associationRow, urlRow}
 use Rattle.roundtrip.proofs.Tests.{and-l, and-r, or-e, tests}

@@ -10,15 +10,17 @@ use lib.ListN.{length}
 use lib.Dec.{eqb}
 use borrow.Author.Tests.{eqb-true}
 use Rattle.sheet.specs.declared.row.Row.{Row}
-use Rattle.sheet.specs.declared.grammar.Form.{Form}
-use Rattle.sheet.specs.declared.grammar.State.{State}
-use Rattle.sheet.specs.declared.grammar.Role.{Role}
-use Rattle.sheet.specs.declared.grammar.Role.the-variants.{Starts, Opens, Inner, Files, Owed, Never}
-use Rattle.sheet.specs.declared.grammar.Next.the-variants.{Go, No}
+use Rattle.checker.specs.declared.grammar.Form.{Form}
+use Rattle.checker.specs.declared.grammar.State.{State}
+use Rattle.checker.specs.declared.grammar.Role.{Role}
+use Rattle.checker.specs.declared.grammar.Role.the-variants.{Starts, Opens, Inner, Files, Owed, Never}
+use Rattle.checker.specs.declared.grammar.Next.the-variants.{Go, No}
 use Rattle.ast.specs.Choice.{choose}
-use Rattle.sheet.specs.Grammar.{shapeFits, roleOf, standsIn, comesIn, afterInner, byRole, moves, allowed, isLibrary, goIf, fits, hasEnded}
+use Rattle.shape.specs.Shape.{shapeFits}
+use Rattle.checker.specs.Grammar.{roleOf, standsIn, comesIn, afterInner, byRole, moves, allowed, isLibrary, goIf, fits, hasEnded}
 use Rattle.sheet.specs.Print.{row, rowsOfEach}
-use Rattle.sheet.proofs.Numbers.{between, shape-none}
+use Rattle.shape.proofs.Numbers.{between}
+use Rattle.shape.proofs.ShapeLaws.{shape-none}
 use Rattle.roundtrip.specs.Each.{Each}
 use Rattle.roundtrip.proofs.Tests.{never, among, by-member, tests}
 use Rattle.roundtrip.proofs.Accepts.{bare, no-go, go-inj, go-l, go-r, Accepts}

@@ -11,12 +11,13 @@ use lib.ListN.{length, length-append}
 use lib.Dec.{ltb, leb, eqb}
 use borrow.Author.Tests.{eqb-true, lt-ltb, leb-true}
 use Rattle.sheet.specs.declared.row.Row.{Row}
-use Rattle.sheet.specs.declared.grammar.Form.{Form}
-use Rattle.sheet.specs.declared.grammar.State.{State}
-use Rattle.sheet.specs.declared.grammar.Role.{Role}
-use Rattle.sheet.specs.declared.grammar.Role.the-variants.{Starts, Opens, Inner, Files, Owed, Never}
+use Rattle.checker.specs.declared.grammar.Form.{Form}
+use Rattle.checker.specs.declared.grammar.State.{State}
+use Rattle.checker.specs.declared.grammar.Role.{Role}
+use Rattle.checker.specs.declared.grammar.Role.the-variants.{Starts, Opens, Inner, Files, Owed, Never}
 use Rattle.ast.specs.Ast.{InterfaceDecl, Route, Association, ProtoInstance, Node, ProtoDecl, ExternProtoDecl, Document, File}
-use Rattle.sheet.specs.Grammar.{isName, shapeFits, roleOf, standsIn, comesIn, afterInner, moves, isLibrary, goIf, opened}
+use Rattle.shape.specs.Shape.{isName, shapeFits}
+use Rattle.checker.specs.Grammar.{roleOf, standsIn, comesIn, afterInner, moves, isLibrary, goIf, opened}
 use Rattle.sheet.specs.Parse.{optional, idsOf, fieldOf, interfaceOf, routeOf, statementOf, bodyElementOf, associationOf, urlOf, originOf}
 use Rattle.sheet.specs.Print.{row, rowsOfEach, idRow, fieldRows, interfaceRows, routeRow, statementRow, bodyElementRow, associationRow, instanceRows, anyInstanceRows, nodeRows, protoRows, urlRow, externProtoRows, topRow, documentRows, fileRows, libraryRows}
 use Rattle.roundtrip.specs.Each.{Each}

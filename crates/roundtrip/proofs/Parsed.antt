@@ -12,8 +12,7 @@ use Rattle.sheet.specs.declared.part.Part.{Part}
 use Rattle.sheet.specs.declared.part.Part.the-variants.{Files, Nodes, Protos, Externs, Tops, Fields, Interfaces, Statements, BodyOrder, Instances, Ids, Routes, Associations, Urls}
 use Rattle.ast.specs.Ast.{FieldData, FieldValue, FieldBinding, Field, InterfaceDecl, Route, Statement, NodeOrigin, BodyElement, ProtoInstance, Node, ProtoDecl, ExternProtoDecl, Document, File}
 use Rattle.ast.specs.Choice.{choose, first}
-use Rattle.sheet.specs.Rows.{front, rest}
-use Rattle.sheet.specs.Grammar.{none#}
+use Rattle.sheet.specs.Rows.{none#, front, rest}
 use Rattle.sheet.specs.Parse.{kindOf, elements, optional, idsOf, valueOf, fieldOf, interfaceOf, routeOf, statementOf, bodyElementOf, originOf, associationOf, instanceOf, fieldsOf, interfacesOf, statementsOf, nodeOf, protoOf, urlOf, externProtoOf, afterTop, documentOf, fileOf, filesOf}
 use Rattle.sheet.specs.Print.{row, rowsOfEach, orNone, idRow, class, amount, dataRows, bindingRows, fieldRows, defaultRows, interfaceRows, routeRow, statementRow, bodyElementRow, associationRow, instanceRows, anyInstanceRows, nodeRow, nodeRows, protoRows, urlRow, externProtoRows, topRow, documentRows, fileRows, libraryRows}
 use Rattle.roundtrip.specs.Each.{Each}

@@ -7,13 +7,14 @@ use Prim.Native.Nat.{ℕ, suc, _≤_}
 use native.Mathlib.Omega.{arith}
 use lib.ListN.{length}
 use Rattle.sheet.specs.declared.row.Row.{Row}
-use Rattle.sheet.specs.declared.grammar.Form.{Form}
-use Rattle.sheet.specs.declared.grammar.Form.the-variants.{Root, Library, Expanded}
-use Rattle.sheet.specs.declared.grammar.State.{State}
-use Rattle.sheet.specs.declared.grammar.Next.{Next}
-use Rattle.sheet.specs.declared.grammar.Next.the-variants.{Go, No}
+use Rattle.checker.specs.declared.grammar.Form.{Form}
+use Rattle.checker.specs.declared.grammar.Form.the-variants.{Root, Library, Expanded}
+use Rattle.checker.specs.declared.grammar.State.{State}
+use Rattle.checker.specs.declared.grammar.Next.{Next}
+use Rattle.checker.specs.declared.grammar.Next.the-variants.{Go, No}
 use Rattle.ast.specs.Choice.{choose}
-use Rattle.sheet.specs.Grammar.{shapeFits, staysExpanded, allowed, goIf, fits}
+use Rattle.shape.specs.Shape.{shapeFits}
+use Rattle.checker.specs.Grammar.{staysExpanded, allowed, goIf, fits}
 use Rattle.sheet.specs.Print.{rowsOfEach}
 use Rattle.roundtrip.specs.Each.{Each}
 use Rattle.roundtrip.proofs.Tests.{never, and-r}

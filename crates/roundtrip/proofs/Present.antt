@@ -7,8 +7,7 @@ use lib.ListN.{getD}
 use borrow.Author.Tests.{eq-eqb, ne-eqb}
 use Rattle.sheet.specs.declared.row.Row.{Row}
 use Rattle.ast.specs.Ast.{Statement}
-use Rattle.sheet.specs.Rows.{front}
-use Rattle.sheet.specs.Grammar.{none#}
+use Rattle.sheet.specs.Rows.{none#, front}
 use Rattle.sheet.specs.Parse.{optional, routeOf, statementOf}
 use Rattle.roundtrip.specs.Each.{Each}
 use Rattle.roundtrip.specs.Ranges.{IsPresent}

@@ -6,11 +6,11 @@ use Prim.Native.Nat.{ℕ, _*_}
 use native.Mathlib.Omega.{arith}
 use lib.ListN.{length}
 use Rattle.sheet.specs.declared.row.Row.{Row}
-use Rattle.sheet.specs.declared.grammar.Form.the-variants.{Root, Library, Expanded}
-use Rattle.sheet.specs.declared.Checked.the-variants.{Fits}
+use Rattle.checker.specs.declared.grammar.Form.the-variants.{Root, Library, Expanded}
+use Rattle.checker.specs.declared.Checked.the-variants.{Fits}
 use Rattle.ast.specs.Ast.{Document, File}
 use Rattle.sheet.specs.Rows.{rows, words}
-use Rattle.sheet.specs.Grammar.{checked}
+use Rattle.checker.specs.Grammar.{checked}
 use Rattle.sheet.specs.Parse.{documentOf, filesOf}
 use Rattle.sheet.specs.Print.{documentRows, libraryRows}
 use Rattle.roundtrip.specs.Each.{Each}

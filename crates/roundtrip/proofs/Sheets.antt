@@ -6,11 +6,11 @@ use Prim.Native.Nat.{_≤_}
 use native.Mathlib.Omega.{arith}
 use borrow.Author.Tests.{le-leb}
 use Rattle.sheet.specs.declared.row.Row.{Row}
-use Rattle.sheet.specs.declared.grammar.Form.{Form}
-use Rattle.sheet.specs.declared.grammar.Form.the-variants.{Library}
-use Rattle.sheet.specs.declared.Checked.the-variants.{Fits}
+use Rattle.checker.specs.declared.grammar.Form.{Form}
+use Rattle.checker.specs.declared.grammar.Form.the-variants.{Library}
+use Rattle.checker.specs.declared.Checked.the-variants.{Fits}
 use Rattle.ast.specs.Choice.{choose}
-use Rattle.sheet.specs.Grammar.{isLibrary, hasEnded, checked}
+use Rattle.checker.specs.Grammar.{isLibrary, hasEnded, checked}
 use Rattle.sheet.specs.Parse.{documentOf, filesOf}
 use Rattle.sheet.specs.Print.{documentRows, libraryRows}
 use Rattle.roundtrip.specs.Each.{Each}

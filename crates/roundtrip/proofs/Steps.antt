@@ -10,13 +10,15 @@ use lib.ListN.{length}
 use lib.Dec.{ltb, leb, eqb}
 use borrow.Author.Tests.{ne-eqb, lt-ltb, le-leb, leb-true}
 use Rattle.sheet.specs.declared.row.Row.{Row}
-use Rattle.sheet.specs.declared.grammar.Form.{Form}
-use Rattle.sheet.specs.declared.grammar.Form.the-variants.{Library}
-use Rattle.sheet.specs.declared.grammar.State.{State}
-use Rattle.sheet.specs.declared.grammar.Role.the-variants.{Inner, Opens}
+use Rattle.checker.specs.declared.grammar.Form.{Form}
+use Rattle.checker.specs.declared.grammar.Form.the-variants.{Library}
+use Rattle.checker.specs.declared.grammar.State.{State}
+use Rattle.checker.specs.declared.grammar.Role.the-variants.{Inner, Opens}
 use Rattle.ast.specs.Ast.{FieldData, Route, Statement, NodeOrigin, BodyElement, Association, Url}
 use Rattle.ast.specs.Choice.{choose}
-use Rattle.sheet.specs.Grammar.{none#, isName, hasValue, zeroFromE, shapeFits, roleOf, moves, standsIn, comesIn, afterInner, fits, opened}
+use Rattle.sheet.specs.Rows.{none#}
+use Rattle.shape.specs.Shape.{isName, hasValue, zeroFromE, shapeFits}
+use Rattle.checker.specs.Grammar.{roleOf, moves, standsIn, comesIn, afterInner, fits, opened}
 use Rattle.sheet.specs.Print.{row, orNone, idRow, class, amount, dataRows, routeRow, statementRow, bodyElementRow, nodeRow, associationRow, urlRow, topRow}
 use Rattle.roundtrip.specs.Each.{Each}
 use Rattle.roundtrip.specs.Ranges.{IsName, IsPresent, DataInRange, RouteInRange, StatementInRange, AssociationInRange, OriginInRange, UrlInRange}

@@ -8,8 +8,8 @@ use Prim.Native.Nat.{ℕ, _≤_}
 use native.Mathlib.Omega.{arith}
 use lib.ListN.{length}
 use lib.Dec.{eqb}
-use Rattle.sheet.specs.declared.grammar.Form.{Form}
-use Rattle.sheet.specs.declared.grammar.Form.the-variants.{Library}
+use Rattle.checker.specs.declared.grammar.Form.{Form}
+use Rattle.checker.specs.declared.grammar.Form.the-variants.{Library}
 use Rattle.ast.specs.Ast.{FieldValue, FieldBinding, Field, InterfaceDecl, Statement, ProtoInstance, Node, ProtoDecl, ExternProtoDecl, Document, File}
 use Rattle.sheet.specs.Print.{row, orNone, fieldRows, bindingRows, interfaceRows, defaultRows, statementRow, bodyElementRow, instanceRows, anyInstanceRows, nodeRows, protoRows, urlRow, externProtoRows, documentRows, fileRows, libraryRows}
 use Rattle.roundtrip.specs.Each.{Each}

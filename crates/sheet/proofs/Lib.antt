@@ -1,3 +1,1 @@
-pub mod Numbers
 pub mod RowLaws
-pub mod RunLaws

@@ -11,8 +11,7 @@ use Rattle.ast.specs.Choice.{choose, first}
 use Rattle.sheet.specs.declared.row.Row.{Row}
 use Rattle.sheet.specs.declared.part.Part.{Part}
 use Rattle.sheet.specs.declared.part.Part.the-variants.{Files, Nodes, Protos, Externs, Tops, Fields, Interfaces, Statements, BodyOrder, Instances, Ids, Routes, Associations, Urls}
-use Rattle.sheet.specs.Rows.{front, rest}
-use Rattle.sheet.specs.Grammar.{none#}
+use Rattle.sheet.specs.Rows.{none#, front, rest}
 
 -- ---- the elements of a part: the rows of its kind, from a place on, up to the first row that can neither begin one nor stand before or inside one
 

@@ -5,7 +5,7 @@ use Prim.Native.Nat.{ℕ}
 use lib.ListN.{length}
 use Rattle.ast.specs.Ast.{FieldData, FieldValue, FieldBinding, Field, InterfaceDecl, Route, Statement, NodeOrigin, BodyElement, Association, ProtoInstance, Node, ProtoDecl, Url, ExternProtoDecl, Document, File}
 use Rattle.sheet.specs.declared.row.Row.{Row}
-use Rattle.sheet.specs.Grammar.{none#}
+use Rattle.sheet.specs.Rows.{none#}
 
 abbrev pub row : ℕ → ℕ → ℕ → ℕ → ℕ → ℕ → ℕ → ℕ → Row
 row k a b c d e f g = record { kind = k; a = a; b = b; c = c; d = d; e = e; f = f; g = g }

@@ -3,6 +3,10 @@ use mathlib.Core.List.{List, [], _∷_}
 use Prim.Native.Nat.{ℕ}
 use Rattle.sheet.specs.declared.row.Row.{Row}
 
+-- "None" is 4294967295; names and ids are below it
+abbrev pub none# : ℕ
+none# = 4294967295
+
 -- what stands past the end: a row of no kind
 abbrev pub blank : Row
 blank = record { kind = 0; a = 0; b = 0; c = 0; d = 0; e = 0; f = 0; g = 0 }

@@ -21,9 +21,9 @@ use Rattle.picks.specs.declared.table.Table.{Table}
 use Rattle.picks.specs.Picks.{firstFile}
 use Rattle.picks.specs.Table.{sourceAt, Sourced, Empty}
 use Rattle.picks.specs.Chosen.{Final}
-use Rattle.picks.specs.Words.{Outside}
+use Rattle.words.specs.Words.{Outside}
 use Rattle.source.specs.Directory.{size, numberOf, rowOf, baseOf, countOf, Slot, Begun, Entries, Copy, Stored, Directory, SlotFor}
-use Rattle.picks.proofs.WordLaws.{three, three-first, three-second, three-third, three-other}
+use Rattle.words.proofs.WordLaws.{three, three-first, three-second, three-third, three-other}
 
 -- ---- the documents rest on the first 195 words alone
 

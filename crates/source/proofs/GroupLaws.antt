@@ -14,15 +14,16 @@ use Rattle.sheet.specs.declared.part.Part.{Part}
 use Rattle.sheet.specs.declared.part.Part.the-variants.{Nodes, Protos, Externs}
 use Rattle.sheet.specs.Rows.{rows, rest}
 use Rattle.sheet.specs.Parse.{elements, nodeOf, protoOf, externProtoOf, documentOf}
-use Rattle.lookup.specs.declared.walk.Found.{Found}
-use Rattle.lookup.specs.Walk.{Nth}
-use Rattle.lookup.specs.Index.{Filled, Indexed}
+use Rattle.walks.specs.declared.walk.Found.{Found}
+use Rattle.walks.specs.Walk.{Nth}
+use Rattle.walks.specs.Index.{Filled, Indexed}
 use Rattle.lookup.specs.Lookup.{sheetOf, documentsOf, documentAt, Looked, Located}
-use Rattle.lookup.proofs.WalkLaws.{child-of, looked}
-use Rattle.picks.specs.Words.{Outside}
+use Rattle.walks.proofs.WalkLaws.{child-of}
+use Rattle.lookup.proofs.DocLaws.{looked}
+use Rattle.words.specs.Words.{Outside}
 use Rattle.source.specs.Directory.{size, numberOf, rowOf, countOf, strideOf, groupPart, groupOf, placeOf, filledOf, Slot, Begun, Directory, Held, HeldAt}
 use Rattle.source.specs.Sourced.{Grouped, Indexing, AllGrouped}
-use Rattle.picks.proofs.WordLaws.{stays, stays-set, stays-on, stays-wide, pasted, pasted-at, pasted-stays}
+use Rattle.words.proofs.WordLaws.{stays, stays-set, stays-on, stays-wide, pasted, pasted-at, pasted-stays}
 use Rattle.source.proofs.DirectoryLaws.{slot-back, directory-kept}
 
 pub externs-are : (g : ℕ) → (g ≡ 0 → ⊥) → (g ≡ 1 → ⊥) → Externs ≡ groupPart g

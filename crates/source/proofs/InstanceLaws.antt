@@ -7,8 +7,8 @@ use native.Mathlib.Omega.{arith}
 use Rattle.ast.specs.Ast.{Document, File}
 use Rattle.sheet.specs.Rows.{rows}
 use Rattle.sheet.specs.Parse.{externProtoOf, documentOf, filesOf}
-use Rattle.lookup.specs.declared.walk.Found.{Found}
-use Rattle.lookup.specs.declared.walk.Found.the-variants.{Nothing}
+use Rattle.walks.specs.declared.walk.Found.{Found}
+use Rattle.walks.specs.declared.walk.Found.the-variants.{Nothing}
 use Rattle.lookup.specs.Lookup.{documentAt, Looked}
 use Rattle.picks.specs.Picks.{pickAt}
 use Rattle.picks.proofs.PickLaws.{pick-missing}

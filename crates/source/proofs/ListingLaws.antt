@@ -6,8 +6,8 @@ use native.Mathlib.Omega.{arith}
 use lib.ListN.{length, getD, set, length-set}
 use lib.Seq.{getD-set-same, getD-set-other}
 use Rattle.sheet.specs.Rows.{rows}
-use Rattle.picks.specs.Words.{Outside}
-use Rattle.picks.proofs.WordLaws.{stays-set, stays-on}
+use Rattle.words.specs.Words.{Outside}
+use Rattle.words.proofs.WordLaws.{stays-set, stays-on}
 use Rattle.names.specs.Names.{Grown}
 use Rattle.names.proofs.NameLaws.{listed-on, listed-none, grown-none}
 use Rattle.source.specs.Directory.{fromOf, cacheOf, namesOf, spreadOf}

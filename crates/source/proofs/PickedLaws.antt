@@ -13,13 +13,14 @@ use Rattle.ast.specs.Choice.{choose, andThen}
 use Rattle.sheet.specs.declared.row.Row.{Row}
 use Rattle.sheet.specs.Rows.{rows}
 use Rattle.sheet.specs.Parse.{externProtoOf, documentOf, filesOf}
-use Rattle.lookup.specs.declared.walk.Found.the-variants as found
+use Rattle.walks.specs.declared.walk.Found.the-variants as found
 use Rattle.lookup.specs.Lookup.{documentAt, Looked}
 use Rattle.picks.specs.declared.table.Table.{Table}
 use Rattle.picks.specs.declared.Choice.{Choice}
 use Rattle.picks.specs.declared.Chosen.the-variants.{Proto, Nothing}
 use Rattle.ast.specs.declared.ProtoId.{ProtoId}
-use Rattle.picks.specs.Picks.{Pick, Bases, Picked, firstFile, pickIn, pickFrom, pickUrl, member, remember, orNext, tryUrl, pickUrls, picksFrom, picks, pickAt, basesFrom, finalBases}
+use Rattle.file.specs.PickIn.{pickIn}
+use Rattle.picks.specs.Picks.{Pick, Bases, Picked, firstFile, pickFrom, pickUrl, member, remember, orNext, tryUrl, pickUrls, picksFrom, picks, pickAt, basesFrom, finalBases}
 use Rattle.picks.specs.Table.{basesOf, fileAt, sourceAt, Sound}
 use Rattle.picks.specs.Chosen.{pickOf, Tried}
 use Rattle.picks.proofs.MemberLaws.{member-last, member-none}

@@ -8,11 +8,11 @@ use lib.Seq.{getD-set-same, getD-set-other}
 use Rattle.sheet.specs.Rows.{rows}
 use Rattle.picks.specs.declared.table.Table.{Table}
 use Rattle.picks.specs.Chosen.{Final}
-use Rattle.picks.specs.Words.{Outside}
+use Rattle.words.specs.Words.{Outside}
 use Rattle.source.specs.Directory.{size, cacheOf, cachedOf, fromOf, endOf, groupOf, Slot, Stored, HeldAt}
 use Rattle.source.specs.Listing.{Listing}
 use Rattle.source.specs.Sourced.{Sourced, Opened, AllGrouped, Remembered, Prepared}
-use Rattle.picks.proofs.WordLaws.{stays-set, stays-on, stays-wide, stays-front, three-second, three-third}
+use Rattle.words.proofs.WordLaws.{stays-set, stays-on, stays-wide, stays-front, three-second, three-third}
 use Rattle.source.proofs.DirectoryLaws.{slot-back, directory-kept, stored-directory}
 use Rattle.source.proofs.GroupLaws.{held-on, held-dir}
 

@@ -11,22 +11,22 @@ use borrow.Author.Tests.{ne-eqb}
 use Rattle.sheet.specs.declared.row.Row.{Row}
 use Rattle.sheet.specs.Rows.{rows}
 use Rattle.sheet.specs.Parse.{documentOf, filesOf}
-use Rattle.lookup.specs.declared.walk.Found.{Found}
-use Rattle.lookup.specs.Index.{Filled}
+use Rattle.walks.specs.declared.walk.Found.{Found}
+use Rattle.walks.specs.Index.{Filled}
 use Rattle.lookup.specs.Lookup.{sheetOf}
-use Rattle.picks.specs.declared.memo.Memo.{Memo}
+use Rattle.memo.specs.declared.Memo.{Memo}
 use Rattle.picks.specs.declared.table.Table.{Table}
 use Rattle.picks.specs.Picks.{Pick, pickAt}
 use Rattle.source.specs.declared.instance.Target.{Target}
 use Rattle.source.specs.declared.instance.Target.the-variants.{Plain, Of}
-use Rattle.picks.specs.Words.{Outside}
-use Rattle.picks.specs.Memo.{Kept}
+use Rattle.words.specs.Words.{Outside}
+use Rattle.memo.specs.Memo.{Kept}
 use Rattle.source.specs.Directory.{size, numberOf, rowOf, countOf, strideOf, cacheOf, cachedOf, fromOf, endOf, namesOf, spreadOf, groupPart, groupOf, placeOf, filledOf, Slot, Copy, Directory, HeldAt}
 use Rattle.source.specs.Instance.{Targeted, targetAt, Small}
 use Rattle.names.specs.Names.{LastField, NameTable, Tabled}
 use Rattle.source.specs.Sourced.{Sourced, Region, Remembered}
-use Rattle.picks.proofs.MemoLaws.{kept-on}
-use Rattle.picks.proofs.WordLaws.{stays, stays-front, stays-set, stays-on, stays-wide}
+use Rattle.memo.proofs.MemoLaws.{kept-on}
+use Rattle.words.proofs.WordLaws.{stays, stays-front, stays-set, stays-on, stays-wide}
 use Rattle.source.proofs.DirectoryLaws.{slot-on, copy-on, slot-back, directory-kept}
 use Rattle.names.proofs.NameLaws.{listed-on}
 use Rattle.source.proofs.ListingLaws.{names-set}

@@ -9,8 +9,8 @@ use Rattle.sheet.specs.declared.row.Row.{Row}
 use Rattle.sheet.specs.declared.part.Part.{Part}
 use Rattle.sheet.specs.declared.part.Part.the-variants.{Nodes, Protos, Externs}
 use Rattle.sheet.specs.Rows.{rows}
-use Rattle.lookup.specs.declared.walk.Found.the-variants.{At}
-use Rattle.lookup.specs.Walk.{Nth}
+use Rattle.walks.specs.declared.walk.Found.the-variants.{At}
+use Rattle.walks.specs.Walk.{Nth}
 use Rattle.lookup.specs.Lookup.{sheetOf, documentsOf, documentAt}
 use Rattle.picks.specs.declared.table.Table.{Table}
 use Rattle.picks.specs.Chosen.{Final}

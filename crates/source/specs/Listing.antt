@@ -3,7 +3,7 @@ use mathlib.Core.Path.{_≡_}
 use mathlib.Core.List.{List}
 use Prim.Native.Nat.{ℕ, _≤_}
 use Rattle.sheet.specs.Rows.{rows}
-use Rattle.picks.specs.Words.{Outside}
+use Rattle.words.specs.Words.{Outside}
 use Rattle.names.specs.Names.{Listed, Grown}
 use Rattle.source.specs.Directory.{fromOf, cacheOf, namesOf, spreadOf}
 

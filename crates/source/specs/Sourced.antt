@@ -6,7 +6,7 @@ use lib.ListN.{length}
 use Rattle.sheet.specs.Rows.{rows}
 use Rattle.sheet.specs.Parse.{documentOf, filesOf}
 use Rattle.picks.specs.Picks.{pickAt}
-use Rattle.picks.specs.Words.{Outside}
+use Rattle.words.specs.Words.{Outside}
 use Rattle.source.specs.Directory.{size, countOf, fromOf, endOf, cacheOf, cachedOf, groupOf, Slot, Directory, HeldAt}
 use Rattle.source.specs.Instance.{Targeted, targetAt}
 use Rattle.source.specs.Listing.{Names}

@@ -3,7 +3,7 @@
 // 198 where the region of work begins and 199 where it ends, 200 for each slot and group the place and size of its index,
 // 590 where the list of the tables of names begins and 591 how many places it has.
 use picks::table::Table;
-use picks::words::wide;
+use words::wide;
 ghost use mathlib.Core.Path.{_≡_};
 ghost use Prim.Native.Nat.{_*_, _≤_, _<_};
 ghost use lib.ListN.{length, drop};

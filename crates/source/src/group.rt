@@ -1,15 +1,15 @@
 // The indexes of the groups of each document: 0 nodes, 1 prototypes, 2 externs.
-use lookup::index;
 use lookup::rows;
-use lookup::walk::Found;
-use picks::words::wide;
 use sheet::part::Part;
+use walks::index;
+use walks::walk::Found;
+use words::wide;
 ghost use mathlib.Core.Path.{_≡_};
 ghost use Prim.Native.Nat.{_+_, _-_, _*_, _≤_, _<_};
 ghost use lib.ListN.{length};
 ghost use Rattle.sheet.specs.Rows.{rows};
 ghost use Rattle.lookup.specs.Lookup.{sheetOf};
-ghost use Rattle.lookup.specs.Walk.{Nth};
+ghost use Rattle.walks.specs.Walk.{Nth};
 ghost use Rattle.source.specs.Directory.{numberOf, rowOf, groupPart, Slot, Directory};
 ghost use Rattle.source.specs.Sourced.{Sourced, Grouped, AllGrouped};
 

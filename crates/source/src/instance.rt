@@ -1,22 +1,21 @@
 // The prototype that a node is an instance of, and the cache of the picks of the root's externs.
 use super::directory;
 use super::group;
-use lookup::walk::Found;
+use memo::Memo;
 use picks::Chosen;
-use picks::memo;
-use picks::memo::Memo;
 use picks::table::Table;
-use picks::words::wide;
+use walks::walk::Found;
+use words::wide;
 ghost use mathlib.Core.Path.{_≡_};
 ghost use Prim.Native.Nat.{ℕ, _+_, _<_};
 ghost use lib.ListN.{length};
 ghost use Rattle.sheet.specs.Rows.{rows};
 ghost use Rattle.sheet.specs.Parse.{externProtoOf, documentOf, filesOf};
-ghost use Rattle.lookup.specs.declared.walk.Found.the-variants.{At};
+ghost use Rattle.walks.specs.declared.walk.Found.the-variants.{At};
 ghost use Rattle.lookup.specs.Lookup.{documentAt, Looked};
 ghost use Rattle.picks.specs.Picks.{pickAt};
-ghost use Rattle.picks.specs.Memo.{Kept};
-ghost use Rattle.picks.specs.Words.{Outside};
+ghost use Rattle.memo.specs.Memo.{Kept};
+ghost use Rattle.words.specs.Words.{Outside};
 ghost use Rattle.source.specs.Directory.{Directory, Copy};
 ghost use Rattle.source.specs.Instance.{Targeted, targetAt, Small};
 ghost use Rattle.source.specs.Sourced.{Sourced, Remembered};

@@ -2,14 +2,14 @@
 use journal;
 use journal::Record;
 use journal::wide;
-use lookup::walk;
-use lookup::walk::Found;
 use refine::Answer;
 use refine::Counts;
 use refine::Env;
 use refine::Limits;
 use sheet::part::Part;
 use sheet::row;
+use walks::walk;
+use walks::walk::Found;
 ghost use mathlib.Core.Path.{_≡_};
 ghost use Prim.Native.Nat.{_<_};
 ghost use lib.ListN.{length};

@@ -6,8 +6,8 @@ use lib.Dec.{leb, eqb}
 use lib.ListN.{length}
 use Rattle.ast.specs.Choice.{choose}
 use Rattle.sheet.specs.declared.row.Row.{Row}
-use Rattle.sheet.specs.declared.grammar.Form.{Form}
-use Rattle.sheet.specs.declared.grammar.Form.the-variants.{Root, Library, Expanded}
+use Rattle.checker.specs.declared.grammar.Form.{Form}
+use Rattle.checker.specs.declared.grammar.Form.the-variants.{Root, Library, Expanded}
 use Rattle.vectors.specs.Frame.{rowsAt}
 
 -- the form that a number names

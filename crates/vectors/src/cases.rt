@@ -3,14 +3,14 @@ use super::frame;
 use ast::ExternProtoId;
 use ast::NodeId;
 use ast::ProtoId;
+use checker::Checked;
+use checker::grammar::Form;
 use lines::Read;
 use lines::Written;
 use lookup::document;
 use lookup::rows;
-use lookup::walk::Found;
-use sheet::Checked;
-use sheet::grammar::Form;
 use sheet::row::Row;
+use walks::walk::Found;
 ghost use mathlib.Core.Path.{_≡_};
 ghost use Rattle.vectors.specs.Cases.{formOf, checkAt, readAt, writeAt, lookupAt};
 
@@ -29,7 +29,7 @@ pub fn check(input: &[u8], at: usize, h: Row, words: &mut [u32]) -> usize
     if words.len() < n {
         return 0;
     }
-    print_check(sheet::check(&words[..n], form_of(h.a)));
+    print_check(checker::check(&words[..n], form_of(h.a)));
     next
 }
 

@@ -7,7 +7,7 @@ use lib.ListN.{length, getD}
 use Rattle.sheet.specs.declared.row.Row.{Row}
 use Rattle.sheet.specs.Rows.{rows, blank}
 use Rattle.sheet.specs.Print.{row, topRow, rowsOfEach, nodeRows, externProtoRows, documentRows}
-use Rattle.lookup.proofs.WalkLaws.{front-drop}
+use Rattle.walks.proofs.WalkLaws.{front-drop}
 use Rattle.reading.specs.Reading.{nodesOf, externsOf}
 use Rattle.writer.specs.declared.lists.Kind.the-variants.{Statements}
 use Rattle.writer.specs.Writing.{Room}

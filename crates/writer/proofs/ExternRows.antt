@@ -10,9 +10,9 @@ use Rattle.sheet.specs.declared.part.Part.the-variants.{Interfaces, Urls}
 use Rattle.sheet.specs.Rows.{rows, blank, front, rest}
 use Rattle.sheet.specs.Parse.{elements, interfaceOf, interfacesOf, urlOf, externProtoOf}
 use Rattle.sheet.specs.Print.{row, rowsOfEach, externProtoRows, interfaceRows, urlRow}
-use Rattle.lookup.specs.Walk.{Stands}
+use Rattle.walks.specs.Walk.{Stands}
 use Rattle.lookup.specs.Lookup.{sheetOf}
-use Rattle.lookup.proofs.WalkLaws.{each-at, each-none, front-drop, rest-drop}
+use Rattle.walks.proofs.WalkLaws.{each-at, each-none, front-drop, rest-drop}
 use Rattle.expansion.specs.Externs.{noValue}
 use Rattle.journal.specs.Records.{tagExtern, cell}
 use Rattle.ast.specs.Ast.{ExternProtoDecl}

@@ -9,8 +9,7 @@ use lib.ListN.{length, length-map}
 use lib.Dec.{ltb}
 use borrow.Author.Tests.{eq-eqb, ne-eqb, ltb-true, ltb-false}
 use Rattle.ast.specs.Choice.{choose}
-use Rattle.sheet.specs.Rows.{front}
-use Rattle.sheet.specs.Grammar.{none#}
+use Rattle.sheet.specs.Rows.{none#, front}
 use Rattle.sheet.specs.Parse.{optional, statementOf, routeOf, bodyElementOf}
 use Rattle.sheet.specs.Print.{row, orNone, idRow, statementRow, bodyElementRow}
 use Rattle.journal.specs.Records.{cell}

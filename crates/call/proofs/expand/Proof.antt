@@ -8,10 +8,10 @@ use Rattle.call.proofs.lacks_room.Reads as lacks-room-reads
 use Rattle.call.proofs.refused.Reads as refused-reads
 use Rattle.call.proofs.run.run.Reads as run-reads
 use Rattle.call.proofs.wrong_length.Reads as wrong-length-reads
-use Rattle.sheet.proofs.check.Reads as check-reads
+use Rattle.checker.proofs.check.Reads as check-reads
 use mathlib.Core.Path.{_≡_, refl, sym, _∙_}
 use denote.Ref.{now}
-use Rattle.sheet.specs.declared.grammar.Form.the-variants as form
+use Rattle.checker.specs.declared.grammar.Form.the-variants as form
 use Rattle.call.specs.declared.Outcome.the-variants.{Refused}
 use Rattle.call.specs.Calls.{callOf}
 use Rattle.call.proofs.Refusals.{bad-low, at-1, at-2-root, at-2-library, allowed, at-3-root, at-3-library, past-3, demands}

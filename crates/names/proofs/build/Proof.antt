@@ -3,16 +3,16 @@ use Rattle.names.proofs.build.Statement.{statement}
 use Rattle.names.proofs.build.Tie as tie
 use Rattle.names.proofs.build.Reads as reads
 use Rattle.names.proofs.build.Lts as lts
-use Rattle.lookup.proofs.walk.seek.Reads as seek-reads
+use Rattle.walks.proofs.walk.seek.Reads as seek-reads
 use Rattle.names.proofs.add.Reads as add-reads
-use Rattle.picks.proofs.words.clear.Reads as clear-reads
+use Rattle.words.proofs.clear.Reads as clear-reads
 use Prim.Native.Nat.{_+_, _-_}
 use denote.Ref.{now}
 use lib.ListN.{length}
 use Rattle.sheet.specs.declared.part.Part.the-variants.{Nodes}
 use Rattle.sheet.specs.Rows.{rows}
 use Rattle.sheet.proofs.RowLaws.{rows-length}
-use Rattle.lookup.proofs.WalkLaws.{stands}
+use Rattle.walks.proofs.WalkLaws.{stands}
 use Rattle.names.specs.Names.{Grown}
 use Rattle.names.proofs.NameLaws.{listed-clear, grown-none, grown-on, grown-all}
 use native.Mathlib.Omega.{arith}

@@ -3,14 +3,14 @@ use Rattle.names.proofs.fields.Statement.{statement}
 use Rattle.names.proofs.fields.Tie as tie
 use Rattle.names.proofs.fields.Reads as reads
 use Rattle.names.proofs.fields.Lts as lts
-use Rattle.lookup.proofs.walk.seek.Reads as seek-reads
+use Rattle.walks.proofs.walk.seek.Reads as seek-reads
 use Prim.Native.Nat.{_≤_, _-_}
 use denote.Ref.{now}
 use lib.ListN.{length}
 use Rattle.sheet.specs.declared.part.Part.the-variants.{Fields}
 use Rattle.sheet.specs.Rows.{rows}
 use Rattle.sheet.proofs.RowLaws.{rows-length}
-use Rattle.lookup.proofs.WalkLaws.{stands}
+use Rattle.walks.proofs.WalkLaws.{stands}
 use native.Mathlib.Omega.{arith}
 use borrow.Author.Needs.{needs}
 

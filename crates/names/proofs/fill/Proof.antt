@@ -3,10 +3,10 @@ use Rattle.names.proofs.fill.Statement.{statement}
 use Rattle.names.proofs.fill.Tie as tie
 use Rattle.names.proofs.fill.Reads as reads
 use Rattle.names.proofs.fill.Lts as lts
-use Rattle.lookup.proofs.walk.seek.Reads as seek-reads
+use Rattle.walks.proofs.walk.seek.Reads as seek-reads
 use Rattle.sheet.proofs.row.row_at.Reads as row-at-reads
-use Rattle.picks.proofs.words.wide.Reads as wide-reads
-use Rattle.picks.proofs.words.clear.Reads as clear-reads
+use Rattle.words.proofs.wide.Reads as wide-reads
+use Rattle.words.proofs.clear.Reads as clear-reads
 use mathlib.Core.Path.{subst}
 use Prim.Native.Nat.{_≤_, _-_}
 use native.Mathlib.Nat.{mod-lt}
@@ -15,7 +15,7 @@ use lib.ListN.{length}
 use Rattle.sheet.specs.declared.part.Part.the-variants.{Fields}
 use Rattle.sheet.specs.Rows.{rows}
 use Rattle.sheet.proofs.RowLaws.{rows-length}
-use Rattle.lookup.proofs.WalkLaws.{stands, missing}
+use Rattle.walks.proofs.WalkLaws.{stands, missing}
 use Rattle.names.proofs.NameLaws.{Filling, fill-start, fill-more, fill-end}
 use native.Mathlib.Omega.{arith}
 use borrow.Author.Needs.{needs}

@@ -5,7 +5,7 @@ use Rattle.names.proofs.named.Tie as tie
 use Rattle.names.proofs.named.Reads as reads
 use Rattle.names.proofs.named.Lts as lts
 use Rattle.sheet.proofs.row.row_at.Reads as row-at-reads
-use Rattle.picks.proofs.words.wide.Reads as wide-reads
+use Rattle.words.proofs.wide.Reads as wide-reads
 use Rattle.names.proofs.walked.Reads as walked-reads
 use denote.Ref.{now}
 use Rattle.sheet.specs.Rows.{rows}

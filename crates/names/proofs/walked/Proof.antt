@@ -3,7 +3,7 @@ use Rattle.names.proofs.walked.Statement.{statement}
 use Rattle.names.proofs.walked.Tie as tie
 use Rattle.names.proofs.walked.Reads as reads
 use Rattle.names.proofs.walked.Lts as lts
-use Rattle.lookup.proofs.walk.seek.Reads as seek-reads
+use Rattle.walks.proofs.walk.seek.Reads as seek-reads
 use Rattle.sheet.proofs.row.row_at.Reads as row-at-reads
 use mathlib.Core.Logic.{⊎-elim}
 use mathlib.Core.Path.{subst}
@@ -13,7 +13,7 @@ use lib.ListN.{length}
 use Rattle.sheet.specs.declared.part.Part.the-variants.{Fields}
 use Rattle.sheet.specs.Rows.{rows}
 use Rattle.sheet.proofs.RowLaws.{rows-length}
-use Rattle.lookup.proofs.WalkLaws.{stands, missing}
+use Rattle.walks.proofs.WalkLaws.{stands, missing}
 use Rattle.names.proofs.NameLaws.{Searching, search-start, search-none, search-new, search-old}
 use native.Mathlib.Omega.{arith}
 use borrow.Author.Needs.{needs}

@@ -3,13 +3,13 @@ use Rattle.parts.proofs.count.Statement.{statement}
 use Rattle.parts.proofs.count.Tie as tie
 use Rattle.parts.proofs.count.Reads as reads
 use Rattle.parts.proofs.count.Lts as lts
-use Rattle.lookup.proofs.walk.seek.Reads as seek-reads
+use Rattle.walks.proofs.walk.seek.Reads as seek-reads
 use Prim.Native.Nat.{_-_}
 use denote.Ref.{now}
 use lib.ListN.{length}
 use Rattle.sheet.specs.Rows.{rows}
 use Rattle.sheet.proofs.RowLaws.{rows-length}
-use Rattle.lookup.proofs.WalkLaws.{stands, missing}
+use Rattle.walks.proofs.WalkLaws.{stands, missing}
 use Rattle.parts.proofs.Counts.{Counting, count-start, count-end, count-more}
 use native.Mathlib.Omega.{arith}
 use borrow.Author.Needs.{needs}

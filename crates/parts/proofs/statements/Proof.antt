@@ -4,7 +4,7 @@ use Rattle.parts.proofs.statements.Tie as tie
 use Rattle.parts.proofs.statements.Reads as reads
 use Rattle.parts.proofs.statements.Lts as lts
 use Rattle.lookup.proofs.rows.select.Reads as select-reads
-use Rattle.lookup.proofs.walk.seek.Reads as seek-reads
+use Rattle.walks.proofs.walk.seek.Reads as seek-reads
 use Rattle.parts.proofs.statement.Reads as statement-reads
 use Rattle.sheet.proofs.row.row_at.Reads as row-at-reads
 use Rattle.source.proofs.directory.number.Reads as number-reads
@@ -14,7 +14,7 @@ use denote.Ref.{now}
 use lib.ListN.{length}
 use Rattle.sheet.specs.declared.part.Part.the-variants.{Statements}
 use Rattle.sheet.specs.Rows.{rows}
-use Rattle.lookup.proofs.WalkLaws.{stands, missing}
+use Rattle.walks.proofs.WalkLaws.{stands, missing}
 use Rattle.source.specs.Directory.{numberOf}
 use Rattle.parts.specs.Contract.{rowsOf}
 use Rattle.parts.proofs.Lending.{sheet-is}

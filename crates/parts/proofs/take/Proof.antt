@@ -4,7 +4,7 @@ use Rattle.parts.proofs.take.Statement.{statement}
 use Rattle.parts.proofs.take.Tie as tie
 use Rattle.parts.proofs.take.Reads as reads
 use Rattle.parts.proofs.take.Lts as lts
-use Rattle.lookup.proofs.walk.seek.Reads as seek-reads
+use Rattle.walks.proofs.walk.seek.Reads as seek-reads
 use Rattle.parts.proofs.field_kept.Reads as field-kept-reads
 use Rattle.parts.proofs.statement_kept.Reads as statement-kept-reads
 use Rattle.sheet.proofs.row.row_at.Reads as row-at-reads
@@ -12,7 +12,7 @@ use denote.Ref.{now}
 use Rattle.sheet.specs.declared.part.Part.the-variants.{Fields, Statements}
 use Rattle.sheet.specs.Rows.{rows}
 use Rattle.sheet.proofs.RowLaws.{rows-length}
-use Rattle.lookup.proofs.WalkLaws.{stands, missing}
+use Rattle.walks.proofs.WalkLaws.{stands, missing}
 use Rattle.parts.proofs.Ordered.{takes-interface, takes-no-field, takes-field, takes-no-statement, takes-statement}
 use native.Mathlib.Omega.{arith}
 

@@ -3,8 +3,8 @@ use Rattle.picks.proofs.bases_of.Statement.{statement}
 use Rattle.picks.proofs.bases_of.Tie as tie
 use Rattle.picks.proofs.bases_of.Reads as reads
 use Rattle.picks.proofs.bases_of.Lts as lts
-use Rattle.lookup.proofs.walk.seek.Reads as seek-reads
-use Rattle.picks.proofs.memo.fresh.Reads as fresh-reads
+use Rattle.walks.proofs.walk.seek.Reads as seek-reads
+use Rattle.memo.proofs.fresh.Reads as fresh-reads
 use Rattle.picks.proofs.pick_urls.Reads as pick-urls-reads
 use Rattle.picks.proofs.table.empty.Reads as empty-reads
 use mathlib.Core.Path.{_≡_, refl, _∙_}
@@ -14,8 +14,8 @@ use lib.ListN.{length}
 use Rattle.sheet.specs.declared.part.Part.the-variants.{Externs}
 use Rattle.sheet.specs.Rows.{rows}
 use Rattle.sheet.proofs.RowLaws.{rows-length}
-use Rattle.lookup.proofs.WalkLaws.{stands, missing}
-use Rattle.picks.specs.Memo.{Kept}
+use Rattle.walks.proofs.WalkLaws.{stands, missing}
+use Rattle.memo.specs.Memo.{Kept}
 use Rattle.picks.proofs.PickLaws.{Gathering, gather-start, gather-none, gather-next}
 use native.Mathlib.Omega.{arith}
 use borrow.Author.Needs.{needs}

@@ -5,12 +5,12 @@ use Rattle.picks.proofs.pick.Tie as tie
 use Rattle.picks.proofs.pick.Reads as reads
 use Rattle.picks.proofs.pick.Lts as lts
 use Rattle.lookup.proofs.document.extern_row.Reads as extern-row-reads
-use Rattle.picks.proofs.memo.fresh.Reads as fresh-reads
+use Rattle.memo.proofs.fresh.Reads as fresh-reads
 use Rattle.picks.proofs.pick_urls.Reads as pick-urls-reads
 use mathlib.Core.Path.{subst}
 use denote.Ref.{now}
 use Rattle.sheet.specs.Rows.{rows}
-use Rattle.lookup.specs.Walk.{Below}
+use Rattle.walks.specs.Walk.{Below}
 use Rattle.picks.proofs.PickLaws.{pick-missing, pick-found}
 
 extern-row-requires : tie.Need-extern-row-requires

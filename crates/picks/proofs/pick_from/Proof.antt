@@ -4,7 +4,7 @@ use Rattle.picks.proofs.pick_from.Statement.{statement}
 use Rattle.picks.proofs.pick_from.Tie as tie
 use Rattle.picks.proofs.pick_from.Reads as reads
 use Rattle.picks.proofs.pick_from.Lts as lts
-use Rattle.picks.proofs.memo.pick_in.Reads as pick-in-reads
+use Rattle.memo.proofs.pick_in.Reads as pick-in-reads
 use denote.Ref.{now}
 use Rattle.sheet.specs.Rows.{rows}
 use Rattle.picks.proofs.PickLaws.{from-none, from-nothing, from-proto}

@@ -3,7 +3,7 @@ use Rattle.picks.proofs.pick_urls.Statement.{statement}
 use Rattle.picks.proofs.pick_urls.Tie as tie
 use Rattle.picks.proofs.pick_urls.Reads as reads
 use Rattle.picks.proofs.pick_urls.Lts as lts
-use Rattle.lookup.proofs.walk.seek.Reads as seek-reads
+use Rattle.walks.proofs.walk.seek.Reads as seek-reads
 use Rattle.picks.proofs.pick_from.Reads as pick-from-reads
 use Rattle.picks.proofs.table.remember.Reads as remember-reads
 use Rattle.sheet.proofs.row.row_at.Reads as row-at-reads
@@ -14,8 +14,8 @@ use lib.ListN.{length}
 use Rattle.sheet.specs.declared.part.Part.the-variants.{Urls}
 use Rattle.sheet.specs.Rows.{rows}
 use Rattle.sheet.proofs.RowLaws.{rows-length}
-use Rattle.lookup.proofs.WalkLaws.{stands, missing}
-use Rattle.picks.specs.Memo.{Kept}
+use Rattle.walks.proofs.WalkLaws.{stands, missing}
+use Rattle.memo.specs.Memo.{Kept}
 use Rattle.picks.proofs.PickLaws.{Trying, try-start, try-none, try-proto, try-next}
 use native.Mathlib.Omega.{arith}
 use borrow.Author.Needs.{needs}

@@ -7,12 +7,12 @@ use Rattle.tops.proofs.top.Lts as lts
 use Rattle.tops.proofs.tops.Reads as tops-reads
 use Rattle.journal.proofs.wide.Reads as wide-reads
 use Rattle.journal.proofs.paid.Reads as paid-reads
-use Rattle.lookup.proofs.walk.seek.Reads as seek-reads
+use Rattle.walks.proofs.walk.seek.Reads as seek-reads
 use Rattle.refine.proofs.open.Reads as open-reads
 use Rattle.refine.proofs.too_many.Reads as too-many-reads
 use mathlib.Core.Path.{_≡_, refl, sym, _∙_}
 use Rattle.sheet.specs.declared.part.Part.the-variants.{Tops}
-use Rattle.lookup.proofs.WalkLaws.{stands, missing}
+use Rattle.walks.proofs.WalkLaws.{stands, missing}
 use Rattle.cycle.proofs.TopLaws.{top-few, top-standing, top-stop, top-here, top-none, top-all}
 use native.Mathlib.Omega.{arith}
 

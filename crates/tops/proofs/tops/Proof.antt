@@ -4,7 +4,7 @@ use Rattle.tops.proofs.tops.Tie as tie
 use Rattle.tops.proofs.tops.Reads as reads
 use Rattle.tops.proofs.tops.Lts as lts
 use Rattle.tops.proofs.top_statement.Reads as top-statement-reads
-use Rattle.lookup.proofs.walk.seek.Reads as seek-reads
+use Rattle.walks.proofs.walk.seek.Reads as seek-reads
 use mathlib.Core.Path.{_∙_}
 use Prim.Native.Nat.{_-_}
 use denote.Ref.{now}
@@ -12,7 +12,7 @@ use lib.ListN.{length}
 use Rattle.sheet.specs.declared.part.Part.the-variants.{Statements}
 use Rattle.sheet.specs.Rows.{rows}
 use Rattle.sheet.proofs.RowLaws.{rows-length}
-use Rattle.lookup.proofs.WalkLaws.{stands, missing}
+use Rattle.walks.proofs.WalkLaws.{stands, missing}
 use Rattle.cycle.proofs.Run.{since}
 use Rattle.cycle.proofs.TopLaws.{Topping, tops-start, tops-end, tops-here, tops-again, tops-stop}
 use native.Mathlib.Omega.{arith}

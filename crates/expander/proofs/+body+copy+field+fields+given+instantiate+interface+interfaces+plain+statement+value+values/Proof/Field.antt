@@ -71,7 +71,7 @@ use Prim.Native.Nat.{_+_, _*_, _-_}
 use lib.ListN.{length}
 use mathlib.Core.Path.{refl}
 use Rattle.sheet.specs.declared.part.Part.the-variants.{Ids}
-use Rattle.lookup.proofs.WalkLaws.{missing}
+use Rattle.walks.proofs.WalkLaws.{missing}
 use Rattle.cycle.proofs.Run.{went, here-later}
 use Rattle.cycle.proofs.Walks.{rows-few}
 use Rattle.source.proofs.SourcedLaws.{slot-within}

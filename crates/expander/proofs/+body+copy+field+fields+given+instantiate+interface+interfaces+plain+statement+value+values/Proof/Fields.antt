@@ -71,7 +71,7 @@ use Prim.Native.Nat.{_+_, _*_, _-_}
 use lib.ListN.{length}
 use mathlib.Core.Path.{_≡_, refl, sym, _∙_}
 use Rattle.sheet.specs.declared.part.Part.the-variants.{Fields}
-use Rattle.lookup.proofs.WalkLaws.{stands, missing}
+use Rattle.walks.proofs.WalkLaws.{stands, missing}
 use Rattle.parts.specs.Contract.{rowsOf}
 use Rattle.cycle.proofs.Run.{since}
 use Rattle.cycle.proofs.Walks.{rows-few}

@@ -73,7 +73,7 @@ use mathlib.Core.Path.{_≡_, refl, sym, _∙_}
 use mathlib.Core.List.{[]}
 use Rattle.ast.specs.Ast.{FieldData}
 use Rattle.sheet.specs.declared.part.Part.the-variants.{Ids}
-use Rattle.lookup.proofs.WalkLaws.{stands, missing}
+use Rattle.walks.proofs.WalkLaws.{stands, missing}
 use Rattle.parts.specs.Contract.{rowsOf}
 use Rattle.cycle.proofs.Run.{went, since, here-later}
 use Rattle.cycle.proofs.Walks.{rows-few}

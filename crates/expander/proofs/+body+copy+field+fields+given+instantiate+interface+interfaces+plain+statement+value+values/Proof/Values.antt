@@ -72,7 +72,7 @@ use lib.ListN.{length}
 use mathlib.Core.Path.{_∙_}
 use Prim.Native.Nat.{_-_}
 use lib.ListN.{length}
-use Rattle.lookup.proofs.WalkLaws.{stands, missing}
+use Rattle.walks.proofs.WalkLaws.{stands, missing}
 use Rattle.parts.specs.Contract.{rowsOf}
 use Rattle.cycle.proofs.Run.{since}
 use Rattle.cycle.proofs.Walks.{rows-few}

@@ -4,12 +4,12 @@ use Rattle.lookup.proofs.document.document.Statement.{statement}
 use Rattle.lookup.proofs.document.document.Tie as tie
 use Rattle.lookup.proofs.document.document.Reads as reads
 use Rattle.lookup.proofs.document.document.Lts as lts
-use Rattle.lookup.proofs.walk.nth.Reads as nth-reads
+use Rattle.walks.proofs.walk.nth.Reads as nth-reads
 use mathlib.Core.Path.{refl, sym, ap, subst}
 use denote.Ref.{now}
 use Rattle.sheet.specs.Rows.{rows}
 use Rattle.sheet.proofs.RowLaws.{rows-length}
-use Rattle.lookup.specs.Walk.{Below}
+use Rattle.walks.specs.Walk.{Below}
 use Rattle.lookup.specs.Lookup.{Begins}
 use Rattle.lookup.proofs.DocLaws.{begins-root, begins-file, afterFile}
 use native.Mathlib.Omega.{arith}

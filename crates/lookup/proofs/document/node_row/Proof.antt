@@ -2,13 +2,13 @@ use denote.Ref.{now}
 use Rattle.sheet.specs.declared.part.Part.the-variants.{Nodes}
 use Rattle.sheet.specs.Rows.{rows}
 use Rattle.sheet.specs.Parse.{documentOf, nodeOf}
-use Rattle.lookup.proofs.WalkLaws.{looked}
+use Rattle.lookup.proofs.DocLaws.{looked}
 use borrow.Author.Needs.{needs}
 use Rattle.lookup.proofs.document.node_row.Statement.{statement}
 use Rattle.lookup.proofs.document.node_row.Tie as tie
 use Rattle.lookup.proofs.document.node_row.Reads as reads
 use Rattle.lookup.proofs.document.node_row.Lts as lts
-use Rattle.lookup.proofs.walk.child.Reads as child-reads
+use Rattle.walks.proofs.walk.child.Reads as child-reads
 
 child-requires : tie.Need-child-requires
 child-requires c κs = search needs

@@ -15,7 +15,7 @@ use mathlib.Core.Path.{subst}
 use denote.Ref.{now}
 use Rattle.sheet.specs.Rows.{rows}
 use Rattle.sheet.proofs.RowLaws.{rows-length}
-use Rattle.lookup.specs.Walk.{Below}
+use Rattle.walks.specs.Walk.{Below}
 use Rattle.lookup.specs.Lookup.{sheetOf}
 use Rattle.lookup.proofs.PartLaws.{of-both, handed, handed-none}
 use native.Mathlib.Omega.{arith}

@@ -3,7 +3,7 @@ use Rattle.picks.proofs.table.first_file.Statement.{statement}
 use Rattle.picks.proofs.table.first_file.Tie as tie
 use Rattle.picks.proofs.table.first_file.Reads as reads
 use Rattle.picks.proofs.table.first_file.Lts as lts
-use Rattle.lookup.proofs.walk.seek.Reads as seek-reads
+use Rattle.walks.proofs.walk.seek.Reads as seek-reads
 use Rattle.sheet.proofs.row.row_at.Reads as row-at-reads
 use Prim.Native.Nat.{_-_}
 use denote.Ref.{now}
@@ -11,7 +11,7 @@ use lib.ListN.{length}
 use Rattle.sheet.specs.declared.part.Part.the-variants.{Files}
 use Rattle.sheet.specs.Rows.{rows}
 use Rattle.sheet.proofs.RowLaws.{rows-length}
-use Rattle.lookup.proofs.WalkLaws.{stands, missing}
+use Rattle.walks.proofs.WalkLaws.{stands, missing}
 use Rattle.picks.proofs.SourceLaws.{Seeking, seek-start, seek-none, seek-here, seek-next}
 use native.Mathlib.Omega.{arith}
 use borrow.Author.Needs.{needs}

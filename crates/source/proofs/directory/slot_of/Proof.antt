@@ -3,7 +3,7 @@ use Rattle.source.proofs.directory.slot_of.Statement.{statement}
 use Rattle.source.proofs.directory.slot_of.Tie as tie
 use Rattle.source.proofs.directory.slot_of.Reads as reads
 use Rattle.source.proofs.directory.slot_of.Lts as lts
-use Rattle.picks.proofs.words.wide.Reads as wide-reads
+use Rattle.words.proofs.wide.Reads as wide-reads
 use Prim.Native.Nat.{_+_, _-_}
 use Rattle.source.proofs.DirectoryLaws.{Passed, pass-start, pass-next, slot-here, slot-none}
 use native.Mathlib.Omega.{arith}

@@ -4,7 +4,7 @@ use Rattle.source.proofs.directory.table_of.Tie as tie
 use Rattle.source.proofs.directory.table_of.Reads as reads
 use Rattle.source.proofs.directory.table_of.Lts as lts
 use Rattle.picks.proofs.table.empty.Reads as empty-reads
-use Rattle.picks.proofs.words.wide.Reads as wide-reads
+use Rattle.words.proofs.wide.Reads as wide-reads
 use mathlib.Core.Path.{_≡_}
 use Prim.Native.Nat.{_≤_, _-_}
 use denote.Ref.{now}

@@ -3,13 +3,13 @@ use Rattle.source.proofs.group.index_all.Statement.{statement}
 use Rattle.source.proofs.group.index_all.Tie as tie
 use Rattle.source.proofs.group.index_all.Reads as reads
 use Rattle.source.proofs.group.index_all.Lts as lts
-use Rattle.picks.proofs.words.wide.Reads as wide-reads
+use Rattle.words.proofs.wide.Reads as wide-reads
 use Rattle.source.proofs.group.index_one.Reads as index-one-reads
 use Prim.Native.Nat.{_≤_, _<_, _-_, _/_}
-use Rattle.picks.specs.Words.{Outside}
+use Rattle.words.specs.Words.{Outside}
 use Rattle.source.specs.Directory.{size}
 use Rattle.source.specs.Sourced.{Indexing}
-use Rattle.picks.proofs.WordLaws.{stays, stays-on}
+use Rattle.words.proofs.WordLaws.{stays, stays-on}
 use Rattle.source.proofs.GroupLaws.{indexing-start, indexing-more, all-grouped}
 use native.Mathlib.Omega.{arith}
 use borrow.Author.Needs.{needs}

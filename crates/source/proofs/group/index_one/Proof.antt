@@ -4,9 +4,9 @@ use Rattle.source.proofs.group.index_one.Statement.{statement}
 use Rattle.source.proofs.group.index_one.Tie as tie
 use Rattle.source.proofs.group.index_one.Reads as reads
 use Rattle.source.proofs.group.index_one.Lts as lts
-use Rattle.lookup.proofs.index.index.Reads as index-reads
+use Rattle.walks.proofs.index.index.Reads as index-reads
 use Rattle.lookup.proofs.rows.select.Reads as select-reads
-use Rattle.picks.proofs.words.wide.Reads as wide-reads
+use Rattle.words.proofs.wide.Reads as wide-reads
 use Rattle.source.proofs.group.part_of.Reads as part-of-reads
 use mathlib.Core.Path.{_∙_}
 use Prim.Native.Nat.{_+_, _-_}
@@ -14,7 +14,7 @@ use denote.Ref.{now}
 use lib.ListN.{take, drop, length-set, length-drop}
 use lib.Seq.{length-take-le}
 use Rattle.sheet.specs.Rows.{rows}
-use Rattle.lookup.specs.Index.{Indexed}
+use Rattle.walks.specs.Index.{Indexed}
 use Rattle.lookup.specs.Lookup.{sheetOf}
 use Rattle.source.specs.Directory.{groupPart, numberOf, rowOf, strideOf}
 use Rattle.source.proofs.GroupLaws.{grouped-none, grouped}

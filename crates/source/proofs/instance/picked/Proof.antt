@@ -4,8 +4,8 @@ use Rattle.source.proofs.instance.picked.Statement.{statement}
 use Rattle.source.proofs.instance.picked.Tie as tie
 use Rattle.source.proofs.instance.picked.Reads as reads
 use Rattle.source.proofs.instance.picked.Lts as lts
-use Rattle.picks.proofs.memo.fresh.Reads as fresh-reads
-use Rattle.picks.proofs.words.wide.Reads as wide-reads
+use Rattle.memo.proofs.fresh.Reads as fresh-reads
+use Rattle.words.proofs.wide.Reads as wide-reads
 use Rattle.source.proofs.directory.table_of.Reads as table-of-reads
 use Rattle.source.proofs.instance.kept.Reads as kept-reads
 use Rattle.source.proofs.instance.pick_row.Reads as pick-row-reads
@@ -15,7 +15,7 @@ use denote.Ref.{now}
 use Rattle.sheet.specs.Rows.{rows}
 use Rattle.sheet.specs.Parse.{externProtoOf}
 use Rattle.lookup.specs.Lookup.{documentAt, Looked}
-use Rattle.lookup.specs.Walk.{Below}
+use Rattle.walks.specs.Walk.{Below}
 use Rattle.source.proofs.InstanceLaws.{target-missing}
 use native.Mathlib.Omega.{arith}
 

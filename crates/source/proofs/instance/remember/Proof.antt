@@ -3,8 +3,8 @@ use Rattle.source.proofs.instance.remember.Statement.{statement}
 use Rattle.source.proofs.instance.remember.Tie as tie
 use Rattle.source.proofs.instance.remember.Reads as reads
 use Rattle.source.proofs.instance.remember.Lts as lts
-use Rattle.picks.proofs.memo.fresh.Reads as fresh-reads
-use Rattle.picks.proofs.words.wide.Reads as wide-reads
+use Rattle.memo.proofs.fresh.Reads as fresh-reads
+use Rattle.words.proofs.wide.Reads as wide-reads
 use Rattle.source.proofs.directory.table_of.Reads as table-of-reads
 use Rattle.source.proofs.instance.keep.Reads as keep-reads
 use Rattle.source.proofs.instance.pick_row.Reads as pick-row-reads
@@ -17,8 +17,8 @@ use lib.Seq.{length-take-le}
 use Rattle.sheet.specs.Rows.{rows}
 use Rattle.sheet.specs.Parse.{externProtoOf}
 use Rattle.lookup.specs.Lookup.{documentAt, Looked}
-use Rattle.lookup.specs.Walk.{Below}
-use Rattle.picks.proofs.WordLaws.{stays-front}
+use Rattle.walks.specs.Walk.{Below}
+use Rattle.words.proofs.WordLaws.{stays-front}
 use Rattle.source.proofs.SourcedLaws.{Adding, add-start, add-within, add-copy, add-more, added, small-of}
 use native.Mathlib.Omega.{arith}
 use borrow.Author.Needs.{needs}

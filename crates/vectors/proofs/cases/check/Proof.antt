@@ -4,7 +4,7 @@ use Rattle.vectors.proofs.cases.check.Statement.{statement}
 use Rattle.vectors.proofs.cases.check.Tie as tie
 use Rattle.vectors.proofs.cases.check.Reads as reads
 use Rattle.vectors.proofs.cases.check.Lts as lts
-use Rattle.sheet.proofs.check.Reads as check-reads
+use Rattle.checker.proofs.check.Reads as check-reads
 use Rattle.vectors.proofs.cases.form_of.Reads as form-of-reads
 use Rattle.vectors.proofs.cases.print_check.Reads as print-check-reads
 use Rattle.vectors.proofs.frame.rows.Reads as rows-reads

@@ -3,7 +3,7 @@ use Rattle.writer.proofs.externs.copy_part.Statement.{statement}
 use Rattle.writer.proofs.externs.copy_part.Tie as tie
 use Rattle.writer.proofs.externs.copy_part.Reads as reads
 use Rattle.writer.proofs.externs.copy_part.Lts as lts
-use Rattle.lookup.proofs.walk.seek.Reads as seek-reads
+use Rattle.walks.proofs.walk.seek.Reads as seek-reads
 use Rattle.sheet.proofs.row.row_at.Reads as row-at-reads
 use Rattle.writer.proofs.externs.declared.Reads as declared-reads
 use Rattle.writer.proofs.rows.put.Reads as put-reads
@@ -13,7 +13,7 @@ use denote.Ref.{now}
 use lib.ListN.{length}
 use Rattle.sheet.specs.Rows.{rows}
 use Rattle.sheet.proofs.RowLaws.{rows-length}
-use Rattle.lookup.proofs.WalkLaws.{stands, missing}
+use Rattle.walks.proofs.WalkLaws.{stands, missing}
 use Rattle.writer.proofs.ExternRows.{Copying, copy-begin, copy-room, copy-again, copy-stop}
 use borrow.Author.Needs.{needs}
 

@@ -1,0 +1,2 @@
+pub mod RoleLaws
+pub mod RunLaws

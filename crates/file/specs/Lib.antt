@@ -1,0 +1,2 @@
+pub mod PickIn
+pub mod File
