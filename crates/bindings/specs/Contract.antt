@@ -8,14 +8,14 @@ use Rattle.ast.specs.Ast.{FieldValue, FieldBinding, Field, InterfaceDecl}
 use Rattle.ast.specs.Choice.{andThen}
 use Rattle.sheet.specs.declared.row.Row.{Row}
 use Rattle.sheet.specs.Parse.{optional}
-use Rattle.expansion.specs.State.{_>>=_, _>>_, lookup}
+use Rattle.expansion.specs.State.{_>>=_, _>>_}
 use Rattle.expansion.specs.Charges.{charge}
 use Rattle.expansion.specs.Values.{Copier, valueOf, clone}
 use Rattle.expansion.specs.PlainCopy.{associate, isValue, withValue, copyField, interfaceWith, copyInterface, somes}
 use Rattle.expansion.specs.Instances.{cloneOption, store, recordInstance}
 use Rattle.journal.specs.declared.Record.{Record}
 use Rattle.journal.specs.Records.{tagId, tagField, tagInterface, tagStored, tagRoute, cell}
-use Rattle.reading.specs.Reading.{valueAt, fieldsAt, interfacesAt, valuesAt, mapOf, bodyOf}
+use Rattle.reading.specs.Reading.{valueAt, fieldsAt, interfacesAt, valuesAt, bodyOf}
 use Rattle.reading.specs.Fair.{HandleAt, NodeAt}
 use Rattle.reading.specs.Calm.{Calm, Unrecorded}
 use Rattle.refine.specs.declared.Limits.{Limits}

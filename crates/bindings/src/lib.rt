@@ -2,13 +2,13 @@
 use journal;
 use journal::Found;
 use journal::Record;
-use journal::wide;
 use refine;
 use refine::Answer;
 use refine::Counts;
 use refine::Env;
 use refine::Limits;
 use sheet::row::Row;
+use words::wide;
 ghost use mathlib.Core.Path.{_≡_};
 ghost use Prim.Native.Nat.{_≤_};
 ghost use Rattle.ast.specs.Choice.{orElse};

@@ -1,8 +1,8 @@
 -- Refusals 1 to 3: what the definition answers, one test after another.
-use mathlib.Core.Path.{_≡_, refl, sym, ap, _∙_}
+use mathlib.Core.Path.{_≡_, ap}
 use mathlib.Core.Bool.{Bool, true, false, _||_}
 use mathlib.Core.List.{List, [], _∷_}
-use Prim.Native.Nat.{ℕ, suc, _+_, _/_, _≤_, _<_}
+use Prim.Native.Nat.{ℕ, suc, _+_, _/_, _≤_}
 use native.Mathlib.Omega.{arith}
 use lib.ListN.{length}
 use Rattle.ast.specs.Choice.{choose}
@@ -17,14 +17,13 @@ use Rattle.checker.specs.declared.grammar.Form.the-variants as form
 use Rattle.sheet.specs.Rows.{rows}
 use Rattle.checker.specs.Grammar.{hasEnded, fits, goOn, run, checked}
 use Rattle.sheet.proofs.RowLaws.{rows-length}
-use Rattle.expansion.specs.Expand.{Answer, expand}
-use Rattle.operation.specs.Operation.{Call, After, overCaps, tooShort, wrongLength, refuseIf, refuseBad, input, outcome, after, expandWords}
-use Rattle.operation.specs.Promises.{Words, Sheet, Sheets, Promises}
+use Rattle.operation.specs.Operation.{Call, overCaps, tooShort, wrongLength, outcome, expandWords}
+use Rattle.operation.specs.Promises.{Words, Promises}
 use Rattle.operation.proofs.Tests.{room-if, sheets-if}
 use Rattle.operation.proofs.Promised.{promises}
 use Rattle.call.specs.declared.Outcome.{Outcome}
-use Rattle.call.specs.declared.Outcome.the-variants.{Expanded, Refused}
-use Rattle.call.specs.Calls.{limitsOf, numbersOf, afterOf, Says, Demand1, Demand3, Allowed, Ran}
+use Rattle.call.specs.declared.Outcome.the-variants.{Refused}
+use Rattle.call.specs.Calls.{afterOf, Says, Demand1, Demand3, Allowed, Ran}
 
 -- ---- a row that doesn't fit is a row of the sheet, or its end
 no-fits : {n : ℕ} → Fits ≡ Bad n → ⊥

@@ -4,30 +4,25 @@ use mathlib.Core.List.{List}
 use Prim.Native.Nat.{ℕ, _+_, _*_, _≤_}
 use native.Mathlib.Omega.{arith}
 use lib.ListN.{length, length-map}
-use Rattle.sheet.specs.Rows.{rows, words, front}
+use Rattle.sheet.specs.Rows.{rows, words}
 use Rattle.sheet.specs.Parse.{documentOf}
 use Rattle.sheet.specs.Print.{documentRows}
-use Rattle.expansion.specs.Input.{Input}
-use Rattle.expansion.specs.State.{State, Result, refusal, ok, start}
 use Rattle.ast.specs.Ast.{Document}
 use Rattle.sheet.specs.declared.row.Row.{Row}
-use Rattle.expansion.specs.Expand.{ledgerEntry, Expansion, Answer, output, expansion, answer, statements, expand}
+use Rattle.expansion.specs.Expand.{ledgerEntry, Expansion, Answer, expansion, answer, expand}
 use Rattle.expansion.specs.Expanded.{Expanded as Holds}
 use Rattle.expansion.specs.Proofs.Demand.{demand-3}
 use Rattle.output.proofs.Output.{row-count}
-use Rattle.operation.specs.Operation.{Call, After, input, over, after}
-use Rattle.operation.specs.Promises.{Room, Sheets}
-use Rattle.journal.specs.Records.{tagStatement}
-use Rattle.reading.specs.Reading.{nodesOf, ledgerOf, scopesOf, statementsAt, stateOf}
-use Rattle.reading.specs.Fair.{HandleAt}
+use Rattle.operation.specs.Operation.{Call, input, over}
+use Rattle.reading.specs.Reading.{nodesOf, ledgerOf, scopesOf, statementsAt}
 use Rattle.reading.proofs.Nodes.{nodes-length}
 use Rattle.reading.proofs.States.{scopes-length}
 use Rattle.source.specs.Sourced.{Fit, Prepared}
 use Rattle.refine.specs.declared.Limits.{Limits}
 use Rattle.refine.specs.declared.Counts.{Counts}
 use Rattle.refine.specs.declared.Answer.the-variants as answered
-use Rattle.refine.specs.Sound.{Source, inputOf, Sound, Later}
-use Rattle.refine.specs.Does.{at, resultOf}
+use Rattle.refine.specs.Sound.{Source, Sound}
+use Rattle.refine.specs.Does.{at}
 use Rattle.refine.proofs.Beginning.{sound-none}
 use Rattle.parts.specs.Contract.{sourceOf}
 use Rattle.cycle.specs.Contract.{Blank, Topped}

@@ -1,5 +1,5 @@
 -- One step of the check, at a place of the sheet.
-use mathlib.Core.Path.{_≡_, refl, sym, ap, _∙_}
+use mathlib.Core.Path.{_≡_, sym, ap, _∙_}
 use mathlib.Core.List.{List, [], _∷_}
 use Rattle.checker.specs.declared.grammar.Form.{Form}
 use Prim.Native.Nat.{ℕ, zero, suc, _+_, _≤_, _<_}
@@ -10,7 +10,6 @@ use Rattle.sheet.specs.declared.row.Row.{Row}
 use Rattle.checker.specs.declared.grammar.State.{State}
 use Rattle.checker.specs.declared.grammar.Next.{Next}
 use Rattle.checker.specs.declared.grammar.Next.the-variants.{Go, No}
-use Rattle.checker.specs.declared.Checked.{Checked}
 use Rattle.checker.specs.declared.Checked.the-variants.{Fits, Bad}
 use Rattle.sheet.specs.Rows.{blank}
 use Rattle.ast.specs.Choice.{choose}

@@ -1,10 +1,10 @@
 -- `copy`: a mapped id answers its copy; else 5; else 9 where no depth is left; else a plain copy or an instance.
 use mathlib.Core.Path.{_≡_, refl, sym, ap, _∙_}
 use mathlib.Core.List.{List, [], _∷_}
-use mathlib.Core.Option.{Option, none, some}
-use Prim.Native.Nat.{ℕ, zero, suc, _-_, _≤_, _<_}
+use mathlib.Core.Option.{none, some}
+use Prim.Native.Nat.{ℕ, zero, suc, _-_}
 use native.Mathlib.Omega.{arith}
-use lib.ListN.{length, drop, getD}
+use lib.ListN.{getD}
 use Rattle.ast.specs.Ast.{NodeOrigin, Node}
 use Rattle.ast.specs.Choice.{mapO}
 use Rattle.ast.specs.Lookups.{nodeAt}
@@ -22,14 +22,13 @@ use Rattle.source.specs.declared.instance.Target.{Target}
 use Rattle.source.specs.declared.instance.Target.the-variants.{Plain, Of}
 use Rattle.source.specs.Instance.{pickIn, originFrom, instanceIn, targetOf, Targeted}
 use Rattle.expansion.specs.Input.{Input, docs, pickOf, protoOf}
-use Rattle.expansion.specs.State.{State, Comp, refusal, ok, ret, fail, lookup}
+use Rattle.expansion.specs.State.{Comp, refusal, ok, ret, fail, lookup}
 use Rattle.expansion.specs.Values.{Env, src}
 use Rattle.expansion.specs.Copy.{copyNode, mappedOr, copy}
 use Rattle.journal.specs.declared.Found.{Found}
 use Rattle.journal.specs.declared.Found.the-variants.{At, Nothing}
 use Rattle.journal.specs.Records.{cell}
 use Rattle.reading.specs.Reading.{mapOf}
-use Rattle.reading.specs.Fair.{NodeAt}
 use Rattle.refine.specs.declared.Limits.{Limits}
 use Rattle.refine.specs.declared.Counts.{Counts}
 use Rattle.refine.specs.declared.Env as code
@@ -39,8 +38,8 @@ use Rattle.refine.specs.Sound.{inputOf, envOf}
 use Rattle.refine.specs.Does.{at}
 use Rattle.refine.specs.Contract.{Looked}
 use Rattle.parts.specs.Contract.{sourceOf, rowsOf, nodeIn}
-use Rattle.cycle.specs.Contract.{Here, AtRow, Yields, Placed, Copied, Plained, Instanced}
-use Rattle.cycle.proofs.Run.{Run, begin, turn, end, refuse, yields-as}
+use Rattle.cycle.specs.Contract.{Here, AtRow, Copied, Plained, Instanced}
+use Rattle.cycle.proofs.Run.{begin, turn, end, refuse, yields-as}
 
 -- the source and the definition say the same of a node's origin
 pub instance-is : (I : Input) (d : ℕ) (o : NodeOrigin) → instanceIn (I .root) (I .library) d o ≡ protoOf I d o

@@ -1,30 +1,26 @@
 -- `fields` and `field`.
 use mathlib.Core.Path.{_≡_, refl, sym, ap, subst, _∙_}
-use mathlib.Core.Bool.{Bool, true, false}
-use mathlib.Core.List.{List, [], _∷_, _++_, map}
+use mathlib.Core.Bool.{true, false}
+use mathlib.Core.List.{List, [], _∷_, _++_}
 use mathlib.Core.Option.{Option, none, some}
-use Prim.Native.Nat.{ℕ, _+_, _≤_, _<_}
+use Prim.Native.Nat.{ℕ, _+_}
 use native.Mathlib.Omega.{arith}
-use lib.ListN.{length, drop, getD}
-use lib.Dec.{eqb}
+use lib.ListN.{drop, getD}
 use borrow.Author.Tests.{eq-eqb, ne-eqb}
-use Rattle.ast.specs.Choice.{choose}
-use Rattle.ast.specs.Ast.{FieldData, FieldValue, FieldBinding, Field}
+use Rattle.ast.specs.Ast.{FieldValue, FieldBinding, Field}
 use Rattle.sheet.specs.declared.row.Row.{Row}
 use Rattle.sheet.specs.declared.part.Part.the-variants.{Fields}
-use Rattle.sheet.specs.Rows.{rows, blank, front, rest}
+use Rattle.sheet.specs.Rows.{blank, front}
 use Rattle.sheet.specs.Parse.{elements, valueOf, fieldOf, fieldsOf, nodeOf}
 use Rattle.walks.specs.Walk.{Stands}
 use Rattle.walks.proofs.WalkLaws.{front-drop}
 use Rattle.expansion.specs.Input.{Input}
-use Rattle.expansion.specs.State.{State, Result, refusal, ok, Comp, bindR, _>>=_, _>>_, ret, mapM}
-use Rattle.expansion.specs.Charges.{charge, paid}
+use Rattle.expansion.specs.State.{Comp, _>>=_, _>>_, ret, mapM}
 use Rattle.expansion.specs.Values.{Env, value}
-use Rattle.expansion.specs.PlainCopy.{isValue, copyField, copyBinding, somes, withValue}
+use Rattle.expansion.specs.PlainCopy.{isValue, copyField, copyBinding, somes}
 use Rattle.expansion.specs.Copy.{copy}
 use Rattle.journal.specs.Records.{tagId, tagField}
-use Rattle.journal.specs.Logs.{scan, revOnto}
-use Rattle.reading.specs.Reading.{fieldsAt, valueAt}
+use Rattle.reading.specs.Reading.{fieldsAt}
 use Rattle.reading.specs.Fair.{HandleAt}
 use Rattle.reading.proofs.Chains.{fields-none, fields-fixed}
 use Rattle.refine.specs.declared.Limits.{Limits}
@@ -32,16 +28,16 @@ use Rattle.refine.specs.declared.Counts.{Counts}
 use Rattle.refine.specs.declared.Env as code
 use Rattle.refine.specs.declared.Answer.{Answer}
 use Rattle.refine.specs.declared.Answer.the-variants.{Done, Refused}
-use Rattle.refine.specs.Sound.{inputOf, EnvAt, envOf}
+use Rattle.refine.specs.Sound.{inputOf, envOf}
 use Rattle.refine.specs.Does.{at, IfDone}
-use Rattle.refine.specs.Contract.{Keepable, KeptAt, Kept}
+use Rattle.refine.specs.Contract.{Keepable, Kept}
 use Rattle.refine.proofs.Later.{env-later, later-handle}
 use Rattle.refine.proofs.Keeping.{kept-handle, kept-fields}
 use Rattle.parts.specs.Contract.{sourceOf, rowsOf, nodeIn}
 use Rattle.parts.proofs.Said.{somes-more}
 use Rattle.bindings.specs.Contract.{isFieldOf, boundField, FieldsAfter, FieldDone}
-use Rattle.cycle.specs.Contract.{fieldRecord, Here, Yields, Value, Added, list, AddsField, FieldAdded, Fielded, Valued}
-use Rattle.cycle.proofs.Run.{Run, begin, turn, last, end, went, gave, leaf, yields-young, yields-as, since, here-later}
+use Rattle.cycle.specs.Contract.{fieldRecord, Here, Yields, Value, list, AddsField, FieldAdded, Fielded, Valued}
+use Rattle.cycle.proofs.Run.{begin, last, end, went, gave, leaf, yields-as, since, here-later}
 use Rattle.cycle.proofs.Keeps.{charged, paid-then, keeping, keeping-stop}
 use Rattle.cycle.proofs.Walks.{Mapping, loop-start, loop-again, loop-stop, loop-end}
 

@@ -1,31 +1,30 @@
 -- `interfaces` and `interface`.
-use mathlib.Core.Path.{_≡_, refl, sym, ap, subst, _∙_}
+use mathlib.Core.Path.{_≡_, refl, sym, subst, _∙_}
 use mathlib.Core.Bool.{Bool, true, false}
-use mathlib.Core.List.{List, [], _∷_, _++_, map}
+use mathlib.Core.List.{List, [], _∷_}
 use mathlib.Core.Option.{Option, none, some}
-use Prim.Native.Nat.{ℕ, _+_, _≤_, _<_}
+use Prim.Native.Nat.{ℕ, _+_}
 use native.Mathlib.Omega.{arith}
-use lib.ListN.{length, drop, getD}
+use lib.ListN.{drop, getD}
 use lib.Dec.{eqb}
 use borrow.Author.Tests.{eq-eqb, ne-eqb, eqb-true}
 use Rattle.ast.specs.Choice.{choose}
-use Rattle.ast.specs.Ast.{FieldData, FieldValue, InterfaceDecl}
+use Rattle.ast.specs.Ast.{FieldValue, InterfaceDecl}
 use Rattle.sheet.specs.declared.row.Row.{Row}
 use Rattle.sheet.specs.declared.part.Part.the-variants.{Interfaces}
-use Rattle.sheet.specs.Rows.{none#, rows, blank, front, rest}
-use Rattle.sheet.specs.Parse.{elements, optional, valueOf, interfaceOf, interfacesOf, nodeOf}
+use Rattle.sheet.specs.Rows.{none#, blank, front}
+use Rattle.sheet.specs.Parse.{elements, valueOf, interfaceOf, interfacesOf, nodeOf}
 use Rattle.walks.specs.Walk.{Stands}
 use Rattle.walks.proofs.WalkLaws.{front-drop}
 use Rattle.expansion.specs.Input.{Input}
 use Rattle.expansion.specs.State.{State, Result, refusal, ok, Comp, bindR, _>>=_, _>>_, ret, mapM}
 use Rattle.expansion.specs.Charges.{charge, paid}
 use Rattle.expansion.specs.Values.{Env, copyData, value}
-use Rattle.expansion.specs.PlainCopy.{isValue, interfaceWith, copyTarget, copyInterface}
+use Rattle.expansion.specs.PlainCopy.{isValue, copyTarget, copyInterface}
 use Rattle.expansion.specs.Copy.{copy}
 use Rattle.journal.specs.declared.Record.{Record}
 use Rattle.journal.specs.Records.{tagId, tagInterface}
-use Rattle.journal.specs.Logs.{scan, revOnto}
-use Rattle.reading.specs.Reading.{interfacesAt, valueAt}
+use Rattle.reading.specs.Reading.{interfacesAt}
 use Rattle.reading.specs.Fair.{HandleAt}
 use Rattle.reading.proofs.Chains.{interfaces-none, interfaces-fixed}
 use Rattle.refine.specs.declared.Limits.{Limits}
@@ -33,15 +32,15 @@ use Rattle.refine.specs.declared.Counts.{Counts}
 use Rattle.refine.specs.declared.Env as code
 use Rattle.refine.specs.declared.Answer.{Answer}
 use Rattle.refine.specs.declared.Answer.the-variants.{Done, Refused}
-use Rattle.refine.specs.Sound.{inputOf, EnvAt, envOf}
+use Rattle.refine.specs.Sound.{inputOf, envOf}
 use Rattle.refine.specs.Does.{at, IfDone}
-use Rattle.refine.specs.Contract.{Keepable, KeptAt, Kept}
+use Rattle.refine.specs.Contract.{Keepable, Kept}
 use Rattle.refine.proofs.Later.{env-later, later-handle}
 use Rattle.refine.proofs.Keeping.{kept-handle, kept-interfaces}
 use Rattle.parts.specs.Contract.{sourceOf, rowsOf, nodeIn}
 use Rattle.bindings.specs.Contract.{isInterfaceOf, boundInterface, InterfacesAfter, InterfaceDone}
-use Rattle.cycle.specs.Contract.{Here, Yields, Value, Added, one, AddsInterface, InterfaceAdded, Interfaced, Valued}
-use Rattle.cycle.proofs.Run.{Run, begin, turn, last, end, went, gave, leaf, yields-young, yields-as, since, here-later}
+use Rattle.cycle.specs.Contract.{Here, Yields, AddsInterface, InterfaceAdded, Interfaced, Valued}
+use Rattle.cycle.proofs.Run.{begin, last, end, went, gave, leaf, yields-as, since, here-later}
 use Rattle.cycle.proofs.Keeps.{charged, keeping, keeping-stop}
 use Rattle.cycle.proofs.Walks.{Mapping, loop-start, loop-again, loop-stop, loop-end}
 

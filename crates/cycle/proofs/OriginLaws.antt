@@ -1,16 +1,16 @@
 -- `origin`, and what the readings of a slot's document rest on.
 use mathlib.Core.Path.{_≡_, refl, sym, _∙_}
 use mathlib.Core.List.{List, [], _∷_}
-use Prim.Native.Nat.{ℕ, zero, suc, _<_}
+use Prim.Native.Nat.{ℕ, zero, suc}
 use native.Mathlib.Omega.{arith}
-use lib.ListN.{length, drop, getD}
+use lib.ListN.{drop, getD}
 use Rattle.ast.specs.Ast.{NodeOrigin}
 use Rattle.sheet.specs.declared.row.Row.{Row}
 use Rattle.sheet.specs.Rows.{rows, blank, front}
 use Rattle.sheet.specs.Parse.{originOf}
 use Rattle.lookup.specs.Lookup.{sheetOf}
 use Rattle.walks.proofs.WalkLaws.{front-drop}
-use Rattle.source.specs.Directory.{numberOf, Slot}
+use Rattle.source.specs.Directory.{numberOf}
 use Rattle.expansion.specs.Input.{Input}
 use Rattle.expansion.specs.State.{State, ok, Comp, _>>=_, ret}
 use Rattle.expansion.specs.Values.{Env}
@@ -23,7 +23,7 @@ use Rattle.refine.specs.declared.Answer.{Answer}
 use Rattle.refine.specs.declared.Answer.the-variants.{Done, Refused}
 use Rattle.refine.specs.Sound.{inputOf, envOf}
 use Rattle.refine.specs.Does.{at, IfDone}
-use Rattle.parts.specs.Contract.{sourceOf, rowsOf, Lent, Declared}
+use Rattle.parts.specs.Contract.{sourceOf, rowsOf, Declared}
 use Rattle.cycle.specs.Contract.{Here, Yields, Is, Origined}
 use Rattle.cycle.proofs.Run.{Run, begin, turn, end, go, halt, leaf, gave}
 

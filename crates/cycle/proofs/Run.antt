@@ -1,22 +1,20 @@
 -- How a part is shown to yield what its piece of the definition gives: the steps of the calculus, for every D at once.
 use mathlib.Core.Path.{_≡_, refl, sym, ap, _∙_}
-use mathlib.Core.List.{List, [], _∷_, _++_}
-use Prim.Native.Nat.{ℕ, _≤_, _<_}
-use Rattle.source.specs.Directory.{numberOf, Slot}
+use mathlib.Core.List.{List, [], _∷_}
+use Prim.Native.Nat.{ℕ, _≤_}
 use Rattle.expansion.specs.Input.{Input}
-use Rattle.expansion.specs.State.{State, Comp, bindR, _>>=_, _>>_, ret, fail, mapM, foldM}
-use Rattle.expansion.specs.Charges.{charge, paid}
+use Rattle.expansion.specs.State.{Comp, _>>=_, _>>_, ret, fail}
 use Rattle.expansion.specs.Values.{Env, src}
 use Rattle.refine.specs.declared.Limits.{Limits}
 use Rattle.refine.specs.declared.Counts.{Counts}
 use Rattle.refine.specs.declared.Env as code
 use Rattle.refine.specs.declared.Answer.{Answer}
 use Rattle.refine.specs.declared.Answer.the-variants.{Done, Refused}
-use Rattle.refine.specs.Sound.{Source, inputOf, Sound, Standing, Later, EnvAt, envOf}
+use Rattle.refine.specs.Sound.{inputOf, Sound, Later}
 use Rattle.refine.specs.Does.{Decode, at, IfDone, Does, Doing}
 use Rattle.refine.proofs.Later.{later-standing, later-env, env-later}
 use Rattle.refine.proofs.Calculus as calculus
-use Rattle.parts.specs.Contract.{sourceOf, Lent}
+use Rattle.parts.specs.Contract.{sourceOf}
 use Rattle.parts.proofs.Lending.{lent-later}
 use Rattle.cycle.specs.Contract.{Here, Yields}
 

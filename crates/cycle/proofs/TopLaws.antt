@@ -1,7 +1,7 @@
 -- The top statements: one by its row, all of them, and the whole from nothing.
 use mathlib.Core.Path.{_≡_, refl, sym, ap, subst, _∙_}
-use mathlib.Core.Bool.{Bool, true, false}
-use mathlib.Core.List.{List, [], _∷_, _++_, map, append-nil}
+use mathlib.Core.Bool.{true, false}
+use mathlib.Core.List.{List, [], _∷_, _++_, append-nil}
 use mathlib.Core.Option.{Option, none, some}
 use Prim.Native.Nat.{ℕ, zero, suc, _+_, _≤_, _<_}
 use native.Mathlib.Omega.{arith}
@@ -9,15 +9,15 @@ use lib.ListN.{length, drop, getD}
 use Rattle.ast.specs.Ast.{Statement}
 use Rattle.sheet.specs.declared.row.Row.{Row}
 use Rattle.sheet.specs.declared.part.Part.the-variants.{Statements, Tops}
-use Rattle.sheet.specs.Rows.{rows, blank, front, rest}
+use Rattle.sheet.specs.Rows.{rows, blank, rest}
 use Rattle.sheet.specs.Parse.{elements, routeOf, statementOf, statementsOf, afterTop, documentOf}
 use Rattle.walks.specs.Walk.{Stands}
 use Rattle.walks.proofs.WalkLaws.{front-drop, rest-drop}
 use Rattle.source.specs.Directory.{numberOf}
 use Rattle.expansion.specs.Input.{Input}
 use Rattle.expansion.specs.Scopes.{Scope}
-use Rattle.expansion.specs.State.{State, Comp, Result, refusal, ok, bindR, _>>=_, _>>_, ret, mapM, start}
-use Rattle.expansion.specs.Charges.{charge, paid, oneMore}
+use Rattle.expansion.specs.State.{State, Comp, refusal, bindR, _>>=_, _>>_, ret, mapM, start}
+use Rattle.expansion.specs.Charges.{paid, oneMore}
 use Rattle.expansion.specs.Values.{Env, src}
 use Rattle.expansion.specs.PlainCopy.{somes}
 use Rattle.expansion.specs.Instances.{openScope}
@@ -34,9 +34,9 @@ use Rattle.refine.specs.declared.Counts.{Counts}
 use Rattle.refine.specs.declared.Env as code
 use Rattle.refine.specs.declared.Answer.{Answer}
 use Rattle.refine.specs.declared.Answer.the-variants.{Done, Refused}
-use Rattle.refine.specs.Sound.{Source, inputOf, nothingYet, Standing, Later, EnvAt, envOf}
+use Rattle.refine.specs.Sound.{Source, inputOf, nothingYet, Standing, Later, envOf}
 use Rattle.refine.specs.Does.{at, IfDone, Does, Doing}
-use Rattle.refine.specs.Contract.{Keepable, Kept, charged as counted, OpenedAt, Opened}
+use Rattle.refine.specs.Contract.{Keepable, Kept, OpenedAt, Opened}
 use Rattle.refine.proofs.Beginning.{state-none}
 use Rattle.refine.proofs.Charges.{charge-full, charge-some}
 use Rattle.refine.proofs.Cloning.{paid-later, paid-state}
@@ -44,12 +44,12 @@ use Rattle.refine.proofs.Later.{env-later, later-handle, later-standing}
 use Rattle.refine.proofs.Keeping.{kept-handle, kept-statements}
 use Rattle.refine.proofs.Opening.{open-env, env-open}
 use Rattle.refine.proofs.Calculus as calculus
-use Rattle.parts.specs.Contract.{sourceOf, Lent, statementAt, Stated, Routed, ExternStated}
+use Rattle.parts.specs.Contract.{sourceOf, statementAt, Stated, Routed, ExternStated}
 use Rattle.parts.proofs.Lending.{lent-later}
 use Rattle.parts.proofs.Said.{said-same}
 use Rattle.source.proofs.SourcedLaws.{slot-root, number-root}
-use Rattle.cycle.specs.Contract.{Here, Yields, Added, list, AddsStatement, Copied, StatementAdded, Tops as AllTops, TopsOf, Blank, Topped}
-use Rattle.cycle.proofs.Run.{Run, begin, turn, last, end, went, gave, leaf, yields-as, since, here-later}
+use Rattle.cycle.specs.Contract.{Here, Yields, list, AddsStatement, Copied, StatementAdded, Tops as AllTops, TopsOf, Blank, Topped}
+use Rattle.cycle.proofs.Run.{begin, turn, last, end, went, gave, leaf, yields-as, since, here-later}
 use Rattle.cycle.proofs.Keeps.{charged, paid-then, keeping, keeping-stop}
 use Rattle.cycle.proofs.Walks.{Mapping, loop-start, loop-again, loop-stop, loop-end}
 use Rattle.cycle.proofs.FieldLaws.{somes-last}

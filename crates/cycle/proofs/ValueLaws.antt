@@ -1,29 +1,27 @@
 -- `value`: a payload, or the copies of ids, each behind a charge.
 use mathlib.Core.Path.{_≡_, refl, sym, ap, subst, _∙_}
-use mathlib.Core.Bool.{Bool, true, false}
-use mathlib.Core.List.{List, [], _∷_, _++_}
-use Prim.Native.Nat.{ℕ, _+_, _≤_, _<_}
+use mathlib.Core.Bool.{true, false}
+use mathlib.Core.List.{List, [], _∷_}
+use Prim.Native.Nat.{ℕ, _+_}
 use native.Mathlib.Omega.{arith}
-use lib.ListN.{length, drop, getD}
+use lib.ListN.{drop, getD}
 use lib.Dec.{eqb}
 use borrow.Author.Tests.{eq-eqb, ne-eqb}
-use Rattle.ast.specs.Choice.{choose}
 use Rattle.ast.specs.Ast.{FieldData, FieldValue}
 use Rattle.sheet.specs.declared.row.Row.{Row}
 use Rattle.sheet.specs.declared.part.Part.the-variants.{Ids}
-use Rattle.sheet.specs.Rows.{rows, blank, front, rest}
+use Rattle.sheet.specs.Rows.{blank, front, rest}
 use Rattle.sheet.specs.Parse.{elements, idsOf, valueOf}
 use Rattle.walks.specs.Walk.{Stands}
 use Rattle.walks.proofs.WalkLaws.{front-drop}
 use Rattle.expansion.specs.Input.{Input}
-use Rattle.expansion.specs.State.{State, Result, refusal, ok, Comp, bindR, _>>=_, _>>_, ret, mapM}
-use Rattle.expansion.specs.Charges.{charge, paid}
+use Rattle.expansion.specs.State.{Result, refusal, ok, Comp, bindR, _>>=_, _>>_, ret, mapM}
+use Rattle.expansion.specs.Charges.{paid}
 use Rattle.expansion.specs.Values.{Env, copyData, value}
 use Rattle.expansion.specs.Copy.{copy}
 use Rattle.journal.specs.declared.Record.{Record}
 use Rattle.journal.specs.Records.{tagId}
-use Rattle.journal.specs.Logs.{scan, revOnto}
-use Rattle.reading.specs.Reading.{idsAt, valueAt}
+use Rattle.reading.specs.Reading.{idsAt}
 use Rattle.reading.specs.Fair.{HandleAt}
 use Rattle.reading.proofs.Chains.{ids-none, ids-fixed}
 use Rattle.refine.specs.declared.Limits.{Limits}
@@ -31,16 +29,16 @@ use Rattle.refine.specs.declared.Counts.{Counts}
 use Rattle.refine.specs.declared.Env as code
 use Rattle.refine.specs.declared.Answer.{Answer}
 use Rattle.refine.specs.declared.Answer.the-variants.{Done, Refused}
-use Rattle.refine.specs.Sound.{inputOf, EnvAt, envOf}
+use Rattle.refine.specs.Sound.{inputOf, envOf}
 use Rattle.refine.specs.Does.{at}
-use Rattle.refine.specs.Contract.{Keepable, KeptAt, Kept}
+use Rattle.refine.specs.Contract.{Keepable, Kept}
 use Rattle.refine.proofs.Later.{env-later, later-handle}
 use Rattle.refine.proofs.Keeping.{kept-handle, kept-ids}
 use Rattle.refine.proofs.Calculus as calculus
 use Rattle.parts.specs.Contract.{sourceOf, rowsOf}
-use Rattle.cycle.specs.Contract.{Here, Yields, Placed, Value, Added, one, Copied, Valued}
-use Rattle.cycle.proofs.Run.{Run, begin, turn, end, went, gave, yields-young, yields-as, since, here-later}
-use Rattle.cycle.proofs.Keeps.{charged, keeping, keeping-stop}
+use Rattle.cycle.specs.Contract.{Here, Yields, Added, one, Copied, Valued}
+use Rattle.cycle.proofs.Run.{begin, turn, end, went, gave, since, here-later}
+use Rattle.cycle.proofs.Keeps.{keeping, keeping-stop}
 use Rattle.cycle.proofs.Walks.{Mapping, loop-start, loop-again, loop-stop, loop-end}
 
 never : false ≡ true → ⊥

@@ -1,8 +1,8 @@
 -- The walk over a list of the sheet, each element copied by a step: what is left gives what the whole gives.
-use mathlib.Core.Path.{_≡_, refl, sym, ap, _∙_}
+use mathlib.Core.Path.{_≡_, sym, ap, _∙_}
 use mathlib.Core.Bool.{Bool, true, false}
 use mathlib.Core.List.{List, [], _∷_, _++_, map, append-nil, append-assoc}
-use Prim.Native.Nat.{ℕ, _+_, _*_, _/_, _≤_, _<_}
+use Prim.Native.Nat.{ℕ, _+_, _≤_}
 use native.Mathlib.Omega.{arith}
 use lib.ListN.{length, drop}
 use lib.Dec.{eqb}
@@ -13,10 +13,10 @@ use Rattle.sheet.specs.Rows.{rows, rest}
 use Rattle.sheet.specs.Parse.{elements}
 use Rattle.sheet.proofs.RowLaws.{rows-length}
 use Rattle.walks.specs.Walk.{Stands}
-use Rattle.walks.proofs.WalkLaws.{rest-drop, each-at, each-none}
+use Rattle.walks.proofs.WalkLaws.{rest-drop, each-at}
 use Rattle.source.specs.Directory.{numberOf}
 use Rattle.expansion.specs.Input.{Input}
-use Rattle.expansion.specs.State.{State, Comp, bindR, _>>=_, ret, mapM, foldM}
+use Rattle.expansion.specs.State.{Comp, bindR, _>>=_, ret, mapM}
 use Rattle.refine.specs.declared.Limits.{Limits}
 use Rattle.refine.specs.declared.Counts.{Counts}
 use Rattle.refine.specs.Sound.{inputOf}
@@ -26,9 +26,8 @@ use Rattle.parts.specs.Contract.{sourceOf, Lent, rowsOf}
 use Rattle.reading.specs.Fair.{HandleAt}
 use Rattle.refine.specs.declared.Answer.{Answer}
 use Rattle.refine.specs.declared.Answer.the-variants.{Done, Refused}
-use Rattle.refine.specs.Sound.{Sound}
 use Rattle.cycle.specs.Contract.{Yields, Added}
-use Rattle.cycle.proofs.Run.{Run, turn, go, halt, gave, yields-young, since}
+use Rattle.cycle.proofs.Run.{Run, turn, go, halt, gave, yields-young}
 
 -- a sheet is not long
 pub rows-few : {L : Limits} {root library dir w : List ℕ} → Lent L root library dir w → (slot : ℕ) → length (rowsOf root library dir slot) ≤ 1048576

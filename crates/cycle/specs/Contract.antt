@@ -1,17 +1,16 @@
 -- What the parts of the expander ask and give: each does what its piece of the definition does.
 use mathlib.Core.Path.{_≡_}
-use mathlib.Core.Bool.{Bool, true, false}
+use mathlib.Core.Bool.{true, false}
 use mathlib.Core.List.{List, [], _∷_, _++_}
 use mathlib.Core.Option.{Option, none, some}
-use Prim.Native.Nat.{ℕ, _+_, _*_, _≤_, _<_}
+use Prim.Native.Nat.{ℕ, _+_, _<_}
 use lib.ListN.{length, drop}
-use Rattle.ast.specs.Ast.{NodeOrigin, FieldValue, Field, InterfaceDecl, Statement, Node, ProtoDecl}
+use Rattle.ast.specs.Ast.{NodeOrigin, FieldValue, Field, InterfaceDecl, Statement}
 use Rattle.ast.specs.Lookups.{protoAt}
 use Rattle.sheet.specs.declared.row.Row.{Row}
 use Rattle.sheet.specs.Rows.{rows, front, rest}
 use Rattle.sheet.specs.Print.{row}
-use Rattle.sheet.specs.Parse.{valueOf, fieldOf, fieldsOf, interfaceOf, interfacesOf, statementOf, statementsOf, originOf, nodeOf}
-use Rattle.lookup.specs.Lookup.{sheetOf}
+use Rattle.sheet.specs.Parse.{valueOf, fieldOf, interfaceOf, interfacesOf, statementOf, statementsOf, originOf}
 use Rattle.source.specs.Directory.{numberOf, Slot}
 use Rattle.picks.specs.Picks.{Pick}
 use Rattle.expansion.specs.Input.{Input, docs, lastField}

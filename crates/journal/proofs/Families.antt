@@ -2,15 +2,14 @@
 use mathlib.Core.Path.{_≡_, refl, sym, _∙_}
 use mathlib.Core.List.{List}
 use mathlib.Core.Bool.{Bool, true, false}
-use Prim.Native.Nat.{ℕ, zero, suc, _+_, _*_, _-_, _<_, _≤_}
+use Prim.Native.Nat.{ℕ, zero, suc, _+_, _-_, _<_, _≤_}
 use native.Mathlib.Numerals.{add-one}
 use native.Mathlib.Omega.{arith}
-use lib.ListN.{length, getD}
 use lib.Dec.{eqb}
 use borrow.Author.Tests.{eqb-true, eqb-false}
 use Rattle.journal.specs.declared.Record.{Record}
-use Rattle.journal.specs.Records.{tagStored, tagScope, cell, stays, Same, Fixed, Holds, SetWord, Paid}
-use Rattle.journal.specs.Index.{keyed, Entered, Enterable, Indexed}
+use Rattle.journal.specs.Records.{tagStored, cell, stays, Same, Fixed, Holds, SetWord, Paid}
+use Rattle.journal.specs.Index.{Entered, Enterable, Indexed}
 use Rattle.journal.specs.Owned.{ownedBy, lastOwned, Appended}
 use Rattle.journal.specs.Families.{First, Families, Behind, Joins, Joinable, joined, Joined}
 use Rattle.journal.proofs.Cells.{set-cell}

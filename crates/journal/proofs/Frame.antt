@@ -8,10 +8,10 @@ use native.Mathlib.Omega.{arith}
 use lib.Dec.{eqb}
 use borrow.Author.Tests.{ne-eqb}
 use Rattle.ast.specs.Choice.{choose}
-use Rattle.journal.specs.Records.{tagPaid, tagNode, tagScope, tagRoute, tagStored, cell, stays, Same, Steady, Fixed, SetWord, Paid}
+use Rattle.journal.specs.Records.{tagNode, tagScope, tagRoute, tagStored, cell, stays, Same, Steady, Fixed, SetWord}
 use Rattle.journal.specs.Logs.{lastOf, newestOf, countOf, scan, logUp, logDown, only}
 use Rattle.journal.proofs.Cells.{set-cell}
-use Rattle.journal.proofs.Lists.{last-same, newest-same, newest-here, newest-other, newest-span, count-same, count-here, count-other, count-span, scan-same, scan-low, scan-push, up-same, down-same, up-one, down-one, only-here, only-other, up-span, down-span}
+use Rattle.journal.proofs.Lists.{last-same, newest-same, newest-here, newest-other, count-same, count-here, count-other, scan-same, scan-low, scan-push, up-same, down-same, up-one, down-one, only-here, only-other}
 
 -- ---- how many words stay, by the tag
 -- what holds of each number of words holds of that of any tag
@@ -66,15 +66,6 @@ pub steady-trans : {r : ℕ} {w w′ w″ : List ℕ} → Steady r w w′ → St
 steady-trans s t = record { keeps = λ j lj. t .keeps j (rw (steady-tag s) lj) ∙ s .keeps j lj }
 
 -- ---- all records below a place
-pub same-refl : (c : ℕ) (w : List ℕ) → Same c w w
-same-refl c w = record { keeps = λ r j lr lj. refl }
-
-pub same-trans : {c c′ : ℕ} {w w′ w″ : List ℕ} → c ≤ c′ → Same c w w′ → Same c′ w′ w″ → Same c w w″
-same-trans le s t = record { keeps = λ r j lr lj. t .keeps r j (omega arith) lj ∙ s .keeps r j lr lj }
-
-pub same-less : {c c′ : ℕ} {w w′ : List ℕ} → c ≤ c′ → Same c′ w w′ → Same c w w′
-same-less le s = record { keeps = λ r j lr lj. s .keeps r j (omega arith) lj }
-
 pub same-fixed : {c : ℕ} {w w′ : List ℕ} → Same c w w′ → Fixed c w w′
 same-fixed {c} {w} s = record { steady = λ r lr. record { keeps = λ j lj. s .keeps r j lr (omega (arith, stays-most (cell w r 0))) } }
 
@@ -104,9 +95,6 @@ pub record Stable {A : Type 0} (g : List ℕ → ℕ → A) : Type 0 where
 pub record StableOn {A : Type 0} (p : List ℕ → ℕ → Bool) (g : List ℕ → ℕ → A) : Type 0 where
   pub same : (r : ℕ) (w w′ : List ℕ) → Steady r w w′ → p w r ≡ true → g w′ r ≡ g w r
 
-pub stable-word : (j : ℕ) → j < 3 → Stable (λ w r. cell w r j)
-stable-word j lj = record { same = λ r w w′ s. steady-first s j lj }
-
 module _ {A : Type 0} {p : List ℕ → ℕ → Bool} {d : List ℕ → ℕ → A} (sp : Stable p) (sd : StableOn p d) where
   pub stable-only : Stable (λ w. only (p w) (d w))
   unfolding only
@@ -115,14 +103,6 @@ module _ {A : Type 0} {p : List ℕ → ℕ → Bool} {d : List ℕ → ℕ → 
       by : (t : Bool) (x y : A) → (t ≡ true → x ≡ y) → _≡_ {A = List A} (choose t (x ∷ []) []) (choose t (y ∷ []) [])
       by true x y h = rw (h refl)
       by false x y h = refl
-
--- a word that is read only where a test passes
-pub stable-guard : {A : Type 0} {p : List ℕ → ℕ → Bool} {g : List ℕ → ℕ → A} (z : A) → Stable p → StableOn p g → Stable (λ w r. choose (p w r) (g w r) z)
-stable-guard {A} {p} {g} z sp sg = record { same = λ r w w′ s. rw (sp .same r w w′ s) (by (p w r) (g w′ r) (g w r) (sg .same r w w′ s)) }
-  where
-    by : (t : Bool) (x y : A) → (t ≡ true → x ≡ y) → choose t x z ≡ choose t y z
-    by true x y h = h refl
-    by false x y h = refl
 
 module _ {c : ℕ} {w w′ : List ℕ} (f : Fixed c w w′) where
   pub last-fixed : (p : List ℕ → ℕ → Bool) → Stable p → lastOf (p w′) c ≡ lastOf (p w) c
@@ -186,18 +166,3 @@ module _ {c : ℕ} {w w′ : List ℕ} (f : Fixed c w w′) where
 
       pub chain-new : (h : ℕ) → prev w′ c ≡ h → h ≤ c → scan (d w′) (prev w′) (c + 1) (c + 1) ≡ d w′ c ∷ scan (d w) (prev w) h h
       chain-new h e le = scan-push (d w′) (prev w′) c ∙ rw (e, scan-low (d w′) (prev w′) c h le, chain-fixed h le)
-
--- charges that keep nothing
-module _ {w w′ : List ℕ} {c n : ℕ} (q : Paid w w′ c n) (p : List ℕ → ℕ → Bool) (s : Stable p) (none : (r : ℕ) → cell w′ r 0 ≡ tagPaid → p w′ r ≡ false) where
-  pub newest-paid : newestOf (p w′) (c + n) ≡ newestOf (p w) c
-  newest-paid = newest-span (p w′) c n (λ r l h. none r (q .tags r l h)) ∙ newest-fixed (same-fixed (q .same)) p s
-
-  pub count-paid : countOf (p w′) (c + n) ≡ countOf (p w) c
-  count-paid = count-span (p w′) c n (λ r l h. none r (q .tags r l h)) ∙ count-fixed (same-fixed (q .same)) p s
-
-module _ {A : Type 0} {w w′ : List ℕ} {c n : ℕ} (p : Paid w w′ c n) (g : List ℕ → ℕ → List A) (s : Stable g) (none : (r : ℕ) → cell w′ r 0 ≡ tagPaid → g w′ r ≡ []) where
-  pub up-paid : logUp (g w′) (c + n) ≡ logUp (g w) c
-  up-paid = up-span (g w′) c n (λ r l h. none r (p .tags r l h)) ∙ up-fixed (same-fixed (p .same)) g s
-
-  pub down-paid : logDown (g w′) (c + n) ≡ logDown (g w) c
-  down-paid = down-span (g w′) c n (λ r l h. none r (p .tags r l h)) ∙ down-fixed (same-fixed (p .same)) g s

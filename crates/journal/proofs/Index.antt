@@ -50,9 +50,6 @@ module _ {w w′ : List ℕ} {at slots c : ℕ} (f : Fixed c w w′) (ix : Index
   index-keep h = record { some = ix .some; few = ix .few; heads = λ b lb. heads-kept b lb (h b lb); links = links-kept; slotted = slots-kept }
 
 -- ---- a count written otherwise
-pub index-at : {w : List ℕ} {at slots c c′ : ℕ} → c ≡ c′ → Indexed w at slots c → Indexed w at slots c′
-index-at e ix = rw (← e) ix
-
 -- ---- one record more that is not keyed
 pub index-step : {w : List ℕ} {at slots c : ℕ} → Indexed w at slots c → keyed (cell w c 0) ≡ false → Indexed w at slots (c + 1)
 index-step {w} {at} {slots} {c} ix e = record {
@@ -94,12 +91,6 @@ index-paid {w} {w′} {at} {slots} {c} {n} p l ix = over n (omega arith)
         rw z (index-step (over k (omega arith)) (rw (p .tags (c + k) (omega arith) (omega arith))))
 
 -- ---- room for fewer records, and in a slice as long
-pub room-less : {w : List ℕ} {at slots c k : ℕ} → c ≤ k → Room w at slots k → Room w at slots c
-room-less le r = record { records = omega (arith, r .records); heads = r .heads; narrow = omega (arith, r .narrow) }
-
-pub room-same : {w w′ : List ℕ} {at slots c : ℕ} → length w′ ≡ length w → Room w at slots c → Room w′ at slots c
-room-same e r = record { records = r .records; heads = rw e (r .heads); narrow = r .narrow }
-
 -- ---- a keyed record
 module _ (w : List ℕ) (at slots c : ℕ) (r : Record) (room : Room w at slots (c + 1)) (ix : Indexed w at slots c) (key : keyed (r .tag) ≡ true) (b : ℕ) (sl : Slotted slots (r .a) (r .b) b)
     (q : ℕ) (hd : q ≡ headed w b c (getD w (at + b) 0)) (w1 : List ℕ) (len : length w1 ≡ length w) (pu : Pushed w w1 c (linked r q b)) where

@@ -15,7 +15,7 @@ use Rattle.journal.specs.Logs.{under}
 use Rattle.journal.specs.Index.{keyed, slotOf, hit, inSlot, headed, Slotted, Headed}
 use Rattle.journal.specs.Owned.{ownedBy}
 use Rattle.journal.proofs.Lists.{under-near}
-use Rattle.journal.proofs.Frame.{stays-eleven, steady-tag, steady-first, Stable}
+use Rattle.journal.proofs.Frame.{stays-eleven, steady-tag, Stable}
 
 pub slot-law : (n x y a b : ℕ) → a ≡ x → b ≡ y → 0 < n → Slotted n x y ((2 * a + (b % 4 + b / 4 % 128 * 512 + b / 512 % 128 * 4 + b / 65536 * 65536)) % n)
 unfolding slotOf
@@ -63,10 +63,6 @@ hit-is w t x y r e = by (eqb (cell w r 0) t) refl (eqb (cell w r 1) x) refl e
     by true p false q f = let z : _≡_ {A = ℕ} 0 1 = cc in absurd (omega arith)
     by false p v q f = let z : _≡_ {A = ℕ} 0 1 = cc in absurd (omega arith)
 
-pub hit-here : (w : List ℕ) (t x y r : ℕ) → cell w r 0 ≡ t → cell w r 1 ≡ x → cell w r 2 ≡ y → hit w t x y r ≡ true
-unfolding hit
-hit-here w t x y r a b c = rw (eq-eqb (cell w r 0) t a, eq-eqb (cell w r 1) x b, eq-eqb (cell w r 2) y c)
-
 pub hit-tag : (w : List ℕ) (t x y r : ℕ) → (cell w r 0 ≡ t → ⊥) → hit w t x y r ≡ false
 unfolding hit
 hit-tag w t x y r ne = rw (ne-eqb (cell w r 0) t ne)
@@ -78,15 +74,6 @@ hit-one w t x y r ne = rw (ne-eqb (cell w r 1) x ne) (by (eqb (cell w r 0) t))
     by : (u : Bool) → choose u false false ≡ false
     by true = refl
     by false = refl
-
-pub hit-two : (w : List ℕ) (t x y r : ℕ) → (cell w r 2 ≡ y → ⊥) → hit w t x y r ≡ false
-unfolding hit
-hit-two w t x y r ne = rw (ne-eqb (cell w r 2) y ne) (by (eqb (cell w r 0) t) (eqb (cell w r 1) x))
-  where
-    by : (u v : Bool) → choose u (choose v false false) false ≡ false
-    by true true = refl
-    by true false = refl
-    by false v = refl
 
 -- the last test decides
 hit-last : (w : List ℕ) (t x y r a b c : ℕ) → a ≡ cell w r 0 → a ≡ t → b ≡ cell w r 1 → b ≡ x → c ≡ cell w r 2 → eqb c y ≡ hit w t x y r
@@ -112,10 +99,6 @@ hit-owned w t x y r = by (eqb (cell w r 0) t)
     by : (u : Bool) → choose u (choose (eqb (cell w r 1) x) (eqb (cell w r 2) y) false) false ≡ choose (choose u (eqb (cell w r 1) x) false) (eqb (cell w r 2) y) false
     by true = refl
     by false = refl
-
-pub hit-stable : (t x y : ℕ) → Stable (λ w. hit w t x y)
-unfolding hit
-hit-stable t x y = record { same = λ r w w′ s. rw (steady-tag s, steady-first s 1 (omega arith), steady-first s 2 (omega arith)) }
 
 -- ---- the slot of a record
 pub slot-here : (w : List ℕ) (b r : ℕ) → keyed (cell w r 0) ≡ true → cell w r 10 ≡ b → inSlot w b r ≡ true

@@ -10,7 +10,7 @@ use lib.ListN.{length, set, getElem?, length-append}
 use lib.Seq.{set-append-seam, set-append-left}
 use lib.Dec.{eqb, ltb}
 use borrow.Author.Tests.{eq-eqb, ne-eqb, eqb-true, eqb-false, lt-ltb, le-ltb, ltb-true}
-use Rattle.ast.specs.Choice.{choose, first, mapO}
+use Rattle.ast.specs.Choice.{choose}
 use Rattle.journal.specs.Logs.{lastOf, newestOf, under, countOf, scan, revOnto, logUp, logDown, only}
 
 -- a number c + (n + 1), as one more than c + n
@@ -49,15 +49,6 @@ module _ (p : ℕ → Bool) where
   unfolding lastOf
   last-none zero h = refl
   last-none (suc c) h = rw (h c (omega arith)) (last-none c (λ r l. h r (omega arith)))
-
-  pub last-span : (c n : ℕ) → ((r : ℕ) → c ≤ r → r < c + n → p r ≡ false) → lastOf p (c + n) ≡ lastOf p c
-  unfolding lastOf
-  last-span c zero h = let z : c + 0 ≡ c = omega arith in rw z
-  last-span c (suc n) h = rw (span c n, h (c + n) (omega arith) (omega arith)) (last-span c n (λ r l l′. h r l (omega arith)))
-
-  pub newest-none : newestOf p 0 ≡ none
-  unfolding newestOf
-  newest-none = refl
 
   pub newest-here : (c : ℕ) → p c ≡ true → newestOf p (c + 1) ≡ some c
   unfolding newestOf
@@ -309,11 +300,6 @@ module _ {A : Type 0} where
   get-left (x ∷ xs) ys zero h = refl
   get-left (x ∷ xs) ys (suc i) h = get-left xs ys i (omega arith)
 
-  pub get-none : (xs : List A) (i : ℕ) → length xs ≤ i → getElem? xs i ≡ none
-  get-none [] i h = refl
-  get-none (x ∷ xs) zero h = absurd (omega arith)
-  get-none (x ∷ xs) (suc i) h = get-none xs i (omega arith)
-
   -- a record in the log, at the number of those before it
   pub up-get : (g : ℕ → List A) (r : ℕ) (y : A) → g r ≡ y ∷ [] → (c : ℕ) → r < c → (getElem? (logUp g c) (length (logUp g r)) ≡ some y) × (length (logUp g r) < length (logUp g c))
   unfolding logUp
@@ -368,13 +354,3 @@ module _ {A : Type 0} where
   pub up-rev : (p : ℕ → Bool) (d : ℕ → A) (c : ℕ) → revOnto (logDown (only p d) c) [] ≡ logUp (only p d) c
   unfolding revOnto
   up-rev p d c = rw (down-rev p d c, rev-rev (logUp (only p d) c) [] []) (append-nil (logUp (only p d) c))
-
-  -- the first of the log, newest first, is the newest
-  pub down-first : (p : ℕ → Bool) (d : ℕ → A) (c : ℕ) → first (logDown (only p d) c) ≡ mapO d (newestOf p c)
-  unfolding logDown only newestOf
-  down-first p d zero = refl
-  down-first p d (suc c) = by (p c) (down-first p d c)
-    where
-      by : (t : Bool) → first (logDown (only p d) c) ≡ mapO d (newestOf p c) → first (choose t (d c ∷ []) [] ++ logDown (only p d) c) ≡ mapO d (choose t (some c) (newestOf p c))
-      by true e = refl
-      by false e = e

@@ -12,11 +12,10 @@ use borrow.Author.Tests.{eq-eqb, ne-eqb, eqb-true, eqb-false, ltb-true, ltb-fals
 use Rattle.ast.specs.Choice.{choose}
 use Rattle.journal.specs.declared.Record.{Record}
 use Rattle.journal.specs.Records.{tagScope, tagAssociation, cell, stays, Same, Fixed, Holds, Pushed, SetWord, Paid}
-use Rattle.journal.specs.Logs.{scan, revOnto, logDown, only}
 use Rattle.journal.specs.Index.{keyed, Indexed, Entered}
-use Rattle.journal.specs.Owned.{tagged, OwnedTag, headWord, ownedBy, lastOwned, scopesBelow, ownedLog, Owned, Ownable, after, Appended}
+use Rattle.journal.specs.Owned.{tagged, OwnedTag, headWord, ownedBy, lastOwned, scopesBelow, Owned, Ownable, after, Appended}
 use Rattle.journal.proofs.Cells.{set-cell, holds-kept}
-use Rattle.journal.proofs.Lists.{last-here, last-other, last-none, count-above, count-more, scan-all, down-rev}
+use Rattle.journal.proofs.Lists.{last-here, last-other, last-none, count-above, count-more}
 use Rattle.journal.proofs.Frame.{stays-ten, stays-most, steady-tag, steady-first, steady-is, same-fixed, set-fixed, fixed-less, Stable, last-fixed, count-fixed}
 use Rattle.journal.proofs.Keys.{unkeyed, keyed-low}
 use Rattle.journal.proofs.Index.{index-keep, index-step}
@@ -129,10 +128,6 @@ module _ {w w′ : List ℕ} {c : ℕ} (f : Fixed c w w′) (ow : Owned w c) whe
 
 pub owned-same : {w w′ : List ℕ} {c : ℕ} → Same c w w′ → Owned w c → Owned w′ c
 owned-same s ow = owned-keep (same-fixed s) ow (λ r t lr e o. s .keeps r (headWord t) lr (omega (arith, o .high)))
-
--- a count written otherwise
-pub owned-at : {w : List ℕ} {c c′ : ℕ} → c ≡ c′ → Owned w c → Owned w c′
-owned-at e ow = rw (← e) ow
 
 -- ---- one record more: of another kind, and a scope
 module _ {w : List ℕ} {c : ℕ} (ow : Owned w c) where
@@ -313,12 +308,3 @@ module _ (w : List ℕ) (s c : ℕ) (r : Record) (pre : Ownable w s c r) (w1 w2 
 
 pub append-law : (w : List ℕ) (s c : ℕ) (r : Record) → Ownable w s c r → (w1 w2 : List ℕ) (t q j : ℕ) → t ≡ r .tag → j ≡ headWord t → q ≡ cell w s j → Pushed w w1 c (after r q) → SetWord w1 w2 s j (c + 1) → Appended w w2 s c r
 append-law w s c r pre w1 w2 t q j et ej eq pu st = let e : j ≡ headWord (r .tag) = ej ∙ rw et in appended w s c r pre w1 w2 q (eq ∙ rw e) pu (rw e at st)
-
--- ---- a list read from its scope
-module _ {A : Type 0} (d : ℕ → A) {w : List ℕ} {c : ℕ} (ow : Owned w c) (n t : ℕ) (ln : n < c) (sc : cell w n 0 ≡ tagScope) (o : OwnedTag t) where
-  -- the chain from a scope's head is the log of its records, newest first
-  pub owned-down : scan d (λ r. cell w r 8) c (cell w n (headWord t)) ≡ logDown (only (ownedBy w t (cell w n 6)) d) c
-  owned-down = rw (ow .heads n t ln sc o) (scan-all d (λ r. cell w r 8) (ownedBy w t (cell w n 6)) c (λ r lr e. let p = owned-is w t (cell w n 6) r e in ow .links r t lr (p .0) o ∙ rw (p .1)))
-
-  pub owned-chain : scan d (λ r. cell w r 8) c (cell w n (headWord t)) ≡ revOnto (ownedLog d w t (cell w n 6) c) []
-  owned-chain = owned-down ∙ down-rev (ownedBy w t (cell w n 6)) d c

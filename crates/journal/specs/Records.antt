@@ -1,7 +1,7 @@
 -- The arena: records of twelve words, one to a charge. Word 0 of a record is its tag.
 use mathlib.Core.Path.{_≡_}
 use mathlib.Core.List.{List}
-use Prim.Native.Nat.{ℕ, _+_, _*_, _<_, _≤_, _^_}
+use Prim.Native.Nat.{ℕ, _+_, _*_, _<_, _≤_}
 use lib.ListN.{getD}
 use lib.Dec.{eqb}
 use Rattle.ast.specs.Choice.{choose}
@@ -104,8 +104,3 @@ pub record Paid (w w′ : List ℕ) (n count : ℕ) : Type 0 where
   pub same : Same n w w′
   pub tags : (r : ℕ) → n ≤ r → r < n + count → cell w′ r 0 ≡ tagPaid
   pub above : (m : ℕ) → (n + count) * 12 ≤ m → getD w′ m 0 ≡ getD w m 0
-
--- a word as a number of the widest type
-pub record Wide (x r : ℕ) : Type 0 where
-  pub same : r ≡ x
-  pub small : r < 2 ^ 32

@@ -1,8 +1,9 @@
 // The arena: records of twelve words in a lent slice, one to a charge.
+use words::wide;
 ghost use mathlib.Core.Path.{_≡_};
 ghost use Prim.Native.Nat.{_+_, _*_, _<_, _≤_};
 ghost use lib.ListN.{length};
-ghost use Rattle.journal.specs.Records.{cell, Pushed, SetWord, Paid, Wide};
+ghost use Rattle.journal.specs.Records.{cell, Pushed, SetWord, Paid};
 ghost use Rattle.journal.specs.Logs.{under};
 ghost use Rattle.journal.specs.Index.{keyed, hit, newest, foundOf, Findable, Enterable, Slotted, Headed, Entered};
 ghost use Rattle.journal.specs.Owned.{Ownable, Appended};
@@ -27,13 +28,6 @@ pub struct Record {
 pub enum Found {
     At(usize),
     Nothing,
-}
-
-// A word as a number that indexes.
-pub fn wide(x: u32) -> usize
-    ensures { λ r. ⌜ Wide x r ⌝ }
-{
-    x as usize
 }
 
 // Record `n`.

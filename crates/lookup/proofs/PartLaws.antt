@@ -14,7 +14,7 @@ use Rattle.ast.specs.Choice.{choose, mapO}
 use Rattle.sheet.specs.declared.row.Row.{Row}
 use Rattle.sheet.specs.declared.part.Part.{Part}
 use Rattle.sheet.specs.declared.part.Part.the-variants.{Interfaces, Statements, Ids}
-use Rattle.sheet.specs.Rows.{rows, blank, front, rest}
+use Rattle.sheet.specs.Rows.{rows, blank, front}
 use Rattle.sheet.specs.Parse.{elements, kindOf, passes, idsOf, interfaceOf, statementOf, routeOf, interfacesOf, statementsOf, protoOf}
 use Rattle.sheet.proofs.RowLaws.{rows-length, rows-count, skip0}
 use Rattle.walks.specs.declared.walk.Found.{Found}

@@ -2,7 +2,7 @@
 use mathlib.Core.Path.{_≡_, refl, sym, ap, _∙_}
 use mathlib.Core.List.{List, [], _∷_}
 use mathlib.Core.Option.{Option, none, some}
-use Prim.Native.Nat.{ℕ, _+_, _-_, _*_, _≤_, _<_, _%_}
+use Prim.Native.Nat.{ℕ, _+_, _-_, _≤_, _<_, _%_}
 use native.Mathlib.Omega.{arith}
 use native.Mathlib.Nat.{mod-lt}
 use native.Mathlib.Decide.{ℕ-discrete}
@@ -10,7 +10,7 @@ use lib.ListN.{length, getD, drop, set, length-set}
 use lib.Seq.{getD-set-same, getD-set-other}
 use lib.Dec.{eqb}
 use borrow.Author.Tests.{eq-eqb, ne-eqb}
-use Rattle.ast.specs.Ast.{FieldBinding, Field}
+use Rattle.ast.specs.Ast.{FieldBinding}
 use Rattle.ast.specs.Choice.{choose, mapO, orElse}
 use Rattle.sheet.specs.declared.row.Row.{Row}
 use Rattle.sheet.specs.declared.part.Part.the-variants.{Fields}
@@ -22,8 +22,8 @@ use Rattle.walks.specs.Walk.{Stands, rowsAt, Below}
 use Rattle.walks.proofs.WalkLaws.{each-at, each-none, front-drop, rest-drop}
 use Rattle.expansion.specs.Input.{lastField}
 use Rattle.words.specs.Words.{Outside, Cleared}
-use Rattle.names.specs.Names.{LastField, Tells, NameTable, Tabled, Listed, Told, Grown}
-use Rattle.words.proofs.WordLaws.{stays, stays-set, stays-on, stays-wide}
+use Rattle.names.specs.Names.{LastField, NameTable, Tabled, Listed, Told, Grown}
+use Rattle.words.proofs.WordLaws.{stays, stays-set, stays-on}
 
 -- ---- the fields of a node
 pub fields-at : {R : List Row} {p q : ℕ} → Stands Fields R p q → fieldsOf (drop p R) ≡ fieldOf (drop q R) ∷ fieldsOf (drop (q + 1) R)

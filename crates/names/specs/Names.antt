@@ -3,7 +3,7 @@
 use mathlib.Core.Path.{_≡_}
 use mathlib.Core.List.{List}
 use Prim.Native.Nat.{ℕ, _+_, _≤_, _<_, _%_}
-use lib.ListN.{length, getD, drop}
+use lib.ListN.{getD, drop}
 use Rattle.ast.specs.Choice.{mapO}
 use Rattle.sheet.specs.declared.row.Row.{Row}
 use Rattle.sheet.specs.Rows.{blank}

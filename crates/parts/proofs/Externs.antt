@@ -1,16 +1,14 @@
 -- Externs: found, missing, refused for want of charges, and declared.
 use mathlib.Core.Path.{_≡_, refl, sym, ap, _∙_}
 use mathlib.Core.Bool.{Bool, true, false}
-use mathlib.Core.List.{List, [], _∷_, _++_, map}
+use mathlib.Core.List.{List, [], _∷_}
 use mathlib.Core.Option.{Option, none, some}
 use Prim.Native.Nat.{ℕ, zero, suc, _+_, _*_, _-_, _≤_, _<_}
 use native.Mathlib.Omega.{arith}
-use native.Mathlib.Numerals.{add-one}
-use lib.ListN.{length, drop, getD, length-map}
+use lib.ListN.{length, drop, length-map}
 use lib.Dec.{ltb}
 use borrow.Author.Tests.{ltb-true, ltb-false}
-use Rattle.ast.specs.Ast.{InterfaceDecl, Url, ExternProtoDecl}
-use Rattle.ast.specs.Choice.{mapO}
+use Rattle.ast.specs.Ast.{ExternProtoDecl}
 use Rattle.ast.specs.Lookups.{externProtoAt}
 use Rattle.sheet.specs.declared.row.Row.{Row}
 use Rattle.sheet.specs.declared.part.Part.the-variants.{Interfaces, Urls}
@@ -21,8 +19,8 @@ use Rattle.walks.specs.declared.walk.Found as walk
 use Rattle.walks.specs.declared.walk.Found.the-variants as walked
 use Rattle.lookup.specs.Lookup.{sheetOf, documentsOf, Located}
 use Rattle.walks.proofs.WalkLaws.{rest-drop}
-use Rattle.expansion.specs.Input.{Input, docs}
-use Rattle.expansion.specs.State.{State, Result, refusal, ok, Comp, bindR, _>>=_, _>>_, ret, fail}
+use Rattle.expansion.specs.Input.{Input}
+use Rattle.expansion.specs.State.{State, Result, refusal, ok, Comp, bindR, _>>=_, _>>_, ret}
 use Rattle.expansion.specs.Charges.{oneMore, charge, chargeEach}
 use Rattle.expansion.specs.Values.{Env, src}
 use Rattle.expansion.specs.Externs.{lookupExtern, pushExtern, declare, externProto}
@@ -35,7 +33,7 @@ use Rattle.journal.specs.Owned.{tagged}
 use Rattle.journal.proofs.Lists.{count-low}
 use Rattle.journal.proofs.Owned.{owned-enter}
 use Rattle.journal.proofs.Families.{families-one}
-use Rattle.reading.specs.Reading.{externMapOf, externsOf}
+use Rattle.reading.specs.Reading.{externMapOf}
 use Rattle.reading.specs.Fair.{Fair}
 use Rattle.reading.proofs.Lookups.{extern-lookup}
 use Rattle.reading.proofs.Nodes.{calm-same}
@@ -46,8 +44,8 @@ use Rattle.refine.specs.declared.Limits.{Limits}
 use Rattle.refine.specs.declared.Counts.{Counts}
 use Rattle.refine.specs.declared.Answer.{Answer}
 use Rattle.refine.specs.declared.Answer.the-variants.{Done, Refused}
-use Rattle.refine.specs.Sound.{Source, inputOf, Sound, Standing, OfBody, Later}
-use Rattle.refine.specs.Does.{at, number, Does}
+use Rattle.refine.specs.Sound.{Source, inputOf, Sound, OfBody, Later}
+use Rattle.refine.specs.Does.{at}
 use Rattle.refine.proofs.Later.{later-refl, later-trans}
 use Rattle.refine.proofs.Grow.{grown, sound-more, later-more, alone, count-other, count-new}
 use Rattle.refine.proofs.Charges.{charge-full, charge-some, each-full, each-some}

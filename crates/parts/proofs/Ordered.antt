@@ -3,47 +3,45 @@ use mathlib.Core.Path.{_≡_, refl, sym, ap, subst, _∙_}
 use mathlib.Core.Bool.{Bool, true, false, not}
 use mathlib.Core.List.{List, [], _∷_, _++_, map, append-nil, append-assoc}
 use mathlib.Core.Option.{Option, none, some}
-use Prim.Native.Nat.{ℕ, zero, suc, _+_, _*_, _-_, _≤_, _<_}
+use Prim.Native.Nat.{ℕ, zero, suc, _+_, _-_}
 use native.Mathlib.Omega.{arith}
 use lib.ListN.{length, getD, drop}
 use lib.Dec.{eqb}
 use borrow.Author.Tests.{eq-eqb, ne-eqb}
 use Rattle.ast.specs.Ast.{FieldValue, FieldBinding, Field, Statement, BodyElement}
-use Rattle.ast.specs.Choice.{choose, mapO}
+use Rattle.ast.specs.Choice.{choose}
 use Rattle.sheet.specs.declared.row.Row.{Row}
 use Rattle.sheet.specs.declared.part.Part.the-variants.{Fields, Statements, BodyOrder}
 use Rattle.sheet.specs.Rows.{blank, front}
 use Rattle.sheet.specs.Parse.{elements, fieldOf, fieldsOf, routeOf, statementOf, statementsOf, bodyElementOf, nodeOf, valueOf as rowValue}
 use Rattle.sheet.specs.Print.{row}
 use Rattle.walks.specs.Walk.{Stands}
-use Rattle.walks.proofs.WalkLaws.{each-at, each-none, front-drop, rest-drop}
-use Rattle.expansion.specs.State.{Result, refusal, ok, Comp, bindR, _>>=_, _>>_, ret}
+use Rattle.walks.proofs.WalkLaws.{each-at, front-drop, rest-drop}
+use Rattle.expansion.specs.State.{Comp, bindR, _>>=_, _>>_, ret}
 use Rattle.expansion.specs.Charges.{charge, chargeEach}
-use Rattle.expansion.specs.Values.{Env, Values, valueOf}
+use Rattle.expansion.specs.Values.{Env, Values}
 use Rattle.expansion.specs.PlainCopy.{keptOrder}
 use Rattle.journal.specs.declared.Record.{Record}
 use Rattle.journal.specs.declared.Found.{Found}
 use Rattle.journal.specs.declared.Found.the-variants.{At, Nothing}
-use Rattle.journal.specs.Records.{tagOrder, cell, Pushed}
-use Rattle.journal.specs.Index.{foundOf}
+use Rattle.journal.specs.Records.{tagOrder}
 use Rattle.journal.proofs.Frame.{same-fixed}
-use Rattle.reading.specs.Reading.{valuesAt, valueRec, orderAt, orderNew}
+use Rattle.reading.specs.Reading.{orderAt}
 use Rattle.reading.specs.Fair.{HandleAt}
 use Rattle.reading.proofs.Fair.{handle-none, handle-new}
 use Rattle.reading.proofs.Chains.{order-none, order-new}
-use Rattle.source.specs.Directory.{numberOf}
 use Rattle.refine.specs.declared.Limits.{Limits}
 use Rattle.refine.specs.declared.Counts.{Counts}
 use Rattle.refine.specs.declared.Env as code
 use Rattle.refine.specs.declared.Answer.{Answer}
 use Rattle.refine.specs.declared.Answer.the-variants.{Done, Refused}
-use Rattle.refine.specs.Sound.{Source, inputOf, Sound, Standing, Later, EnvAt, envOf}
-use Rattle.refine.specs.Does.{nothing, at, IfDone, Does, Doing}
+use Rattle.refine.specs.Sound.{Source, inputOf, Standing, Later, EnvAt, envOf}
+use Rattle.refine.specs.Does.{at, Doing}
 use Rattle.refine.specs.Contract.{Valued, Keepable, KeptAt, Kept}
 use Rattle.refine.proofs.Later.{later-standing, later-env, env-later}
-use Rattle.refine.proofs.Calculus.{start, turn, finish, step, stop, inner}
+use Rattle.refine.proofs.Calculus.{start, finish, step, stop, inner}
 use Rattle.parts.specs.declared.Taken.{Taken}
-use Rattle.parts.specs.Contract.{rowsOf, nodeIn, isSome, keptStatement, keptTarget, keptBinding, keptField, fieldKept, Took, Takes, Ordering}
+use Rattle.parts.specs.Contract.{rowsOf, nodeIn, isSome, keptStatement, keptBinding, keptField, fieldKept, Took, Takes, Ordering}
 use Rattle.names.proofs.NameLaws.{fields-at, fields-none}
 use Rattle.parts.proofs.Said.{statements-at, statements-end}
 

@@ -1,31 +1,22 @@
 -- Routes: an end is its copy in the scope, or none.
 use mathlib.Core.Path.{_≡_, refl, sym, ap, _∙_}
-use mathlib.Core.Bool.{Bool, true, false}
-use mathlib.Core.List.{List, [], _∷_, _++_}
-use mathlib.Core.Option.{Option, none, some}
-use Prim.Native.Nat.{ℕ, _+_, _-_, _≤_, _<_}
+use mathlib.Core.Bool.{true, false}
+use mathlib.Core.List.{List, [], _∷_}
+use mathlib.Core.Option.{Option}
+use Prim.Native.Nat.{ℕ, _+_, _-_, _<_}
 use native.Mathlib.Omega.{arith}
-use lib.ListN.{length}
-use lib.Dec.{eqb}
-use borrow.Author.Tests.{eq-eqb, ne-eqb}
 use Rattle.ast.specs.Ast.{Route, Statement}
-use Rattle.ast.specs.Choice.{choose, andThen, mapO}
+use Rattle.ast.specs.Choice.{andThen}
 use Rattle.sheet.specs.declared.row.Row.{Row}
 use Rattle.sheet.specs.Parse.{optional, routeOf, statementOf}
-use Rattle.sheet.specs.Print.{row}
-use Rattle.expansion.specs.State.{State, Result, refusal, ok, Comp, bindR, _>>=_, _>>_, ret, lookup}
-use Rattle.expansion.specs.Charges.{charge, paid}
+use Rattle.expansion.specs.State.{bindR, _>>=_, _>>_, ret, lookup}
+use Rattle.expansion.specs.Charges.{paid}
 use Rattle.expansion.specs.Values.{Env}
 use Rattle.expansion.specs.PlainCopy.{remapRoute, copyRoute}
 use Rattle.journal.specs.declared.Record.{Record}
-use Rattle.journal.specs.declared.Found.{Found}
-use Rattle.journal.specs.declared.Found.the-variants.{At, Nothing}
-use Rattle.journal.specs.Records.{tagNode, tagStatement, cell, Pushed}
-use Rattle.journal.specs.Index.{foundOf}
-use Rattle.journal.specs.Owned.{tagged}
+use Rattle.journal.specs.Records.{tagStatement, cell, Pushed}
 use Rattle.journal.proofs.Frame.{same-fixed}
-use Rattle.journal.proofs.Lists.{count-low}
-use Rattle.reading.specs.Reading.{mapOf, kept, statementRec, statementNew, statementsAt}
+use Rattle.reading.specs.Reading.{mapOf, kept, statementRec, statementNew}
 use Rattle.reading.specs.Fair.{HandleAt}
 use Rattle.reading.proofs.Words.{kept-is}
 use Rattle.reading.proofs.Fair.{handle-new}
@@ -34,10 +25,10 @@ use Rattle.refine.specs.declared.Limits.{Limits}
 use Rattle.refine.specs.declared.Counts.{Counts}
 use Rattle.refine.specs.declared.Answer.{Answer}
 use Rattle.refine.specs.declared.Answer.the-variants.{Done, Refused}
-use Rattle.refine.specs.Sound.{Source, inputOf, Sound, Standing}
-use Rattle.refine.specs.Does.{Decode, nothing, at, resultOf, IfDone, Does}
-use Rattle.refine.specs.Contract.{EndOf, Keepable, KeptAt, Kept}
-use Rattle.parts.specs.Contract.{statementAt, Stated, Routed}
+use Rattle.refine.specs.Sound.{Source}
+use Rattle.refine.specs.Does.{at}
+use Rattle.refine.specs.Contract.{EndOf, Keepable, Kept}
+use Rattle.parts.specs.Contract.{Stated, Routed}
 
 -- ---- a statement's record, behind those of its handle
 module _ (w w′ : List ℕ) (t : Counts) (r : Record) (is : r .tag ≡ tagStatement) (p : Pushed w w′ (t .charges) r) where

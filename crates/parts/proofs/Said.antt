@@ -1,9 +1,9 @@
 -- The statements of a node: an ExternProto, one statement by its row, and all of them.
 use mathlib.Core.Path.{_≡_, refl, sym, ap, _∙_}
-use mathlib.Core.Bool.{Bool, true, false}
+use mathlib.Core.Bool.{true, false}
 use mathlib.Core.List.{List, [], _∷_, _++_, map, append-nil, append-assoc}
 use mathlib.Core.Option.{Option, none, some}
-use Prim.Native.Nat.{ℕ, zero, suc, _+_, _-_, _≤_, _<_}
+use Prim.Native.Nat.{ℕ, zero, suc, _+_, _-_}
 use native.Mathlib.Omega.{arith}
 use lib.ListN.{length, getD, drop}
 use Rattle.ast.specs.Ast.{Route, Statement}
@@ -14,16 +14,15 @@ use Rattle.sheet.specs.Parse.{elements, routeOf, statementOf, statementsOf, nod
 use Rattle.sheet.specs.Print.{row}
 use Rattle.walks.specs.Walk.{Stands}
 use Rattle.walks.proofs.WalkLaws.{each-at, each-none, front-drop, rest-drop}
-use Rattle.expansion.specs.State.{State, Result, refusal, ok, Comp, bindR, _>>=_, _>>_, ret, mapM}
+use Rattle.expansion.specs.State.{Result, refusal, ok, Comp, bindR, _>>=_, _>>_, ret, mapM}
 use Rattle.expansion.specs.Charges.{charge, paid}
-use Rattle.picks.specs.Picks.{Pick}
 use Rattle.expansion.specs.Scopes.{Scope}
 use Rattle.expansion.specs.Values.{Env, src}
 use Rattle.expansion.specs.Externs.{externProto}
-use Rattle.expansion.specs.PlainCopy.{copyRoute, copyExtern, copyStatement, somes}
+use Rattle.expansion.specs.PlainCopy.{copyExtern, copyStatement, somes}
 use Rattle.journal.specs.declared.Record.{Record}
 use Rattle.journal.specs.Records.{tagStatement, Pushed}
-use Rattle.reading.specs.Reading.{statementRec, statementNew, statementsAt}
+use Rattle.reading.specs.Reading.{statementRec, statementsAt}
 use Rattle.reading.specs.Fair.{HandleAt}
 use Rattle.reading.proofs.Fair.{handle-none}
 use Rattle.reading.proofs.Chains.{statements-none, statements-fixed}
@@ -34,11 +33,11 @@ use Rattle.refine.specs.declared.Env as code
 use Rattle.refine.specs.declared.Answer.{Answer}
 use Rattle.refine.specs.declared.Answer.the-variants.{Done, Refused}
 use Rattle.refine.specs.Sound.{Source, inputOf, Sound, Standing, Later, EnvAt}
-use Rattle.refine.specs.Does.{Decode, nothing, number, at, IfDone, Does, Doing}
+use Rattle.refine.specs.Does.{at, Doing}
 use Rattle.refine.specs.Contract.{Keepable, Kept}
-use Rattle.refine.proofs.Later.{later-refl, later-trans, later-standing, later-handle, later-env}
+use Rattle.refine.proofs.Later.{later-refl, later-standing, later-handle, later-env}
 use Rattle.refine.proofs.Calculus.{start, turn, finish, step, stop, each, each-end, last, paying}
-use Rattle.parts.specs.Contract.{sourceOf, Lent, rowsOf, nodeIn, Declared, statementAt, Stated, Routed, ExternStated, isSome, keptStatement, OneKept, OneStating, StatementsKept, Stating}
+use Rattle.parts.specs.Contract.{sourceOf, Lent, rowsOf, nodeIn, Declared, statementAt, Stated, Routed, ExternStated, isSome, keptStatement, OneKept, OneStating, Stating}
 use Rattle.parts.proofs.Lending.{lent-later}
 use Rattle.parts.proofs.Routes.{stated-new, stated}
 

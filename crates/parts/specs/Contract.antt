@@ -3,24 +3,23 @@ use mathlib.Core.Path.{_≡_}
 use mathlib.Core.Bool.{Bool, true, false}
 use mathlib.Core.List.{List, [], _∷_, _++_, map}
 use mathlib.Core.Option.{Option, none, some}
-use Prim.Native.Nat.{ℕ, _+_, _*_, _-_, _≤_, _<_}
+use Prim.Native.Nat.{ℕ, _+_, _*_, _-_, _≤_}
 use lib.ListN.{length, drop}
-use lib.Dec.{eqb}
 use Rattle.ast.specs.Ast.{FieldValue, FieldBinding, Field, Statement, BodyElement, Node}
-use Rattle.ast.specs.Choice.{choose, andThen, mapO}
+use Rattle.ast.specs.Choice.{choose, mapO}
 use Rattle.sheet.specs.declared.row.Row.{Row}
 use Rattle.sheet.specs.declared.part.Part.{Part}
 use Rattle.sheet.specs.Rows.{rows}
-use Rattle.sheet.specs.Parse.{elements, optional, fieldOf, fieldsOf, routeOf, statementOf, statementsOf, bodyElementOf, nodeOf}
+use Rattle.sheet.specs.Parse.{elements, fieldOf, fieldsOf, routeOf, statementOf, statementsOf, bodyElementOf, nodeOf}
 use Rattle.sheet.specs.Print.{row}
 use Rattle.lookup.specs.Lookup.{sheetOf}
-use Rattle.expansion.specs.State.{Entry, lookup, _>>_, ret, mapM}
+use Rattle.expansion.specs.State.{_>>_, ret, mapM}
 use Rattle.expansion.specs.Charges.{chargeEach}
 use Rattle.expansion.specs.Values.{Env, Values, valueOf, src}
 use Rattle.expansion.specs.Externs.{externProto}
 use Rattle.expansion.specs.PlainCopy.{copyRoute, copyExtern, copyStatement, somes, keptOrder}
 use Rattle.journal.specs.Records.{tagStatement, tagOrder}
-use Rattle.reading.specs.Reading.{statementRec, statementsAt, orderAt, valuesAt}
+use Rattle.reading.specs.Reading.{statementRec, statementsAt, orderAt}
 use Rattle.reading.specs.Fair.{HandleAt}
 use Rattle.source.specs.Directory.{numberOf, fromOf}
 use Rattle.source.specs.Sourced.{Sourced}

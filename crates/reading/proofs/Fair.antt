@@ -97,10 +97,6 @@ valued-listed t e = by (eqb t tagField) refl (eqb t tagInterface) refl e
     by false p true q z = rw (eqb-true t tagInterface q)
     by false p false q z = rw (eqb-true t tagStored z)
 
--- the tags of other records
-pub unlisted-low : (t : ℕ) → t < tagId → listed t ≡ false
-unlisted-low t l = rw (lt-ltb t tagId l)
-
 pub unlisted-own : (t : ℕ) → tagScope ≤ t → t ≤ tagAssociation → listed t ≡ false
 unlisted-own t lo hi = rw (le-ltb t tagId (omega arith), lt-ltb tagStored t (omega arith), ne-eqb t tagInstance (λ e. omega arith))
 

@@ -9,18 +9,17 @@ use Rattle.ast.specs.Choice.{choose}
 use Rattle.sheet.specs.Parse.{originOf}
 use Rattle.expansion.specs.PlainCopy.{blank}
 use Rattle.journal.specs.declared.Record.{Record}
-use Rattle.journal.specs.Records.{tagNode, tagRoot, tagRoute, tagAssociation, tagInstance, cell, Same, Fixed, SetWord}
+use Rattle.journal.specs.Records.{tagNode, tagRoot, tagRoute, tagAssociation, tagInstance, cell, Same, Fixed}
 use Rattle.journal.specs.Logs.{only}
 use Rattle.journal.specs.Owned.{tagged, ownedBy, Appended}
 use Rattle.journal.specs.Families.{Joined}
-use Rattle.journal.proofs.Cells.{set-cell}
-use Rattle.journal.proofs.Frame.{steady-tag, same-fixed, set-fixed}
+use Rattle.journal.proofs.Frame.{steady-tag, same-fixed}
 use Rattle.journal.proofs.Lists.{up-same, up-span, up-one, only-here, only-other, up-count, up-patch, scan-end}
 use Rattle.journal.proofs.Owned.{tagged-here, tagged-other, tagged-is, tagged-stable, owned-is, owned-stable, append-fixed}
 use Rattle.journal.proofs.Families.{join-fixed}
 use Rattle.reading.specs.Reading.{kept, rootRec, routeRec, associationRec, instanceRec, merged, instancesAt, nodeBy, nodeRec, nodesOf, below}
 use Rattle.reading.specs.Fair.{HandleAt, NodeClosed, AllFair}
-use Rattle.reading.specs.Calm.{EndsKept, NodeKept, Calm, Unrecorded}
+use Rattle.reading.specs.Calm.{EndsKept, NodeKept, Calm}
 use Rattle.reading.proofs.Words.{kept-is, kept-fixed}
 use Rattle.reading.proofs.Chains.{scan-on, root-lasting, association-lasting, fields-fixed, interfaces-fixed, statements-fixed, order-fixed, fields-none, interfaces-none, statements-none, order-none}
 use Rattle.reading.proofs.Logs.{up-fixed}
@@ -160,14 +159,3 @@ calm-join {w} a = record {
   ends = record { from = λ n q l lq e t o. a .other n 10 (omega arith) (omega arith) (λ z y. omega arith); to = λ n q l lq e t o. a .other n 11 (omega arith) (omega arith) (λ z y. omega arith) };
   nodes = λ n l e. record { keeps = λ j x b. a .other n j l b (λ z y. omega arith) };
 }
-
--- a remapped end of a route of such a scope
-pub calm-end : {c : ℕ} {w w′ : List ℕ} {n j v : ℕ} → SetWord w w′ n j v → 10 ≤ j → j < 12 → cell w n 0 ≡ tagRoute → Unrecorded w c (cell w n 1) → Calm c w w′
-calm-end {c} {w} {w′} {n} {j} {v} s lo hi e un = record {
-  fixed = set-fixed c s hi (rw e lo);
-  ends = record { from = λ m q l lq i t o. kept m q 10 (omega arith) lq i o; to = λ m q l lq i t o. kept m q 11 (omega arith) lq i o };
-  nodes = λ r l t. record { keeps = λ i a b. set-cell w w′ n j v hi s r i b (λ z y. let k : cell w n 0 ≡ tagNode = rw z at t in omega arith) };
-}
-  where
-    kept : (m q i : ℕ) → i < 12 → q < c → cell w q 0 ≡ tagInstance → cell w m 1 ≡ cell w q 1 → cell w′ m i ≡ cell w m i
-    kept m q i li lq t o = set-cell w w′ n j v hi s m i li (λ z y. un .apart q lq t (sym o ∙ rw z))

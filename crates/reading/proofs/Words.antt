@@ -16,10 +16,6 @@ pub kept-is : (w : List ℕ) (r t j v : ℕ) → cell w r 0 ≡ t → j < stays 
 unfolding kept
 kept-is w r t j v e l q = rw (e, lt-ltb j (stays t) l) q
 
-pub kept-cell : (w : List ℕ) (r j : ℕ) → j < stays (cell w r 0) → kept w r j ≡ cell w r j
-unfolding kept
-kept-cell w r j l = rw (lt-ltb j (stays (cell w r 0)) l)
-
 -- it is the same where such words are
 pub kept-steady : {r : ℕ} {w w′ : List ℕ} → Steady r w w′ → (j : ℕ) → kept w′ r j ≡ kept w r j
 unfolding kept

@@ -8,7 +8,7 @@ use lib.ListN.{length}
 use lib.Dec.{ltb}
 use borrow.Author.Tests.{lt-ltb, le-ltb, ltb-true, ltb-false}
 use Rattle.expansion.specs.Input.{Input}
-use Rattle.expansion.specs.State.{State, Result, refusal, ok, Comp, bindR, _>>=_, _>>_}
+use Rattle.expansion.specs.State.{State, refusal, ok, Comp, bindR, _>>=_, _>>_}
 use Rattle.expansion.specs.Charges.{oneMore, chargeIf, charge, chargeEach}
 use Rattle.reading.proofs.States.{more}
 use Rattle.refine.specs.declared.Limits.{Limits}
@@ -78,15 +78,3 @@ module _ (S : Source) {L : Limits} (young : ℕ) {w : List ℕ} {t : Counts} whe
 module _ {M : Type 0} {S : Source} {L : Limits} {young : ℕ} {m₀ : Comp M} {w₀ : List ℕ} {t₀ : Counts} {w : List ℕ} {t : Counts} where
   pub full : (k : Unit {0} → Comp M) → Doing S L young m₀ w₀ t₀ (charge (inputOf S L) >>= k) w t → L .rows ≤ t .charges → (d : Decode M) → Does S L young d m₀ w₀ t₀ w (Refused 10 0 0)
   full k g h d = stop k g (charge-refused S young h) refl d
-
-  pub full-each : {A : Type 0} (l : List A) (k : Unit {0} → Comp M) → Doing S L young m₀ w₀ t₀ (chargeEach (inputOf S L) l >>= k) w t → L .rows - t .charges < length l → (d : Decode M) → Does S L young d m₀ w₀ t₀ w (Refused 10 0 0)
-  full-each l k g h d = stop k g (each-refused S young l h) refl d
-
-  -- a charge that changes the state: the change, and what is left of it
-  pub changing : (I : Input) (u : State → State) (l : Comp M) → Doing S L young m₀ w₀ t₀ (charge I >> (λ st. l (u st))) w t → Doing S L young m₀ w₀ t₀ ((charge I >> (λ st. ok (tt {0}) (u st))) >> l) w t
-  unfolding bindR
-  changing I u l g = record { left = g .left ∙ by (charge I (at S w t)); later = g .later }
-    where
-      by : (x : Result (Unit {0})) → bindR x (λ a st. l (u st)) ≡ bindR (bindR x (λ a st. ok (tt {0}) (u st))) (λ a. l)
-      by (refusal n i j) = refl
-      by (ok a st) = refl

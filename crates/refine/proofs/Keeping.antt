@@ -13,9 +13,9 @@ use Rattle.journal.proofs.Keys.{unkeyed}
 use Rattle.journal.proofs.Index.{index-push}
 use Rattle.journal.proofs.Owned.{owned-push}
 use Rattle.journal.proofs.Families.{families-one}
-use Rattle.reading.specs.Reading.{idsAt, fieldsAt, fieldNew, interfacesAt, interfaceNew, statementsAt, statementNew, orderAt, orderNew}
+use Rattle.reading.specs.Reading.{idsAt, fieldsAt, fieldNew, interfacesAt, interfaceNew, statementsAt, statementNew}
 use Rattle.reading.specs.Fair.{HandleAt, valued, Fair}
-use Rattle.reading.proofs.Chains.{ids-new, fields-new, interfaces-new, statements-new, order-new}
+use Rattle.reading.proofs.Chains.{ids-new, fields-new, interfaces-new, statements-new}
 use Rattle.reading.proofs.Fair.{handle-fixed, handle-new}
 use Rattle.reading.proofs.Nodes.{calm-same}
 use Rattle.reading.specs.Calm.{Calm}
@@ -108,9 +108,6 @@ module _ {w : List ℕ} {t : Counts} {r : Record} {w′ : List ℕ} {t′ : Coun
 
   pub kept-statements : statementsAt w′ v ≡ statementsAt w (r .h) ++ (statementNew r ∷ [])
   kept-statements = rw (x .handle) (statements-new fx r (x .pushed .holds) most (k .before .low))
-
-  pub kept-order : orderAt w′ v ≡ orderAt w (r .h) ++ (orderNew r ∷ [])
-  kept-order = rw (x .handle) (order-new fx r (x .pushed .holds) most (k .before .low))
 
   -- a record with a value
   module _ (e : valued (r .tag) ≡ true) where

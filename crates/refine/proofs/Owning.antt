@@ -12,7 +12,7 @@ use Rattle.ast.specs.Choice.{choose}
 use Rattle.expansion.specs.State.{ok}
 use Rattle.expansion.specs.PlainCopy.{pushAssociation, associate}
 use Rattle.journal.specs.declared.Record.{Record}
-use Rattle.journal.specs.Records.{tagExtern, tagNode, tagScope, tagRoot, tagRoute, tagAssociation, cell, stays, Fixed, Holds}
+use Rattle.journal.specs.Records.{tagExtern, tagNode, tagScope, tagRoot, tagRoute, cell, stays, Fixed, Holds}
 use Rattle.journal.specs.Owned.{ownedBy, ownedLog, headWord, after, Appended}
 use Rattle.journal.proofs.Families.{families-append}
 use Rattle.journal.proofs.Owned.{append-fixed, index-append, owned-here, owned-tag, owned-stable}
@@ -142,6 +142,3 @@ module _ {w : List ℕ} {t : Counts} {e : code.Env} {r : Record} {w′ : List �
         word 6 (r .f) (rw z (omega arith)) (hold .at6),
         word 7 (r .g) (rw z (omega arith)) (hold .at7),
       )
-
-  pub own-association : r .tag ≡ tagAssociation → bodyOf w′ (t′ .charges) n out place ≡ bodyOf w d n out place
-  own-association z = rw (x .counts, none-of tagRoot rootRec root-lasting (λ q. omega arith), none-of tagRoute bodyRouteRec bodyRoute-lasting (λ q. omega arith))

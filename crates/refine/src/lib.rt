@@ -2,7 +2,7 @@
 use journal;
 use journal::Found;
 use journal::Record;
-use journal::wide;
+use words::wide;
 ghost use mathlib.Core.Path.{_≡_};
 ghost use Prim.Native.Nat.{_+_, _-_, _≤_};
 ghost use lib.ListN.{length};

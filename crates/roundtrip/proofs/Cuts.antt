@@ -2,13 +2,11 @@
 use mathlib.Core.Path.{_≡_, refl, sym, ap, subst, _∙_}
 use mathlib.Core.List.{List, [], _∷_, _++_, map, append-assoc}
 use mathlib.Core.Logic.{_⊎_, inl, ⊎-elim}
-use mathlib.Core.Bool.{Bool, true, false, _||_}
+use mathlib.Core.Bool.{Bool, true, false}
 use Prim.Native.Nat.{ℕ, zero, suc, _≤_, _<_}
 use native.Mathlib.Omega.{arith}
 use native.Mathlib.Decide.{ℕ-discrete, decLt}
 use lib.ListN.{length}
-use lib.Dec.{eqb}
-use borrow.Author.Tests.{eqb-true}
 use Rattle.sheet.specs.declared.row.Row.{Row}
 use Rattle.checker.specs.declared.grammar.Form.{Form}
 use Rattle.checker.specs.declared.grammar.State.{State}

@@ -13,13 +13,13 @@ use Rattle.sheet.specs.declared.part.Part.the-variants.{Files, Nodes, Protos, E
 use Rattle.ast.specs.Ast.{FieldData, FieldValue, FieldBinding, Field, InterfaceDecl, Route, Statement, NodeOrigin, BodyElement, ProtoInstance, Node, ProtoDecl, ExternProtoDecl, Document, File}
 use Rattle.ast.specs.Choice.{choose, first}
 use Rattle.sheet.specs.Rows.{none#, front, rest}
-use Rattle.sheet.specs.Parse.{kindOf, elements, optional, idsOf, valueOf, fieldOf, interfaceOf, routeOf, statementOf, bodyElementOf, originOf, associationOf, instanceOf, fieldsOf, interfacesOf, statementsOf, nodeOf, protoOf, urlOf, externProtoOf, afterTop, documentOf, fileOf, filesOf}
+use Rattle.sheet.specs.Parse.{elements, optional, idsOf, valueOf, fieldOf, interfaceOf, routeOf, statementOf, bodyElementOf, originOf, associationOf, instanceOf, fieldsOf, interfacesOf, statementsOf, nodeOf, protoOf, urlOf, externProtoOf, afterTop, documentOf, fileOf, filesOf}
 use Rattle.sheet.specs.Print.{row, rowsOfEach, orNone, idRow, class, amount, dataRows, bindingRows, fieldRows, defaultRows, interfaceRows, routeRow, statementRow, bodyElementRow, associationRow, instanceRows, anyInstanceRows, nodeRow, nodeRows, protoRows, urlRow, externProtoRows, topRow, documentRows, fileRows, libraryRows}
 use Rattle.roundtrip.specs.Each.{Each}
 use Rattle.roundtrip.specs.Ranges.{IsPresent, InterfaceInRange, RouteInRange, StatementInRange, InstanceInRange, AnyInstanceInRange, NodeInRange, ProtoInRange, UrlInRange, ExternInterfaceInRange, ExternProtoInRange, InRange, FileInRange}
-use Rattle.roundtrip.proofs.Tests.{or-i, among, every}
+use Rattle.roundtrip.proofs.Tests.{or-i}
 use Rattle.roundtrip.proofs.Steps.{Sure, all}
-use Rattle.roundtrip.proofs.Scan.{Among, Follows, Heads, among-append, among-in, passed, ends, ended, every-run, Listed, kinds, Run, run-of, chain, chain-passed, alone-among, found-in, one, rows-map}
+use Rattle.roundtrip.proofs.Scan.{Among, Follows, Heads, among-in, ended, Listed, kinds, Run, run-of, chain, chain-passed, alone-among, found-in, one, rows-map}
 
 -- a number that may be none is read back
 optional-parsed : (n : Option ℕ) → IsPresent n → optional (orNone n) ≡ n

@@ -1,7 +1,6 @@
 // The top statements of the root, each over the expander's copy.
 use journal;
 use journal::Record;
-use journal::wide;
 use refine::Answer;
 use refine::Counts;
 use refine::Env;
@@ -10,6 +9,7 @@ use sheet::part::Part;
 use sheet::row;
 use walks::walk;
 use walks::walk::Found;
+use words::wide;
 ghost use mathlib.Core.Path.{_≡_};
 ghost use Prim.Native.Nat.{_<_};
 ghost use lib.ListN.{length};

@@ -1,7 +1,7 @@
 -- An index of a part: one slot more, and a lookup from a slot.
 use mathlib.Core.Path.{_≡_, refl, sym, ap, subst, _∙_}
 use mathlib.Core.List.{List, [], _∷_}
-use Prim.Native.Nat.{ℕ, zero, suc, _+_, _-_, _*_, _≤_, _<_}
+use Prim.Native.Nat.{ℕ, zero, suc, _+_, _-_, _*_, _<_}
 use native.Mathlib.Nat.{zero-mul}
 use native.Mathlib.Omega.{arith}
 use native.Mathlib.Decide.{ℕ-discrete}
@@ -12,8 +12,8 @@ use Rattle.sheet.specs.declared.part.Part.{Part}
 use Rattle.sheet.specs.Parse.{elements}
 use Rattle.walks.specs.declared.walk.Found.{Found}
 use Rattle.walks.specs.declared.walk.Found.the-variants.{At, Nothing}
-use Rattle.walks.specs.Walk.{Nth, Past, From, Stands, rowsAt}
-use Rattle.walks.specs.Index.{Filled, Indexed}
+use Rattle.walks.specs.Walk.{Nth, Past, From, Stands}
+use Rattle.walks.specs.Index.{Indexed}
 use Rattle.walks.proofs.WalkLaws.{at-drop, from-here, first-is, past-one}
 
 -- a lookup from a place where the elements from the m-th on are found

@@ -1,8 +1,8 @@
 -- One step of a walk over a part of a sheet, at a place.
 use mathlib.Core.Path.{_≡_, refl, sym, ap, subst, _∙_}
 use mathlib.Core.List.{List, [], _∷_, map}
-use mathlib.Core.Option.{Option, none, some}
-use mathlib.Core.Bool.{Bool, true, false}
+use mathlib.Core.Option.{none}
+use mathlib.Core.Bool.{true, false}
 use Prim.Native.Nat.{ℕ, zero, suc, _+_, _-_, _≤_, _<_}
 use lib.ListN.{length, getD, drop, getElem?, drop-of-length-le}
 use lib.Seq.{drop-cons, drop-drop}
@@ -11,7 +11,7 @@ use native.Mathlib.Numerals.{add-one}
 use borrow.Author.Tests.{eq-eqb, ne-eqb}
 use Rattle.sheet.specs.declared.row.Row.{Row}
 use Rattle.sheet.specs.declared.part.Part.{Part}
-use Rattle.ast.specs.Choice.{choose, mapO}
+use Rattle.ast.specs.Choice.{mapO}
 use Rattle.sheet.specs.Rows.{blank, front, rest}
 use native.Mathlib.Omega.{arith}
 use Rattle.walks.specs.declared.walk.Found.{Found}

@@ -12,7 +12,7 @@ pub record Outside (a b : ℕ) (before after : List ℕ) : Type 0 where
 
 -- a word made wide
 pub record Wide (x r : ℕ) : Type 0 where
-  pub is : r ≡ x
+  pub same : r ≡ x
   pub small : r < 4294967296
 
 -- the words from a up to b are 0, of those up to i

@@ -6,7 +6,7 @@ use Rattle.bindings.proofs.record_instance.Reads as reads
 use Rattle.bindings.proofs.record_instance.Lts as lts
 use Rattle.bindings.proofs.named.Reads as named-reads
 use Rattle.bindings.proofs.remap_routes.Reads as remap-routes-reads
-use Rattle.journal.proofs.wide.Reads as wide-reads
+use Rattle.words.proofs.wide.Reads as wide-reads
 use Rattle.journal.proofs.push.Reads as push-reads
 use Rattle.journal.proofs.set.Reads as set-reads
 use Rattle.journal.proofs.word.Reads as word-reads

@@ -3,7 +3,7 @@ use Rattle.bindings.proofs.remap_routes.Statement.{statement}
 use Rattle.bindings.proofs.remap_routes.Tie as tie
 use Rattle.bindings.proofs.remap_routes.Reads as reads
 use Rattle.bindings.proofs.remap_routes.Lts as lts
-use Rattle.journal.proofs.wide.Reads as wide-reads
+use Rattle.words.proofs.wide.Reads as wide-reads
 use Rattle.journal.proofs.set.Reads as set-reads
 use Rattle.journal.proofs.word.Reads as word-reads
 use Rattle.refine.proofs.remap.Reads as remap-reads

@@ -1,17 +1,16 @@
 -- `checker::check` meets its contract: the rows that are left, from the state reached, have the answer of the whole sheet.
 -- Assumes nothing.
-use mathlib.Core.Path.{_≡_, refl, sym, ap, _∙_}
+use mathlib.Core.Path.{_≡_, sym, ap, _∙_}
 use mathlib.Core.Bool.{Bool}
-use Prim.Native.Nat.{ℕ, _≤_, _-_}
+use Prim.Native.Nat.{_≤_, _-_}
 use native.Mathlib.Omega.{arith}
 use borrow.Author.Needs.{needs}
 use denote.Ref.{now}
 use lib.ListN.{length, drop}
-use Rattle.checker.specs.declared.Checked.{Checked}
 use Rattle.checker.specs.declared.Checked.the-variants.{Fits, Bad}
 use Rattle.sheet.specs.Rows.{rows}
 use Rattle.ast.specs.Choice.{choose}
-use Rattle.checker.specs.Grammar.{run, checked, fits}
+use Rattle.checker.specs.Grammar.{run, checked}
 use Rattle.sheet.proofs.RowLaws.{rows-count}
 use Rattle.checker.proofs.RunLaws.{run-go, run-no, run-end}
 use Rattle.checker.proofs.check.Statement.{statement}

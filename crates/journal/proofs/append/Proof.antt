@@ -6,7 +6,7 @@ use Rattle.journal.proofs.append.Reads as reads
 use Rattle.journal.proofs.append.Lts as lts
 use Rattle.journal.proofs.push.Reads as push-reads
 use Rattle.journal.proofs.set.Reads as set-reads
-use Rattle.journal.proofs.wide.Reads as wide-reads
+use Rattle.words.proofs.wide.Reads as wide-reads
 use Rattle.journal.proofs.word.Reads as word-reads
 use mathlib.Core.Path.{_≡_, refl, sym, ap, _∙_}
 use Rattle.journal.proofs.Owned.{append-law}

@@ -4,7 +4,7 @@ use Rattle.journal.proofs.family.Statement.{statement}
 use Rattle.journal.proofs.family.Tie as tie
 use Rattle.journal.proofs.family.Reads as reads
 use Rattle.journal.proofs.family.Lts as lts
-use Rattle.journal.proofs.wide.Reads as wide-reads
+use Rattle.words.proofs.wide.Reads as wide-reads
 use Rattle.journal.proofs.word.Reads as word-reads
 use mathlib.Core.Path.{_≡_, sym, _∙_}
 use Rattle.journal.proofs.Families.{joins-new, joins-low, joins-tip}

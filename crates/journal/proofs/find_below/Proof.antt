@@ -6,7 +6,7 @@ use Rattle.journal.proofs.find_below.Lts as lts
 use Rattle.journal.proofs.head.Reads as head-reads
 use Rattle.journal.proofs.hits.Reads as hits-reads
 use Rattle.journal.proofs.slot.Reads as slot-reads
-use Rattle.journal.proofs.wide.Reads as wide-reads
+use Rattle.words.proofs.wide.Reads as wide-reads
 use Rattle.journal.proofs.word.Reads as word-reads
 use mathlib.Core.Path.{_≡_, refl, sym, ap, _∙_}
 use Prim.Native.Nat.{ℕ, _+_, _*_, _-_, _≤_}

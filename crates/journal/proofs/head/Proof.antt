@@ -5,7 +5,7 @@ use Rattle.journal.proofs.head.Tie as tie
 use Rattle.journal.proofs.head.Reads as reads
 use Rattle.journal.proofs.head.Lts as lts
 use Rattle.journal.proofs.is_keyed.Reads as is-keyed-reads
-use Rattle.journal.proofs.wide.Reads as wide-reads
+use Rattle.words.proofs.wide.Reads as wide-reads
 use Rattle.journal.proofs.word.Reads as word-reads
 use mathlib.Core.Path.{_≡_, sym, _∙_}
 use borrow.Author.Tests.{not-true, not-false}

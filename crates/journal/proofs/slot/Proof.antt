@@ -4,7 +4,7 @@ use Rattle.journal.proofs.slot.Statement.{statement}
 use Rattle.journal.proofs.slot.Tie as tie
 use Rattle.journal.proofs.slot.Reads as reads
 use Rattle.journal.proofs.slot.Lts as lts
-use Rattle.journal.proofs.wide.Reads as wide-reads
+use Rattle.words.proofs.wide.Reads as wide-reads
 use Rattle.journal.proofs.Keys.{slot-law}
 
 wide-requires : tie.Need-wide-requires

@@ -81,7 +81,7 @@ loop-less : tie.Need-loop-less Inv-loop μ-loop
 loop-less c = let s = stands Fields (rows (now (c .before .before .before .before .before .before .before .before .before .before .before .before .before .args .sheet))) (c .before .before .before .before .before .before .loop .from) (c .before .before .before .before .before .seek .ensures) (c .before .before .before .q .given .1) in omega (arith, s .from, s .below)
 
 loop-again : tie.Need-loop-again Inv-loop μ-loop
-loop-again c = rw (c .wide .ensures .is) (fill-more (c .before .before .before .before .before .before .before .before .before .before .before .before .before .pre .2) (c .before .before .before .before .before .before .loop .inv) (stands Fields (rows (now (c .before .before .before .before .before .before .before .before .before .before .before .before .before .args .sheet))) (c .before .before .before .before .before .before .loop .from) (c .before .before .before .before .before .seek .ensures) (c .before .before .before .q .given .1)) (c .before .row-at .ensures) (omega (arith, c .before .before .before .before .before .before .loop .inv .stays .long, c .before .before .before .before .before .before .before .before .before .clear .ensures .stays .long)))
+loop-again c = rw (c .wide .ensures .same) (fill-more (c .before .before .before .before .before .before .before .before .before .before .before .before .before .pre .2) (c .before .before .before .before .before .before .loop .inv) (stands Fields (rows (now (c .before .before .before .before .before .before .before .before .before .before .before .before .before .args .sheet))) (c .before .before .before .before .before .before .loop .from) (c .before .before .before .before .before .seek .ensures) (c .before .before .before .q .given .1)) (c .before .row-at .ensures) (omega (arith, c .before .before .before .before .before .before .loop .inv .stays .long, c .before .before .before .before .before .before .before .before .before .clear .ensures .stays .long)))
 
 pub fill-spec : {M : Type 1} → statement M
 fill-spec =

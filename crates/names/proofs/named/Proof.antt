@@ -32,7 +32,7 @@ wide-requires-2 : tie.Need-wide-requires-2
 wide-requires-2 c κs = search needs
 
 returns : tie.Need-returns
-returns c = named-none (rows (now (c .before .before .before .before .before .before .args .sheet))) (c .before .before .before .before .before .before .args .node) (c .before .before .before .before .before .before .args .span) (c .before .before .before .before .before .before .args .at) (now (c .before .before .before .before .before .before .args .work)) (c .before .before .before .before .before .before .pre .1) (c .before .before .before .before .before .before .args .name) (c .before .before .before .wide .ensures .is) (c .before .wide2 .ensures .is) (c .if1 .taken)
+returns c = named-none (rows (now (c .before .before .before .before .before .before .args .sheet))) (c .before .before .before .before .before .before .args .node) (c .before .before .before .before .before .before .args .span) (c .before .before .before .before .before .before .args .at) (now (c .before .before .before .before .before .before .args .work)) (c .before .before .before .before .before .before .pre .1) (c .before .before .before .before .before .before .args .name) (c .before .before .before .wide .ensures .same) (c .before .wide2 .ensures .same) (c .if1 .taken)
 
 sub-q : tie.Need-sub-q
 sub-q c = search needs
@@ -41,7 +41,7 @@ row-at-requires : tie.Need-row-at-requires
 row-at-requires c κs = search needs
 
 returns-2 : tie.Need-returns-2
-returns-2 c = named-some (rows (now (c .before .before .before .before .before .before .before .before .before .args .sheet))) (c .before .before .before .before .before .before .before .before .before .args .node) (c .before .before .before .before .before .before .before .before .before .args .span) (c .before .before .before .before .before .before .before .before .before .args .at) (now (c .before .before .before .before .before .before .before .before .before .args .work)) (c .before .before .before .before .before .before .before .before .before .pre .1) (c .before .before .before .before .before .before .before .before .before .args .name) (c .before .before .before .before .before .before .wide .ensures .is) (c .before .before .before .before .wide2 .ensures .is) (c .before .before .before .if1 .left) (c .before .before .row-at .ensures) (c .if2 .taken)
+returns-2 c = named-some (rows (now (c .before .before .before .before .before .before .before .before .before .args .sheet))) (c .before .before .before .before .before .before .before .before .before .args .node) (c .before .before .before .before .before .before .before .before .before .args .span) (c .before .before .before .before .before .before .before .before .before .args .at) (now (c .before .before .before .before .before .before .before .before .before .args .work)) (c .before .before .before .before .before .before .before .before .before .pre .1) (c .before .before .before .before .before .before .before .before .before .args .name) (c .before .before .before .before .before .before .wide .ensures .same) (c .before .before .before .before .wide2 .ensures .same) (c .before .before .before .if1 .left) (c .before .before .row-at .ensures) (c .if2 .taken)
 
 walked-requires : tie.Need-walked-requires
 walked-requires c κs = search needs

@@ -4,7 +4,7 @@ use Rattle.refine.proofs.count.Tie as tie
 use Rattle.refine.proofs.count.Reads as reads
 use Rattle.refine.proofs.count.Lts as lts
 use Rattle.journal.proofs.word.Reads as word-reads
-use Rattle.journal.proofs.wide.Reads as wide-reads
+use Rattle.words.proofs.wide.Reads as wide-reads
 use mathlib.Core.Path.{_∙_}
 use Rattle.refine.proofs.Walking.{Counting, count-start, count-end, count-less, count-next}
 use native.Mathlib.Omega.{arith}

@@ -6,7 +6,7 @@ use Rattle.refine.proofs.fill.Reads as reads
 use Rattle.refine.proofs.fill.Lts as lts
 use Rattle.journal.proofs.push.Reads as push-reads
 use Rattle.journal.proofs.word.Reads as word-reads
-use Rattle.journal.proofs.wide.Reads as wide-reads
+use Rattle.words.proofs.wide.Reads as wide-reads
 use Rattle.refine.proofs.Filling.{fill-law}
 
 wide-requires : tie.Need-wide-requires

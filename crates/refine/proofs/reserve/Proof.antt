@@ -7,7 +7,7 @@ use Rattle.refine.proofs.reserve.Lts as lts
 use Rattle.journal.proofs.enter.Reads as enter-reads
 use Rattle.journal.proofs.push.Reads as push-reads
 use Rattle.refine.proofs.too_many.Reads as too-many-reads
-use Rattle.journal.proofs.wide.Reads as wide-reads
+use Rattle.words.proofs.wide.Reads as wide-reads
 use Rattle.refine.proofs.Reserving.{reserve-most, reserve-full, reserve-enter, reserve-done}
 
 wide-requires : tie.Need-wide-requires

@@ -5,7 +5,7 @@ use Rattle.refine.proofs.value_of.Reads as reads
 use Rattle.refine.proofs.value_of.Lts as lts
 use Rattle.journal.proofs.find_below.Reads as find-below-reads
 use Rattle.journal.proofs.word.Reads as word-reads
-use Rattle.journal.proofs.wide.Reads as wide-reads
+use Rattle.words.proofs.wide.Reads as wide-reads
 use mathlib.Core.Path.{_≡_, _∙_}
 use Prim.Native.Nat.{_≤_}
 use Rattle.refine.proofs.Walking.{Searching, search-start, search-none, search-room, search-here, search-next, search-findable, search-first, search-found, search-less, search-past}

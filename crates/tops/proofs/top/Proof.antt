@@ -5,7 +5,7 @@ use Rattle.tops.proofs.top.Tie as tie
 use Rattle.tops.proofs.top.Reads as reads
 use Rattle.tops.proofs.top.Lts as lts
 use Rattle.tops.proofs.tops.Reads as tops-reads
-use Rattle.journal.proofs.wide.Reads as wide-reads
+use Rattle.words.proofs.wide.Reads as wide-reads
 use Rattle.journal.proofs.paid.Reads as paid-reads
 use Rattle.walks.proofs.walk.seek.Reads as seek-reads
 use Rattle.refine.proofs.open.Reads as open-reads

@@ -1,4 +1,4 @@
-use mathlib.Core.Path.{_≡_, refl, ap, ap₂, _∙_}
+use mathlib.Core.Path.{refl, ap₂, _∙_}
 use Rattle.checker.specs.Grammar.{goIf}
 use Rattle.checker.proofs.RoleLaws.{role-to}
 use borrow.Author.Needs.{needs}

@@ -1,5 +1,5 @@
 use Rattle.checker.specs.Grammar.{moves}
-use borrow.Author.Tests.{eq-eqb, ne-eqb, lt-ltb, le-ltb}
+use borrow.Author.Tests.{lt-ltb, le-ltb}
 use borrow.Author.Needs.{needs}
 use Rattle.checker.proofs.grammar.moves.Statement.{statement}
 use Rattle.checker.proofs.grammar.moves.Tie as tie

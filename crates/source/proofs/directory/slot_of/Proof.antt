@@ -34,7 +34,7 @@ cast-result : tie.Need-cast-result Inv-loop μ-loop
 cast-result c = omega arith
 
 returns : tie.Need-returns Inv-loop μ-loop
-returns c = slot-here (c .before .before .before .loop .inv) (omega (arith, c .before .before .before .before .wide .ensures .is)) (c .if1 .taken)
+returns c = slot-here (c .before .before .before .loop .inv) (omega (arith, c .before .before .before .before .wide .ensures .same)) (c .if1 .taken)
 
 add-s : tie.Need-add-s Inv-loop μ-loop
 add-s c = omega arith
@@ -46,7 +46,7 @@ loop-again : tie.Need-loop-again Inv-loop μ-loop
 loop-again c = pass-next (c .before .before .before .loop .inv) (c .if1 .left)
 
 returns-2 : tie.Need-returns-2 Inv-loop μ-loop
-returns-2 c = slot-none (c .before .loop .inv) (omega (arith, c .before .before .wide .ensures .is))
+returns-2 c = slot-none (c .before .loop .inv) (omega (arith, c .before .before .wide .ensures .same))
 
 pub slot-of-spec : {M : Type 1} → statement M
 slot-of-spec =

@@ -80,7 +80,7 @@ loop-less : tie.Need-loop-less Inv-loop μ-loop
 loop-less c = omega arith
 
 loop-again : tie.Need-loop-again Inv-loop μ-loop
-loop-again c = (omega arith, rw (c .wide .ensures .is) (entries-more (now (c .before .before .before .before .before .before .before .before .args .dir)) (c .before .before .before .before .before .loop .t) (c .before .before .before .before .before .loop .j) (c .before .before .before .before .loop-test .taken) (c .before .before .before .before .before .loop .inv .1)))
+loop-again c = (omega arith, rw (c .wide .ensures .same) (entries-more (now (c .before .before .before .before .before .before .before .before .args .dir)) (c .before .before .before .before .before .loop .t) (c .before .before .before .before .before .loop .j) (c .before .before .before .before .loop-test .taken) (c .before .before .before .before .before .loop .inv .1)))
 
 shared-slice-read-wide-2 : tie.Need-shared-slice-read-wide-2 Inv-loop μ-loop
 shared-slice-read-wide-2 c = omega arith
@@ -89,7 +89,7 @@ wide-requires-2 : tie.Need-wide-requires-2 Inv-loop μ-loop
 wide-requires-2 c κs = search needs
 
 returns : tie.Need-returns Inv-loop μ-loop
-returns c = let z : (c .before .before .before .loop .j) ≡ 64 = omega (arith, c .before .before .loop-test .left, c .before .before .before .loop .inv .0) in copied (c .before .before .before .loop .t) (c .wide2 .ensures .is) (rw z at (c .before .before .before .loop .inv .1))
+returns c = let z : (c .before .before .before .loop .j) ≡ 64 = omega (arith, c .before .before .loop-test .left, c .before .before .before .loop .inv .0) in copied (c .before .before .before .loop .t) (c .wide2 .ensures .same) (rw z at (c .before .before .before .loop .inv .1))
 
 pub table-of-spec : {M : Type 1} → statement M
 table-of-spec =

@@ -27,16 +27,16 @@ wide-requires : tie.Need-wide-requires Inv-loop μ-loop
 wide-requires c κs = search needs
 
 add-count : tie.Need-add-count Inv-loop μ-loop
-add-count c = omega (arith, c .before .before .before .before .before .before .pre .0 .few, c .wide .ensures .is)
+add-count c = omega (arith, c .before .before .before .before .before .before .pre .0 .few, c .wide .ensures .same)
 
 mul-count : tie.Need-mul-count Inv-loop μ-loop
-mul-count c = omega (arith, c .before .before .before .before .before .before .pre .0 .few, c .wide .ensures .is)
+mul-count c = omega (arith, c .before .before .before .before .before .before .pre .0 .few, c .wide .ensures .same)
 
 loop-holds : tie.Need-loop-holds Inv-loop μ-loop
 loop-holds c = (c .before .before .before .before .before .before .pre .1, omega arith, stays _, stays _, indexing-start _ _ (c .before .before .before .before .before .before .pre .0))
 
 index-one-requires : tie.Need-index-one-requires Inv-loop μ-loop
-index-one-requires c κs = (c .before .before .before .loop .inv .4 .directory, omega (arith, c .before .before .before .before .before .before .before .before .before .before .pre .0 .few, c .before .before .before .before .wide .ensures .is), omega arith, c .before .before .before .loop .inv .0, omega (arith, c .before .before .before .loop .inv .3 .long), c .before .before .before .before .before .before .before .before .before .before .pre .3)
+index-one-requires c κs = (c .before .before .before .loop .inv .4 .directory, omega (arith, c .before .before .before .before .before .before .before .before .before .before .pre .0 .few, c .before .before .before .before .wide .ensures .same), omega arith, c .before .before .before .loop .inv .0, omega (arith, c .before .before .before .loop .inv .3 .long), c .before .before .before .before .before .before .before .before .before .before .pre .3)
 
 add-k : tie.Need-add-k Inv-loop μ-loop
 add-k c = omega arith
@@ -47,7 +47,7 @@ loop-less c = omega arith
 loop-again : tie.Need-loop-again Inv-loop μ-loop
 loop-again c =
     let g = (c .before .before .before .before .index-one .ensures) in
-    let few : (c .before .before .before .before .before .before .before .before .loop .k) / 3 < 65 = omega (arith, c .before .before .before .before .before .before .before .before .before .before .before .before .before .before .before .pre .0 .few, c .before .before .before .before .before .before .before .before .before .wide .ensures .is) in
+    let few : (c .before .before .before .before .before .before .before .before .loop .k) / 3 < 65 = omega (arith, c .before .before .before .before .before .before .before .before .before .before .before .before .before .before .before .pre .0 .few, c .before .before .before .before .before .before .before .before .before .wide .ensures .same) in
     (g .upto, omega arith, stays-on 200 size (c .before .before .before .before .before .before .before .before .loop .inv .2) (g .dirStays) (omega arith) (omega arith) (omega arith) (omega arith), stays-on (c .before .before .before .before .before .before .before .before .before .before .before .before .before .before .before .args .at) (c .before .before .before .before .before .before .before .before .before .before .before .before .before .before .before .args .end) (c .before .before .before .before .before .before .before .before .loop .inv .3) (g .workStays) (omega arith) (omega (arith, c .before .before .before .before .before .before .before .before .loop .inv .4 .after)) (omega arith) (g .upto), indexing-more (c .before .before .before .before .before .before .before .before .loop .inv .4) g few (omega arith) (omega arith))
 
 same-length : tie.Need-same-length Inv-loop μ-loop
@@ -57,7 +57,7 @@ same-length-2 : tie.Need-same-length-2 Inv-loop μ-loop
 same-length-2 c = c .before .loop .inv .3 .long
 
 returns : tie.Need-returns Inv-loop μ-loop
-returns c = all-grouped (c .before .loop .inv .4) (c .before .loop .inv .0) (omega (arith, c .before .before .wide .ensures .is)) (c .before .loop .inv .2) (c .before .loop .inv .3)
+returns c = all-grouped (c .before .loop .inv .4) (c .before .loop .inv .0) (omega (arith, c .before .before .wide .ensures .same)) (c .before .loop .inv .2) (c .before .loop .inv .3)
 
 pub index-all-spec : {M : Type 1} → statement M
 index-all-spec =

@@ -114,7 +114,7 @@ returns-2 : tie.Need-returns-2
 returns-2 c =
     let n = (c .before .before .before .before .before .before .before .before .before .before .before .before .before .before .before .args .end) - (c .before .before .before .before .before .before .before .before .before .before .before .before .before .before .before .args .place) in
     let t = drop (c .before .before .before .before .before .before .before .before .before .before .before .before .before .before .before .args .place) (now (c .before .before .before .before .before .before .before .before .before .before .before .before .before .before .before .args .work)) in
-    let x : Indexed (groupPart (c .before .before .before .before .before .before .before .before .before .before .before .before .before .before .before .args .group)) (rows (sheetOf (now (c .before .before .before .before .before .before .before .before .before .before .before .before .before .before .before .args .root)) (now (c .before .before .before .before .before .before .before .before .before .before .before .before .before .before .before .args .library)) (numberOf (now (c .before .before .before .before .before .before .before .before .before .before .before .before .before .before .before .args .dir)) (c .before .before .before .before .before .before .before .before .before .before .before .before .before .before .before .args .slot)))) (rowOf (now (c .before .before .before .before .before .before .before .before .before .before .before .before .before .before .before .args .dir)) (c .before .before .before .before .before .before .before .before .before .before .before .before .before .before .before .args .slot) + 1) (strideOf (now (c .before .before .before .before .before .before .before .before .before .before .before .before .before .before .before .args .dir))) (take n t) (c .before .before .index .last .1 .1 .1 .1 .0) (c .before .before .index .result) = rw (c .before .before .before .before .part-of .ensures, c .before .before .before .before .before .select .ensures, c .before .before .before .before .before .before .before .wide .ensures .is) at (c .before .before .index .ensures) in
+    let x : Indexed (groupPart (c .before .before .before .before .before .before .before .before .before .before .before .before .before .before .before .args .group)) (rows (sheetOf (now (c .before .before .before .before .before .before .before .before .before .before .before .before .before .before .before .args .root)) (now (c .before .before .before .before .before .before .before .before .before .before .before .before .before .before .before .args .library)) (numberOf (now (c .before .before .before .before .before .before .before .before .before .before .before .before .before .before .before .args .dir)) (c .before .before .before .before .before .before .before .before .before .before .before .before .before .before .before .args .slot)))) (rowOf (now (c .before .before .before .before .before .before .before .before .before .before .before .before .before .before .before .args .dir)) (c .before .before .before .before .before .before .before .before .before .before .before .before .before .before .before .args .slot) + 1) (strideOf (now (c .before .before .before .before .before .before .before .before .before .before .before .before .before .before .before .args .dir))) (take n t) (c .before .before .index .last .1 .1 .1 .1 .0) (c .before .before .index .result) = rw (c .before .before .before .before .part-of .ensures, c .before .before .before .before .before .select .ensures, c .before .before .before .before .before .before .before .wide .ensures .same) at (c .before .before .index .ensures) in
     grouped (now (c .before .before .before .before .before .before .before .before .before .before .before .before .before .before .before .args .work)) (c .before .before .before .before .before .before .before .before .before .before .before .before .before .before .before .args .slot) (c .before .before .before .before .before .before .before .before .before .before .before .before .before .before .before .args .group) (c .before .before .before .before .before .before .before .before .before .before .before .before .before .before .before .args .place) (c .before .before .before .before .before .before .before .before .before .before .before .before .before .before .before .args .end) (c .before .before .before .before .before .before .before .before .before .before .before .before .before .before .before .pre .0) (c .before .before .before .before .before .before .before .before .before .before .before .before .before .before .before .pre .1) (c .before .before .before .before .before .before .before .before .before .before .before .before .before .before .before .pre .2) (c .before .before .before .before .before .before .before .before .before .before .before .before .before .before .before .pre .3) (c .before .before .index .last .1 .1 .1 .1 .0) (c .before .before .index .result) (omega arith) ((c .before .before .index .kept .1 .1 .1 .1 .0) ∙ length-take-le n t (omega (arith, length-drop (c .before .before .before .before .before .before .before .before .before .before .before .before .before .before .before .args .place) (now (c .before .before .before .before .before .before .before .before .before .before .before .before .before .before .before .args .work))))) x
 
 pub index-one-spec : {M : Type 1} → statement M

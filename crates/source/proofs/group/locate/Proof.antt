@@ -81,19 +81,19 @@ mul-find : tie.Need-mul-find
 mul-find c = omega (arith, c .before .before .before .before .before .before .wide3 .ensures .small)
 
 sub-find : tie.Need-sub-find
-sub-find c = rw (c .before .before .before .before .before .before .wide3 .ensures .is, c .before .before .before .before .before .before .before .before .before .before .wide .ensures .is) (place-within (c .before .before .before .before .before .before .before .before .before .before .before .before .before .before .before .pre .0) (c .before .before .before .before .before .before .before .before .before .before .before .before .before .before .before .args .slot) (c .before .before .before .before .before .before .before .before .before .before .before .before .before .before .before .args .group) (c .before .before .before .before .before .before .before .before .before .before .before .before .before .before .before .pre .2) (c .before .before .before .before .before .before .before .before .before .before .before .before .before .before .before .pre .1))
+sub-find c = rw (c .before .before .before .before .before .before .wide3 .ensures .same, c .before .before .before .before .before .before .before .before .before .before .wide .ensures .same) (place-within (c .before .before .before .before .before .before .before .before .before .before .before .before .before .before .before .pre .0) (c .before .before .before .before .before .before .before .before .before .before .before .before .before .before .before .args .slot) (c .before .before .before .before .before .before .before .before .before .before .before .before .before .before .before .args .group) (c .before .before .before .before .before .before .before .before .before .before .before .before .before .before .before .pre .2) (c .before .before .before .before .before .before .before .before .before .before .before .before .before .before .before .pre .1))
 
 part-find-start : tie.Need-part-find-start
-part-find-start c = rw (c .before .before .before .before .before .before .wide3 .ensures .is, c .before .before .before .before .before .before .before .before .before .before .wide .ensures .is) (place-within (c .before .before .before .before .before .before .before .before .before .before .before .before .before .before .before .pre .0) (c .before .before .before .before .before .before .before .before .before .before .before .before .before .before .before .args .slot) (c .before .before .before .before .before .before .before .before .before .before .before .before .before .before .before .args .group) (c .before .before .before .before .before .before .before .before .before .before .before .before .before .before .before .pre .2) (c .before .before .before .before .before .before .before .before .before .before .before .before .before .before .before .pre .1))
+part-find-start c = rw (c .before .before .before .before .before .before .wide3 .ensures .same, c .before .before .before .before .before .before .before .before .before .before .wide .ensures .same) (place-within (c .before .before .before .before .before .before .before .before .before .before .before .before .before .before .before .pre .0) (c .before .before .before .before .before .before .before .before .before .before .before .before .before .before .before .args .slot) (c .before .before .before .before .before .before .before .before .before .before .before .before .before .before .before .args .group) (c .before .before .before .before .before .before .before .before .before .before .before .before .before .before .before .pre .2) (c .before .before .before .before .before .before .before .before .before .before .before .before .before .before .before .pre .1))
 
 part-find-end : tie.Need-part-find-end
 part-find-end c = search needs
 
 find-requires : tie.Need-find-requires
-find-requires c κs = rw (c .before .before .part-of .ensures, c .before .before .before .select .ensures, c .before .before .before .before .before .before .before .before .before .wide2 .ensures .is, c .before .before .before .before .before .before .before .wide3 .ensures .is, c .before .before .before .before .before .wide4 .ensures .is, c .before .before .before .before .before .before .before .before .before .before .before .wide .ensures .is) (filled-at (c .before .before .before .before .before .before .before .before .before .before .before .before .before .before .before .before .pre .0) (c .before .before .before .before .before .before .before .before .before .before .before .before .before .before .before .before .args .slot) (c .before .before .before .before .before .before .before .before .before .before .before .before .before .before .before .before .args .group) (c .before .before .before .before .before .before .before .before .before .before .before .before .before .before .before .before .pre .2) (c .before .before .before .before .before .before .before .before .before .before .before .before .before .before .before .before .pre .1))
+find-requires c κs = rw (c .before .before .part-of .ensures, c .before .before .before .select .ensures, c .before .before .before .before .before .before .before .before .before .wide2 .ensures .same, c .before .before .before .before .before .before .before .wide3 .ensures .same, c .before .before .before .before .before .wide4 .ensures .same, c .before .before .before .before .before .before .before .before .before .before .before .wide .ensures .same) (filled-at (c .before .before .before .before .before .before .before .before .before .before .before .before .before .before .before .before .pre .0) (c .before .before .before .before .before .before .before .before .before .before .before .before .before .before .before .before .args .slot) (c .before .before .before .before .before .before .before .before .before .before .before .before .before .before .before .before .args .group) (c .before .before .before .before .before .before .before .before .before .before .before .before .before .before .before .before .pre .2) (c .before .before .before .before .before .before .before .before .before .before .before .before .before .before .before .before .pre .1))
 
 returns : tie.Need-returns
-returns c = rw (c .before .before .before .part-of .ensures, c .before .before .before .before .select .ensures, c .before .before .before .before .before .before .before .before .before .before .wide2 .ensures .is, c .before .before .before .before .before .before .before .before .before .before .before .before .wide .ensures .is) at (c .find .ensures)
+returns c = rw (c .before .before .before .part-of .ensures, c .before .before .before .before .select .ensures, c .before .before .before .before .before .before .before .before .before .before .wide2 .ensures .same, c .before .before .before .before .before .before .before .before .before .before .before .before .wide .ensures .same) at (c .find .ensures)
 
 pub locate-spec : {M : Type 1} → statement M
 locate-spec =

@@ -38,10 +38,10 @@ add-kept : tie.Need-add-kept
 add-kept c = omega (arith, c .before .wide .ensures .small, c .wide2 .ensures .small)
 
 kept-requires : tie.Need-kept-requires
-kept-requires c κs = omega (arith, c .before .wide .ensures .is, c .wide2 .ensures .is, c .before .before .before .before .before .before .before .before .before .pre .cache .upto, c .before .before .before .before .before .before .before .before .before .pre .within)
+kept-requires c κs = omega (arith, c .before .wide .ensures .same, c .wide2 .ensures .same, c .before .before .before .before .before .before .before .before .before .pre .cache .upto, c .before .before .before .before .before .before .before .before .before .pre .within)
 
 returns : tie.Need-returns
-returns c = rw (c .kept .ensures, c .before .before .wide .ensures .is, c .before .wide2 .ensures .is) ((c .before .before .before .before .before .before .before .before .before .before .pre .cache .is) (c .before .before .before .before .before .before .before .before .before .before .args .id) (c .before .before .before .before .if1 .taken))
+returns c = rw (c .kept .ensures, c .before .before .wide .ensures .same, c .before .wide2 .ensures .same) ((c .before .before .before .before .before .before .before .before .before .before .pre .cache .is) (c .before .before .before .before .before .before .before .before .before .before .args .id) (c .before .before .before .before .if1 .taken))
 
 root-extern-requires : tie.Need-root-extern-requires
 root-extern-requires c κs = search needs

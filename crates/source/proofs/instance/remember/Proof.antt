@@ -63,12 +63,12 @@ add-at : tie.Need-add-at Inv-loop μ-loop
 add-at c = omega (arith, c .before .wide3 .ensures .small, c .wide4 .ensures .small)
 
 slice-relend-prefix-fresh : tie.Need-slice-relend-prefix-fresh Inv-loop μ-loop
-slice-relend-prefix-fresh c = omega (arith, c .before .before .before .before .before .before .wide .ensures .is, c .before .before .before .before .before .before .before .before .before .before .before .before .before .before .pre .cache .from, c .before .before .before .before .before .before .before .before .before .before .before .before .before .before .pre .cache .upto, c .before .before .before .before .before .before .before .before .before .before .before .before .before .before .pre .within)
+slice-relend-prefix-fresh c = omega (arith, c .before .before .before .before .before .before .wide .ensures .same, c .before .before .before .before .before .before .before .before .before .before .before .before .before .before .pre .cache .from, c .before .before .before .before .before .before .before .before .before .before .before .before .before .before .pre .cache .upto, c .before .before .before .before .before .before .before .before .before .before .before .before .before .before .pre .within)
 
 slice-aggregate-fresh : tie.Need-slice-aggregate-fresh Inv-loop μ-loop
 slice-aggregate-fresh c =
     let w = now (c .before .before .before .before .before .before .before .before .before .before .before .before .before .before .before .args .work) in
-    let h : (c .before .before .before .before .before .before .before .wide .result) ≤ length w = omega (arith, c .before .before .before .before .before .before .before .wide .ensures .is, c .before .before .before .before .before .before .before .before .before .before .before .before .before .before .before .pre .cache .from, c .before .before .before .before .before .before .before .before .before .before .before .before .before .before .before .pre .cache .upto, c .before .before .before .before .before .before .before .before .before .before .before .before .before .before .before .pre .within) in
+    let h : (c .before .before .before .before .before .before .before .wide .result) ≤ length w = omega (arith, c .before .before .before .before .before .before .before .wide .ensures .same, c .before .before .before .before .before .before .before .before .before .before .before .before .before .before .before .pre .cache .from, c .before .before .before .before .before .before .before .before .before .before .before .before .before .before .before .pre .cache .upto, c .before .before .before .before .before .before .before .before .before .before .before .before .before .before .before .pre .within) in
     let z = length-take-le (c .before .before .before .before .before .before .before .wide .result) w h in search needs
 
 fresh-requires : tie.Need-fresh-requires Inv-loop μ-loop
@@ -77,9 +77,9 @@ fresh-requires c κs = search needs
 loop-holds : tie.Need-loop-holds Inv-loop μ-loop
 loop-holds c =
     let w = now (c .before .before .before .before .before .before .before .before .before .before .before .before .before .before .before .before .before .before .args .work) in
-    let h : (c .before .before .before .before .before .before .before .before .before .before .wide .result) ≤ length w = omega (arith, c .before .before .before .before .before .before .before .before .before .before .wide .ensures .is, c .before .before .before .before .before .before .before .before .before .before .before .before .before .before .before .before .before .before .pre .cache .from, c .before .before .before .before .before .before .before .before .before .before .before .before .before .before .before .before .before .before .pre .cache .upto, c .before .before .before .before .before .before .before .before .before .before .before .before .before .before .before .before .before .before .pre .within) in
+    let h : (c .before .before .before .before .before .before .before .before .before .before .wide .result) ≤ length w = omega (arith, c .before .before .before .before .before .before .before .before .before .before .wide .ensures .same, c .before .before .before .before .before .before .before .before .before .before .before .before .before .before .before .before .before .before .pre .cache .from, c .before .before .before .before .before .before .before .before .before .before .before .before .before .before .before .before .before .before .pre .cache .upto, c .before .before .before .before .before .before .before .before .before .before .before .before .before .before .before .before .before .before .pre .within) in
     let e = (c .before .before .fresh .kept .0) ∙ length-take-le (c .before .before .before .before .before .before .before .before .before .before .wide .result) w h in
-    add-start (c .before .before .fresh .last .0) (c .before .before .before .before .before .before .before .before .before .before .before .before .before .before .before .before .before .before .pre) ((c .before .before .fresh .ensures) (rows (now (c .before .before .before .before .before .before .before .before .before .before .before .before .before .before .before .before .before .before .args .library)))) e (c .before .before .before .before .before .before .before .before .before .before .wide .ensures .is) (c .before .before .before .before .before .before .before .before .wide2 .ensures .is) refl (omega (arith, c .before .before .before .before .before .wide3 .ensures .is, c .before .before .before .before .wide4 .ensures .is))
+    add-start (c .before .before .fresh .last .0) (c .before .before .before .before .before .before .before .before .before .before .before .before .before .before .before .before .before .before .pre) ((c .before .before .fresh .ensures) (rows (now (c .before .before .before .before .before .before .before .before .before .before .before .before .before .before .before .before .before .before .args .library)))) e (c .before .before .before .before .before .before .before .before .before .before .wide .ensures .same) (c .before .before .before .before .before .before .before .before .wide2 .ensures .same) refl (omega (arith, c .before .before .before .before .before .wide3 .ensures .same, c .before .before .before .before .wide4 .ensures .same))
 
 add-loop : tie.Need-add-loop Inv-loop μ-loop
 add-loop c = omega (arith, add-within (c .loop .inv) .1, c .before .before .before .before .before .before .before .before .before .wide2 .ensures .small)
@@ -99,14 +99,14 @@ same-length c = c .before .before .before .before .before .before .loop .inv .di
 same-length-2 : tie.Need-same-length-2 Inv-loop μ-loop
 same-length-2 c =
     let w = now (c .before .before .before .before .before .before .before .before .before .before .before .before .before .before .before .before .before .before .before .before .before .before .before .before .before .args .work) in
-    let h : (c .before .before .before .before .before .before .before .before .before .before .before .before .before .before .before .before .before .wide .result) ≤ length w = omega (arith, c .before .before .before .before .before .before .before .before .before .before .before .before .before .before .before .before .before .wide .ensures .is, c .before .before .before .before .before .before .before .before .before .before .before .before .before .before .before .before .before .before .before .before .before .before .before .before .before .pre .cache .from, c .before .before .before .before .before .before .before .before .before .before .before .before .before .before .before .before .before .before .before .before .before .before .before .before .before .pre .cache .upto, c .before .before .before .before .before .before .before .before .before .before .before .before .before .before .before .before .before .before .before .before .before .before .before .before .before .pre .within) in
+    let h : (c .before .before .before .before .before .before .before .before .before .before .before .before .before .before .before .before .before .wide .result) ≤ length w = omega (arith, c .before .before .before .before .before .before .before .before .before .before .before .before .before .before .before .before .before .wide .ensures .same, c .before .before .before .before .before .before .before .before .before .before .before .before .before .before .before .before .before .before .before .before .before .before .before .before .before .pre .cache .from, c .before .before .before .before .before .before .before .before .before .before .before .before .before .before .before .before .before .before .before .before .before .before .before .before .before .pre .cache .upto, c .before .before .before .before .before .before .before .before .before .before .before .before .before .before .before .before .before .before .before .before .before .before .before .before .before .pre .within) in
     let e = (c .before .before .before .before .before .before .before .before .before .fresh .kept .0) ∙ length-take-le (c .before .before .before .before .before .before .before .before .before .before .before .before .before .before .before .before .before .wide .result) w h in
     (c .before .before .before .before .before .before .loop .inv .workStays .long) ∙ stays-front w (c .before .before .before .before .before .before .before .before .before .fresh .last .0) (c .before .before .before .before .before .before .before .before .before .before .before .before .before .before .before .before .before .wide .result) h e .long
 
 returns : tie.Need-returns Inv-loop μ-loop
 returns c =
     let w = now (c .before .before .before .before .before .before .before .before .before .before .before .before .before .before .before .before .before .before .before .before .before .before .before .before .before .args .work) in
-    let h : (c .before .before .before .before .before .before .before .before .before .before .before .before .before .before .before .before .before .wide .result) ≤ length w = omega (arith, c .before .before .before .before .before .before .before .before .before .before .before .before .before .before .before .before .before .wide .ensures .is, c .before .before .before .before .before .before .before .before .before .before .before .before .before .before .before .before .before .before .before .before .before .before .before .before .before .pre .cache .from, c .before .before .before .before .before .before .before .before .before .before .before .before .before .before .before .before .before .before .before .before .before .before .before .before .before .pre .cache .upto, c .before .before .before .before .before .before .before .before .before .before .before .before .before .before .before .before .before .before .before .before .before .before .before .before .before .pre .within) in
+    let h : (c .before .before .before .before .before .before .before .before .before .before .before .before .before .before .before .before .before .wide .result) ≤ length w = omega (arith, c .before .before .before .before .before .before .before .before .before .before .before .before .before .before .before .before .before .wide .ensures .same, c .before .before .before .before .before .before .before .before .before .before .before .before .before .before .before .before .before .before .before .before .before .before .before .before .before .pre .cache .from, c .before .before .before .before .before .before .before .before .before .before .before .before .before .before .before .before .before .before .before .before .before .before .before .before .before .pre .cache .upto, c .before .before .before .before .before .before .before .before .before .before .before .before .before .before .before .before .before .before .before .before .before .before .before .before .before .pre .within) in
     let e = (c .before .before .before .before .before .before .before .before .before .fresh .kept .0) ∙ length-take-le (c .before .before .before .before .before .before .before .before .before .before .before .before .before .before .before .before .before .wide .result) w h in
     added (c .before .before .before .before .before .before .loop .inv) (stays-front w (c .before .before .before .before .before .before .before .before .before .fresh .last .0) (c .before .before .before .before .before .before .before .before .before .before .before .before .before .before .before .before .before .wide .result) h e)
 
@@ -147,14 +147,14 @@ same-length-3 c = c .before .loop .inv .dirStays .long
 same-length-4 : tie.Need-same-length-4 Inv-loop μ-loop
 same-length-4 c =
     let w = now (c .before .before .before .before .before .before .before .before .before .before .before .before .before .before .before .before .before .before .before .before .args .work) in
-    let h : (c .before .before .before .before .before .before .before .before .before .before .before .before .wide .result) ≤ length w = omega (arith, c .before .before .before .before .before .before .before .before .before .before .before .before .wide .ensures .is, c .before .before .before .before .before .before .before .before .before .before .before .before .before .before .before .before .before .before .before .before .pre .cache .from, c .before .before .before .before .before .before .before .before .before .before .before .before .before .before .before .before .before .before .before .before .pre .cache .upto, c .before .before .before .before .before .before .before .before .before .before .before .before .before .before .before .before .before .before .before .before .pre .within) in
+    let h : (c .before .before .before .before .before .before .before .before .before .before .before .before .wide .result) ≤ length w = omega (arith, c .before .before .before .before .before .before .before .before .before .before .before .before .wide .ensures .same, c .before .before .before .before .before .before .before .before .before .before .before .before .before .before .before .before .before .before .before .before .pre .cache .from, c .before .before .before .before .before .before .before .before .before .before .before .before .before .before .before .before .before .before .before .before .pre .cache .upto, c .before .before .before .before .before .before .before .before .before .before .before .before .before .before .before .before .before .before .before .before .pre .within) in
     let e = (c .before .before .before .before .fresh .kept .0) ∙ length-take-le (c .before .before .before .before .before .before .before .before .before .before .before .before .wide .result) w h in
     (c .before .loop .inv .workStays .long) ∙ stays-front w (c .before .before .before .before .fresh .last .0) (c .before .before .before .before .before .before .before .before .before .before .before .before .wide .result) h e .long
 
 returns-2 : tie.Need-returns-2 Inv-loop μ-loop
 returns-2 c =
     let w = now (c .before .before .before .before .before .before .before .before .before .before .before .before .before .before .before .before .before .before .before .before .args .work) in
-    let h : (c .before .before .before .before .before .before .before .before .before .before .before .before .wide .result) ≤ length w = omega (arith, c .before .before .before .before .before .before .before .before .before .before .before .before .wide .ensures .is, c .before .before .before .before .before .before .before .before .before .before .before .before .before .before .before .before .before .before .before .before .pre .cache .from, c .before .before .before .before .before .before .before .before .before .before .before .before .before .before .before .before .before .before .before .before .pre .cache .upto, c .before .before .before .before .before .before .before .before .before .before .before .before .before .before .before .before .before .before .before .before .pre .within) in
+    let h : (c .before .before .before .before .before .before .before .before .before .before .before .before .wide .result) ≤ length w = omega (arith, c .before .before .before .before .before .before .before .before .before .before .before .before .wide .ensures .same, c .before .before .before .before .before .before .before .before .before .before .before .before .before .before .before .before .before .before .before .before .pre .cache .from, c .before .before .before .before .before .before .before .before .before .before .before .before .before .before .before .before .before .before .before .before .pre .cache .upto, c .before .before .before .before .before .before .before .before .before .before .before .before .before .before .before .before .before .before .before .before .pre .within) in
     let e = (c .before .before .before .before .fresh .kept .0) ∙ length-take-le (c .before .before .before .before .before .before .before .before .before .before .before .before .wide .result) w h in
     added (c .before .loop .inv) (stays-front w (c .before .before .before .before .fresh .last .0) (c .before .before .before .before .before .before .before .before .before .before .before .before .wide .result) h e)
 

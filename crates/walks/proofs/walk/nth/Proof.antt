@@ -1,14 +1,14 @@
 -- `walks::walk::nth` meets its contract: past each element there is one fewer to go.
 -- Assumes nothing.
-use mathlib.Core.Path.{_≡_, refl, sym, ap, _∙_}
+use mathlib.Core.Path.{_≡_, sym, ap, _∙_}
 use mathlib.Core.List.{List}
 use native.Mathlib.Nat.{add-zero}
-use Prim.Native.Nat.{ℕ, _≤_, _-_, _+_}
+use Prim.Native.Nat.{_≤_, _-_, _+_}
 use Rattle.sheet.specs.declared.row.Row.{Row}
 use native.Mathlib.Omega.{arith}
 use borrow.Author.Needs.{needs}
 use denote.Ref.{now}
-use lib.ListN.{length, drop, getElem?}
+use lib.ListN.{drop, getElem?}
 use Rattle.sheet.specs.Rows.{rows}
 use Rattle.sheet.specs.Parse.{elements}
 use Rattle.walks.specs.Walk.{Stands}
