@@ -31,7 +31,7 @@ use Rattle.refine.specs.Does.{at, resultOf}
 use Rattle.refine.proofs.Beginning.{sound-none}
 use Rattle.parts.specs.Contract.{sourceOf}
 use Rattle.cycle.specs.Contract.{Blank, Topped}
-use Rattle.writer.specs.Writing.{Pasted}
+use Rattle.lists.specs.Writing.{Pasted}
 use Rattle.writer.specs.Document.{documentIn, outRows, Written}
 use Rattle.luhetami.specs.declared.Outcome.{Outcome}
 use Rattle.luhetami.specs.declared.Outcome.the-variants.{Expanded, Refused}

@@ -1,13 +1,13 @@
 // The output sheet, the ledger and the scopes.
 use super::externs;
-use super::lists;
-use super::lists::Kind;
 use super::pass;
-use super::rows;
+use lists;
+use lists::Kind;
+use lists::rows;
 use sheet::row;
 ghost use lib.ListN.{length};
-ghost use Rattle.writer.specs.Writing.{Room};
-ghost use Rattle.writer.specs.Tables.{TablesRoom};
+ghost use Rattle.lists.specs.Writing.{Room};
+ghost use Rattle.tables.specs.Tables.{TablesRoom};
 ghost use Rattle.writer.specs.Document.{outRows, Printable, Written};
 
 // Answers the number of rows; `some` is the number of externs.
