@@ -2,7 +2,7 @@
 use mathlib.Core.Path.{_≡_, refl, sym, ap, _∙_}
 use mathlib.Core.List.{List, [], _∷_, _++_}
 use Prim.Native.Nat.{ℕ, _≤_, _<_}
-use Rattle.source.specs.Directory.{numberOf, Slot}
+use Rattle.directory.specs.Directory.{numberOf, Slot}
 use Rattle.expansion.specs.Input.{Input}
 use Rattle.expansion.specs.State.{State, Comp, bindR, _>>=_, _>>_, ret, fail, mapM, foldM}
 use Rattle.expansion.specs.Charges.{charge, paid}

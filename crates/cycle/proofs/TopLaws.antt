@@ -13,7 +13,7 @@ use Rattle.sheet.specs.Rows.{rows, blank, front, rest}
 use Rattle.sheet.specs.Parse.{elements, routeOf, statementOf, statementsOf, afterTop, documentOf}
 use Rattle.lookup.specs.Walk.{Stands}
 use Rattle.lookup.proofs.WalkLaws.{front-drop, rest-drop}
-use Rattle.source.specs.Directory.{numberOf}
+use Rattle.directory.specs.Directory.{numberOf}
 use Rattle.expansion.specs.Input.{Input}
 use Rattle.expansion.specs.Scopes.{Scope}
 use Rattle.expansion.specs.State.{State, Comp, Result, refusal, ok, bindR, _>>=_, _>>_, ret, mapM, start}

@@ -14,7 +14,7 @@ use Rattle.sheet.specs.Parse.{elements}
 use Rattle.sheet.proofs.RowLaws.{rows-length}
 use Rattle.lookup.specs.Walk.{Stands}
 use Rattle.lookup.proofs.WalkLaws.{rest-drop, each-at, each-none}
-use Rattle.source.specs.Directory.{numberOf}
+use Rattle.directory.specs.Directory.{numberOf}
 use Rattle.expansion.specs.Input.{Input}
 use Rattle.expansion.specs.State.{State, Comp, bindR, _>>=_, ret, mapM, foldM}
 use Rattle.refine.specs.declared.Limits.{Limits}

@@ -2,6 +2,7 @@
 // Remaining depth falls at each node entered.
 use ast::NodeId;
 use ast::ProtoId;
+use directory;
 use journal;
 use journal::Record;
 use lookup::walk;
@@ -13,7 +14,6 @@ use refine::Limits;
 use sheet::part::Part;
 use sheet::row;
 use sheet::row::Row;
-use source::directory;
 use source::instance::Target;
 ghost use mathlib.Core.Path.{_≡_};
 ghost use mathlib.Core.Bool.{true};
@@ -21,7 +21,7 @@ ghost use Prim.Native.Nat.{_<_};
 ghost use lib.ListN.{length, getD};
 ghost use Rattle.sheet.specs.Rows.{rows, blank};
 ghost use Rattle.lookup.specs.Walk.{Sought, Bare};
-ghost use Rattle.source.specs.Directory.{Slot};
+ghost use Rattle.directory.specs.Directory.{Slot};
 ghost use Rattle.journal.specs.Records.{tagField, tagInterface, tagStatement, tagStored, Wide};
 ghost use Rattle.reading.specs.Fair.{HandleAt};
 ghost use Rattle.parts.specs.Contract.{rowsOf};

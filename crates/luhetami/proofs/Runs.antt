@@ -22,7 +22,7 @@ use Rattle.reading.specs.Reading.{nodesOf, ledgerOf, scopesOf, statementsAt, st
 use Rattle.reading.specs.Fair.{HandleAt}
 use Rattle.reading.proofs.Nodes.{nodes-length}
 use Rattle.reading.proofs.States.{scopes-length}
-use Rattle.source.specs.Sourced.{Fit, Prepared}
+use Rattle.setup.specs.Prepared.{Fit, Prepared}
 use Rattle.refine.specs.declared.Limits.{Limits}
 use Rattle.refine.specs.declared.Counts.{Counts}
 use Rattle.refine.specs.declared.Answer.the-variants as answered

@@ -31,7 +31,7 @@ use Rattle.reading.specs.Reading.{valuesAt, valueRec, orderAt, orderNew}
 use Rattle.reading.specs.Fair.{HandleAt}
 use Rattle.reading.proofs.Fair.{handle-none, handle-new}
 use Rattle.reading.proofs.Chains.{order-none, order-new}
-use Rattle.source.specs.Directory.{numberOf}
+use Rattle.directory.specs.Directory.{numberOf}
 use Rattle.refine.specs.declared.Limits.{Limits}
 use Rattle.refine.specs.declared.Counts.{Counts}
 use Rattle.refine.specs.declared.Env as code
