@@ -17,7 +17,7 @@ use Rattle.operation.specs.Operation.{Call, input, over}
 use Rattle.reading.specs.Reading.{nodesOf, ledgerOf, scopesOf, statementsAt}
 use Rattle.reading.proofs.Nodes.{nodes-length}
 use Rattle.reading.proofs.States.{scopes-length}
-use Rattle.source.specs.Sourced.{Fit, Prepared}
+use Rattle.setup.specs.Prepared.{Fit, Prepared}
 use Rattle.refine.specs.declared.Limits.{Limits}
 use Rattle.refine.specs.declared.Counts.{Counts}
 use Rattle.refine.specs.declared.Answer.the-variants as answered
@@ -26,7 +26,7 @@ use Rattle.refine.specs.Does.{at}
 use Rattle.refine.proofs.Beginning.{sound-none}
 use Rattle.parts.specs.Contract.{sourceOf}
 use Rattle.cycle.specs.Contract.{Blank, Topped}
-use Rattle.writer.specs.Writing.{Pasted}
+use Rattle.lists.specs.Writing.{Pasted}
 use Rattle.writer.specs.Document.{documentIn, outRows, Written}
 use Rattle.call.specs.declared.Outcome.{Outcome}
 use Rattle.call.specs.declared.Outcome.the-variants.{Expanded, Refused}

@@ -13,7 +13,7 @@ use Rattle.operation.specs.Promises.{Room, Sheets, Answered, Accepted}
 use Rattle.reading.specs.Reading.{ledgerOf, scopesOf}
 use Rattle.refine.specs.declared.Counts.{Counts}
 use Rattle.writer.specs.Document.{outRows, Printable}
-use Rattle.writer.specs.Tables.{scopeText, ledgerText}
+use Rattle.tables.specs.Tables.{scopeText, ledgerText}
 use Rattle.call.specs.declared.Outcome.{Outcome}
 use Rattle.call.specs.declared.Outcome.the-variants.{Expanded, Refused}
 

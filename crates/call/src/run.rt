@@ -56,7 +56,7 @@ pub fn run<'a>(
 {
     let slots = 2 * rows + 32 * (depth + 1);
     let mut dir = [0u32; 592];
-    source::prepare(root, library, work, rows * 12 + slots, slots, &mut dir);
+    setup::prepare(root, library, work, rows * 12 + slots, slots, &mut dir);
     let lim = Limits { nodes, rows, slots };
     match tops::top(root, library, &dir, work, lim, depth) {
         Answer::Done {

@@ -17,7 +17,7 @@ use Rattle.lookup.specs.Lookup.{documentsOf, Located}
 use Rattle.walks.specs.Walk.{rowsAt}
 use Rattle.walks.proofs.WalkLaws.{front-drop}
 use Rattle.picks.specs.Picks.{pickAt}
-use Rattle.source.specs.Directory.{numberOf, Slot}
+use Rattle.directory.specs.Directory.{numberOf, Slot}
 use Rattle.source.specs.declared.instance.Target.{Target}
 use Rattle.source.specs.declared.instance.Target.the-variants.{Plain, Of}
 use Rattle.source.specs.Instance.{pickIn, originFrom, instanceIn, targetOf, Targeted}

@@ -17,7 +17,7 @@ use Rattle.walks.specs.declared.walk.Found.{Found}
 use Rattle.walks.specs.declared.walk.Found.the-variants.{At, Nothing}
 use Rattle.walks.specs.Walk.{rowsAt}
 use Rattle.walks.proofs.WalkLaws.{front-drop}
-use Rattle.source.specs.Directory.{numberOf, Slot}
+use Rattle.directory.specs.Directory.{numberOf, Slot}
 use Rattle.names.specs.Names.{LastField}
 use Rattle.expansion.specs.Input.{Input}
 use Rattle.expansion.specs.Scopes.{Scope}

@@ -19,7 +19,7 @@ use Rattle.lookup.specs.Lookup.{documentsOf, Located}
 use Rattle.walks.specs.Walk.{rowsAt}
 use Rattle.walks.proofs.WalkLaws.{front-drop}
 use Rattle.picks.specs.Picks.{Pick}
-use Rattle.source.specs.Directory.{numberOf, Slot}
+use Rattle.directory.specs.Directory.{numberOf, Slot}
 use Rattle.expansion.specs.Input.{Input, docs}
 use Rattle.expansion.specs.Scopes.{Scope}
 use Rattle.expansion.specs.State.{State, Comp, bindR, _>>=_, _>>_, fail, foldM}

@@ -10,7 +10,7 @@ use Rattle.sheet.specs.Rows.{rows, blank, front}
 use Rattle.sheet.specs.Parse.{originOf}
 use Rattle.lookup.specs.Lookup.{sheetOf}
 use Rattle.walks.proofs.WalkLaws.{front-drop}
-use Rattle.source.specs.Directory.{numberOf}
+use Rattle.directory.specs.Directory.{numberOf}
 use Rattle.expansion.specs.Input.{Input}
 use Rattle.expansion.specs.State.{State, ok, Comp, _>>=_, ret}
 use Rattle.expansion.specs.Values.{Env}

@@ -13,7 +13,7 @@ use Rattle.sheet.specs.Rows.{rows, blank, rest}
 use Rattle.sheet.specs.Parse.{elements, routeOf, statementOf, statementsOf, afterTop, documentOf}
 use Rattle.walks.specs.Walk.{Stands}
 use Rattle.walks.proofs.WalkLaws.{front-drop, rest-drop}
-use Rattle.source.specs.Directory.{numberOf}
+use Rattle.directory.specs.Directory.{numberOf}
 use Rattle.expansion.specs.Input.{Input}
 use Rattle.expansion.specs.Scopes.{Scope}
 use Rattle.expansion.specs.State.{State, Comp, refusal, bindR, _>>=_, _>>_, ret, mapM, start}

@@ -14,7 +14,7 @@ use Rattle.sheet.specs.Parse.{elements}
 use Rattle.sheet.proofs.RowLaws.{rows-length}
 use Rattle.walks.specs.Walk.{Stands}
 use Rattle.walks.proofs.WalkLaws.{rest-drop, each-at}
-use Rattle.source.specs.Directory.{numberOf}
+use Rattle.directory.specs.Directory.{numberOf}
 use Rattle.expansion.specs.Input.{Input}
 use Rattle.expansion.specs.State.{Comp, bindR, _>>=_, ret, mapM}
 use Rattle.refine.specs.declared.Limits.{Limits}

@@ -11,7 +11,7 @@ use Rattle.sheet.specs.declared.row.Row.{Row}
 use Rattle.sheet.specs.Rows.{rows, front, rest}
 use Rattle.sheet.specs.Print.{row}
 use Rattle.sheet.specs.Parse.{valueOf, fieldOf, interfaceOf, interfacesOf, statementOf, statementsOf, originOf}
-use Rattle.source.specs.Directory.{numberOf, Slot}
+use Rattle.directory.specs.Directory.{numberOf, Slot}
 use Rattle.picks.specs.Picks.{Pick}
 use Rattle.expansion.specs.Input.{Input, docs, lastField}
 use Rattle.expansion.specs.Scopes.{Scope}

@@ -2,6 +2,7 @@
 // Remaining depth falls at each node entered.
 use ast::NodeId;
 use ast::ProtoId;
+use directory;
 use journal;
 use journal::Record;
 use refine::Answer;
@@ -11,7 +12,6 @@ use refine::Limits;
 use sheet::part::Part;
 use sheet::row;
 use sheet::row::Row;
-use source::directory;
 use source::instance::Target;
 use walks::walk;
 use walks::walk::Found;
@@ -22,7 +22,7 @@ ghost use Prim.Native.Nat.{_<_};
 ghost use lib.ListN.{length, getD};
 ghost use Rattle.sheet.specs.Rows.{blank};
 ghost use Rattle.walks.specs.Walk.{Sought, Bare};
-ghost use Rattle.source.specs.Directory.{Slot};
+ghost use Rattle.directory.specs.Directory.{Slot};
 ghost use Rattle.journal.specs.Records.{tagField, tagInterface, tagStored};
 ghost use Rattle.reading.specs.Fair.{HandleAt};
 ghost use Rattle.parts.specs.Contract.{rowsOf};

@@ -39,7 +39,7 @@ use Rattle.reading.proofs.Lookups.{extern-lookup}
 use Rattle.reading.proofs.Nodes.{calm-same}
 use Rattle.reading.specs.Calm.{Calm}
 use Rattle.reading.proofs.States.{more, state-extern, externs-length}
-use Rattle.source.specs.Directory.{numberOf}
+use Rattle.directory.specs.Directory.{numberOf}
 use Rattle.refine.specs.declared.Limits.{Limits}
 use Rattle.refine.specs.declared.Counts.{Counts}
 use Rattle.refine.specs.declared.Answer.{Answer}

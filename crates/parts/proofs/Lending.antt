@@ -14,7 +14,7 @@ use Rattle.journal.specs.declared.Found.the-variants.{At}
 use Rattle.journal.specs.Index.{keyed, hit, newest, foundOf, Findable, Enterable}
 use Rattle.journal.proofs.Lists.{newest-is}
 use Rattle.sheet.specs.Rows.{rows}
-use Rattle.source.specs.Directory.{numberOf, fromOf, endOf}
+use Rattle.directory.specs.Directory.{numberOf, fromOf, endOf}
 use Rattle.source.proofs.SourcedLaws.{sourced-kept}
 use Rattle.refine.specs.declared.Limits.{Limits}
 use Rattle.refine.specs.declared.Counts.{Counts}

@@ -26,7 +26,7 @@ use Rattle.reading.specs.Reading.{statementRec, statementsAt}
 use Rattle.reading.specs.Fair.{HandleAt}
 use Rattle.reading.proofs.Fair.{handle-none}
 use Rattle.reading.proofs.Chains.{statements-none, statements-fixed}
-use Rattle.source.specs.Directory.{numberOf}
+use Rattle.directory.specs.Directory.{numberOf}
 use Rattle.refine.specs.declared.Limits.{Limits}
 use Rattle.refine.specs.declared.Counts.{Counts}
 use Rattle.refine.specs.declared.Env as code

@@ -21,7 +21,7 @@ use Rattle.expansion.specs.PlainCopy.{copyRoute, copyExtern, copyStatement, som
 use Rattle.journal.specs.Records.{tagStatement, tagOrder}
 use Rattle.reading.specs.Reading.{statementRec, statementsAt, orderAt}
 use Rattle.reading.specs.Fair.{HandleAt}
-use Rattle.source.specs.Directory.{numberOf, fromOf}
+use Rattle.directory.specs.Directory.{numberOf, fromOf}
 use Rattle.source.specs.Sourced.{Sourced}
 use Rattle.refine.specs.declared.Limits.{Limits}
 use Rattle.refine.specs.declared.Counts.{Counts}

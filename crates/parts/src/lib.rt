@@ -1,5 +1,6 @@
 // Steps of an expansion that copy no node: externs, routes, a node's statements and its body order.
 use ast::ExternProtoId;
+use directory;
 use journal;
 use journal::Record;
 use lookup::rows;
@@ -12,7 +13,6 @@ use sheet::part::Part;
 use sheet::row;
 use sheet::row::Row;
 use source;
-use source::directory;
 use walks::walk;
 use walks::walk::Found;
 ghost use mathlib.Core.Path.{_≡_};
@@ -24,7 +24,7 @@ ghost use Rattle.sheet.specs.Parse.{statementOf};
 ghost use Rattle.journal.specs.Records.{tagStatement};
 ghost use Rattle.reading.specs.Reading.{mapOf};
 ghost use Rattle.reading.specs.Fair.{HandleAt};
-ghost use Rattle.source.specs.Directory.{numberOf, Slot};
+ghost use Rattle.directory.specs.Directory.{numberOf, Slot};
 ghost use Rattle.lookup.specs.Lookup.{sheetOf};
 ghost use Rattle.refine.specs.Sound.{Standing, EnvAt, envOf};
 ghost use Rattle.parts.specs.Contract.{Lent, Counted, Declared, Routed, ExternStated, OneStating, Stating, keptStatement, fieldKept, Takes, Ordering};

@@ -14,7 +14,7 @@ use Rattle.picks.specs.Picks.{pickAt}
 use Rattle.picks.proofs.PickLaws.{pick-missing}
 use Rattle.source.specs.declared.instance.Target.{Target}
 use Rattle.source.specs.declared.instance.Target.the-variants.{Plain, Of}
-use Rattle.source.specs.Directory.{numberOf, Slot}
+use Rattle.directory.specs.Directory.{numberOf, Slot}
 use Rattle.source.specs.Instance.{pickIn, originFrom, instanceIn, Targeted}
 
 -- an extern that the root lacks has no pick

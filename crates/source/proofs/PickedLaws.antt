@@ -27,9 +27,9 @@ use Rattle.picks.proofs.MemberLaws.{member-last, member-none}
 use Rattle.picks.proofs.GrowLaws.{grows-all}
 use Rattle.picks.proofs.PickLaws.{pick-found}
 use Rattle.source.specs.declared.instance.Target.the-variants.{Plain, Of}
-use Rattle.source.specs.Directory.{Copy, Directory, SlotFor}
+use Rattle.directory.specs.Directory.{Copy, Directory, SlotFor}
 use Rattle.source.specs.Instance.{Targeted}
-use Rattle.source.proofs.DirectoryLaws.{first-at}
+use Rattle.directory.proofs.DirectoryLaws.{first-at}
 
 -- a document is the first file of a base of a table
 pub record Known (library : List File) (T : Bases) (d : ℕ) : Type 0 where

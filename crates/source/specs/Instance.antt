@@ -10,7 +10,7 @@ use Rattle.ast.specs.Choice.{choose}
 use Rattle.picks.specs.Picks.{Pick, pickAt}
 use Rattle.source.specs.declared.instance.Target.{Target}
 use Rattle.source.specs.declared.instance.Target.the-variants.{Plain, Of}
-use Rattle.source.specs.Directory.{numberOf, Slot}
+use Rattle.directory.specs.Directory.{numberOf, Slot}
 
 -- what was picked for an extern of document d: the root's alone are picked
 unfoldable pub pickIn : Document → List File → ℕ → ℕ → Option Pick

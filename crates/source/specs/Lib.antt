@@ -1,4 +1,2 @@
-pub mod Directory
 pub mod Instance
-pub mod Listing
 pub mod Sourced

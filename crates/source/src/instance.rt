@@ -1,6 +1,6 @@
 // The prototype that a node is an instance of, and the cache of the picks of the root's externs.
-use super::directory;
 use super::group;
+use directory;
 use memo::Memo;
 use picks::Chosen;
 use picks::table::Table;
@@ -15,10 +15,9 @@ ghost use Rattle.walks.specs.declared.walk.Found.the-variants.{At};
 ghost use Rattle.lookup.specs.Lookup.{documentAt, Looked};
 ghost use Rattle.picks.specs.Picks.{pickAt};
 ghost use Rattle.memo.specs.Memo.{Kept};
-ghost use Rattle.words.specs.Words.{Outside};
-ghost use Rattle.source.specs.Directory.{Directory, Copy};
-ghost use Rattle.source.specs.Instance.{Targeted, targetAt, Small};
-ghost use Rattle.source.specs.Sourced.{Sourced, Remembered};
+ghost use Rattle.directory.specs.Directory.{Directory, Copy};
+ghost use Rattle.source.specs.Instance.{Targeted, targetAt};
+ghost use Rattle.source.specs.Sourced.{Sourced};
 
 // A plain node, or an instance of a PROTO of a slot's document.
 pub enum Target {
@@ -33,7 +32,7 @@ pub struct Aimed {
 }
 
 // The pick of the root's extern at a row.
-fn pick_row<'a>(
+pub fn pick_row<'a>(
     root: &'a [u32],
     row: usize,
     library: &'a [u32],
@@ -61,27 +60,20 @@ fn pick_row<'a>(
 }
 
 // An extern of the root.
-fn root_extern<'a>(root: &'a [u32], library: &'a [u32], dir: &[u32], work: &[u32], id: u32) -> Found
+pub fn root_extern<'a>(
+    root: &'a [u32],
+    library: &'a [u32],
+    dir: &[u32],
+    work: &[u32],
+    id: u32,
+) -> Found
     requires { ⌜ Sourced (now root) (now library) (now dir) (now work) ⌝ }
     ensures { λ x. ⌜ Looked externProtoOf (documentAt (rows (now (root .entry))) 0 .externProtos) (rows (now (root .entry))) id x ⌝ }
 {
     group::locate(root, library, dir, work, 0, 2, id)
 }
 
-// A target is kept in two words: its slot + 1, or 0 for a plain node, and the PROTO's id.
-fn keep(x: Target, work: &mut [u32], at: usize)
-    requires { ⌜ (at + 1 < length (now work)) × Small x ⌝ }
-    ensures { λ _. ⌜ (targetAt (now (work .exit)) at ≡ x) × Outside at (at + 2) (now (work .entry)) (now (work .exit)) ⌝ }
-{
-    match x {
-        Target::Of { slot, proto } => {
-            work[at] = slot + 1;
-            work[at + 1] = proto;
-        }
-        Target::Plain => work[at] = 0,
-    }
-}
-
+// The target that stands in two words: its slot + 1, or 0 for a plain node, and the PROTO's id.
 fn kept(work: &[u32], at: usize) -> Target
     requires { ⌜ at + 1 < length (now work) ⌝ }
     ensures { λ x. ⌜ x ≡ targetAt (now (work .entry)) at ⌝ }
@@ -93,31 +85,6 @@ fn kept(work: &[u32], at: usize) -> Target
     Target::Of {
         slot: word - 1,
         proto: work[at + 1],
-    }
-}
-
-// Adds the picks of the root's externs, in order, to the cache, while the region has room.
-pub fn remember<'a>(root: &'a [u32], library: &'a [u32], dir: &mut [u32], work: &mut [u32])
-    requires { ⌜ Sourced (now root) (now library) (now dir) (now work) ⌝ }
-    ensures { λ _. ⌜ Remembered (now (root .entry)) (now (library .entry)) (now (dir .entry)) (now (dir .exit)) (now (work .entry)) (now (work .exit)) ⌝ }
-{
-    let table = directory::table_of(dir);
-    let from = wide(dir[198]);
-    let end = wide(dir[199]);
-    let mut i = dir[197];
-    let mut at = wide(dir[196]) + 2 * wide(i);
-    let mut memo = memo::fresh(&mut work[..from]);
-    while at + 2 <= end {
-        let Found::At(row) = root_extern(root, library, dir, work, i) else {
-            return;
-        };
-        let aimed = pick_row(root, row, library, dir, table, memo, &mut work[..from]);
-        memo = aimed.memo;
-        let x = aimed.target;
-        keep(x, work, at);
-        i += 1;
-        dir[197] = i;
-        at += 2;
     }
 }
 

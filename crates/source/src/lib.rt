@@ -1,14 +1,13 @@
 // What an expansion asks of the two sheets (document 01, Modules: Lookups, Picks, Reached): where a node, prototype or
 // extern stands, and which prototype a node is an instance of; in constant time where the lent words have room.
 // The documents that an expansion can meet are known by slots: 0 the root, j + 1 the file of base j.
-pub mod directory;
-pub mod group;
+mod group;
 pub mod instance;
-mod listing;
 
 use ast::ExternProtoId;
 use ast::NodeId;
 use ast::ProtoId;
+use directory;
 use instance::Target;
 use walks::walk::Found;
 use words::wide;
@@ -18,52 +17,10 @@ ghost use Rattle.ast.specs.Lookups.{nodeAt, protoAt, externProtoAt};
 ghost use Rattle.sheet.specs.Rows.{rows};
 ghost use Rattle.sheet.specs.Parse.{nodeOf, protoOf, externProtoOf, documentOf, filesOf};
 ghost use Rattle.lookup.specs.Lookup.{documentsOf, sheetOf, Located};
-ghost use Rattle.source.specs.Directory.{numberOf, Slot};
+ghost use Rattle.directory.specs.Directory.{numberOf, Slot};
 ghost use Rattle.source.specs.Instance.{originFrom, instanceIn, Targeted};
 ghost use Rattle.names.specs.Names.{LastField};
-ghost use Rattle.source.specs.Sourced.{Sourced, Fit, Opened, Prepared};
-
-// Writes the directory of the documents: the words before the region are scratch.
-fn write_directory<'a>(
-    root: &'a [u32],
-    library: &'a [u32],
-    work: &mut [u32],
-    at: usize,
-    len: usize,
-    dir: &mut [u32],
-)
-    requires { ⌜ Fit (now root) (now library) (now work) at len (now dir) ⌝ }
-    ensures { λ _. ⌜ Opened (now (root .entry)) (now (library .entry)) (now (work .entry)) (now (work .exit)) at len (now (dir .exit)) ⌝ }
-{
-    let table = picks::bases_of(root, library, &mut work[..at]);
-    directory::store(library, table, dir);
-    dir[195] = group::stride(root.len() / 8 + library.len() / 8, len / 2);
-    dir[198] = at as u32;
-    dir[199] = (at + len) as u32;
-}
-
-// Writes the directory, and to the words [at, at + len) of work the indexes, the tables of names and the cache of picks.
-// The words before them are scratch; those after them stay.
-pub fn prepare<'a>(
-    root: &'a [u32],
-    library: &'a [u32],
-    work: &mut [u32],
-    at: usize,
-    len: usize,
-    dir: &mut [u32],
-)
-    requires { ⌜ Fit (now root) (now library) (now work) at len (now dir) ⌝ }
-    ensures { λ _. ⌜ Prepared (now (root .entry)) (now (library .entry)) (now (work .entry)) (now (work .exit)) at len (now (dir .exit)) ⌝ }
-{
-    write_directory(root, library, work, at, len, dir);
-    let end = at + len;
-    let indexed = group::index_all(root, library, dir, work, at, end);
-    let half = (end - indexed) / 2;
-    let next = listing::list(root, dir, work, indexed, indexed + half);
-    dir[196] = next as u32;
-    dir[197] = 0;
-    instance::remember(root, library, dir, work);
-}
+ghost use Rattle.source.specs.Sourced.{Sourced};
 
 // Document::node, of the document of a slot.
 pub fn node<'a>(

@@ -9,12 +9,12 @@ use Rattle.sheet.specs.Rows.{rows, blank}
 use Rattle.sheet.specs.Print.{row, topRow, rowsOfEach, nodeRows, externProtoRows, documentRows}
 use Rattle.walks.proofs.WalkLaws.{front-drop}
 use Rattle.reading.specs.Reading.{nodesOf, externsOf}
-use Rattle.writer.specs.declared.lists.Kind.the-variants.{Statements}
-use Rattle.writer.specs.Writing.{Room}
-use Rattle.writer.specs.Lists.{listRows}
+use Rattle.lists.specs.declared.Kind.the-variants.{Statements}
+use Rattle.lists.specs.Writing.{Room}
+use Rattle.lists.specs.Lists.{listRows}
 use Rattle.writer.specs.Document.{documentIn, outRows, Printable}
-use Rattle.writer.proofs.Writing.{forwards, Coming, set-out}
-use Rattle.writer.proofs.NodeRows.{statements-rows}
+use Rattle.lists.proofs.Writing.{forwards, Coming, set-out}
+use Rattle.nodes.proofs.NodeRows.{statements-rows}
 
 module _ (root library w : List ℕ) (c tops : ℕ) where
   -- its first row, its nodes, its externs, the row before the statements, and those

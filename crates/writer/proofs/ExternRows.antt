@@ -21,11 +21,11 @@ use Rattle.journal.proofs.Lists.{up-count}
 use Rattle.reading.specs.Reading.{externRec, externsOf, below}
 use Rattle.journal.specs.Owned.{tagged}
 use Rattle.reading.proofs.Words.{kept-is}
-use Rattle.writer.specs.Writing.{most, Room, Wrote}
+use Rattle.lists.specs.Writing.{most, Room, Wrote}
 use Rattle.writer.specs.Externs.{declaredRow, declaredRows, externRows}
-use Rattle.writer.proofs.Writing.{wrote-none, wrote-after, forwards, Coming, set-out}
+use Rattle.lists.proofs.Writing.{wrote-none, wrote-after, forwards, Coming, set-out}
 use Rattle.writer.proofs.Logs.{ofTag}
-use Rattle.writer.proofs.Records.{or-none}
+use Rattle.lists.proofs.Records.{or-none}
 
 -- ---- a part, element by element
 

@@ -1,12 +1,4 @@
-pub mod Writing
-pub mod Walks
-pub mod Chains
-pub mod Records
 pub mod Logs
-pub mod Tagged
-pub mod Instances
-pub mod NodeRows
 pub mod ExternRows
 pub mod DocumentRows
-pub mod TableRows
 pub mod Passing

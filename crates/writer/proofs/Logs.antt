@@ -15,8 +15,8 @@ use Rattle.journal.specs.Records.{cell}
 use Rattle.journal.specs.Logs.{logUp, only}
 use Rattle.journal.specs.Owned.{tagged}
 use Rattle.journal.proofs.Lists.{only-here, only-other, up-one, up-zero}
-use Rattle.writer.specs.Writing.{Pasted, Room, Wrote}
-use Rattle.writer.proofs.Writing.{words-append, words-length, paste-none, paste-after}
+use Rattle.lists.specs.Writing.{Pasted, Room, Wrote}
+use Rattle.lists.proofs.Writing.{words-append, words-length, paste-none, paste-after}
 
 module _ {A : Type 0} (w : List ℕ) (t : ℕ) (d : ℕ → A) where
   -- the records of tag t, read by d

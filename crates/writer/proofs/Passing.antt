@@ -11,10 +11,10 @@ use Rattle.expansion.specs.Expand.{ledgerEntry}
 use Rattle.sheet.specs.Print.{rowsOfEach, nodeRows}
 use Rattle.journal.specs.Records.{tagNode, tagScope, cell}
 use Rattle.reading.specs.Reading.{nodeRec, scopeRec, ledgerRec, nodesOf, scopesOf, ledgerOf}
-use Rattle.writer.specs.Writing.{Pasted, Room, Wrote}
-use Rattle.writer.specs.Tables.{ledgerWords, scopeText, ledgerText, entryWords, TablesRoom, Begun}
+use Rattle.lists.specs.Writing.{Pasted, Room, Wrote}
+use Rattle.tables.specs.Tables.{ledgerWords, scopeText, ledgerText, entryWords, TablesRoom, Begun}
 use Rattle.writer.proofs.Logs.{ofTag, of-tag, of-other, flat-map, Filling, fill-begin, fill-room, fill-more, fill-skip, fill-end, Logging, log-begin, log-room, log-more, log-skip, log-end}
-use Rattle.writer.proofs.TableRows.{scope-length, scopes-length}
+use Rattle.tables.proofs.TableRows.{scope-length, scopes-length}
 
 module _ (w : List ℕ) (c : ℕ) where
   abbrev nodesAt : ℕ → List Node

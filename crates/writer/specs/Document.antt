@@ -9,9 +9,9 @@ use Rattle.sheet.specs.Print.{documentRows}
 use Rattle.journal.specs.Records.{tagExtern, tagStatement}
 use Rattle.reading.specs.Reading.{nodesOf, externsOf, statementsAt, below}
 use Rattle.reading.specs.Fair.{HandleAt}
-use Rattle.writer.specs.Writing.{Pasted, Wrote}
-use Rattle.writer.specs.Instances.{Legible}
-use Rattle.writer.specs.Tables.{scopeText, ledgerText}
+use Rattle.lists.specs.Writing.{Pasted, Wrote}
+use Rattle.nodes.specs.Instances.{Legible}
+use Rattle.tables.specs.Tables.{scopeText, ledgerText}
 
 -- the root's header, the nodes and externs of the first c records, and the statements that end at tops
 unfoldable pub documentIn : List ℕ → List ℕ → List ℕ → ℕ → ℕ → Document

@@ -1,13 +1,13 @@
 // The output sheet, the ledger and the scopes.
 use super::externs;
-use super::lists;
-use super::lists::Kind;
 use super::pass;
-use super::rows;
+use lists;
+use lists::Kind;
+use lists::rows;
 use sheet::row;
 ghost use lib.ListN.{length};
-ghost use Rattle.writer.specs.Writing.{Room};
-ghost use Rattle.writer.specs.Tables.{TablesRoom};
+ghost use Rattle.lists.specs.Writing.{Room};
+ghost use Rattle.tables.specs.Tables.{TablesRoom};
 ghost use Rattle.writer.specs.Document.{outRows, Printable, Written};
 
 // Answers the number of rows; `some` is the number of externs.
@@ -35,7 +35,7 @@ pub fn write<'a>(
     let a = pass::pass(work, c, out, 1, ledger, scopes);
     let b = externs::externs(root, library, work, c, some, out, a);
     rows::put(out, b, rows::line(11, 0, 0, 0, 0, 0, 0, 0));
-    let last = lists::wide(tops);
+    let last = words::wide(tops);
     let end = b + 1 + lists::count_list(work, Kind::Statements, last);
     lists::list(work, Kind::Statements, last, out, end);
     end

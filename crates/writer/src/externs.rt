@@ -1,7 +1,7 @@
 // The externs of the journal, read from the sheets that declare them.
-use super::lists;
-use super::rows;
 use journal;
+use lists;
+use lists::rows;
 use lookup::rows as sheets;
 use sheet::part;
 use sheet::part::Part;
@@ -16,7 +16,7 @@ ghost use Rattle.sheet.specs.Rows.{rows};
 ghost use Rattle.sheet.specs.Print.{rowsOfEach, externProtoRows};
 ghost use Rattle.journal.specs.Records.{tagExtern};
 ghost use Rattle.reading.specs.Reading.{externsOf, below};
-ghost use Rattle.writer.specs.Writing.{Room, Wrote};
+ghost use Rattle.lists.specs.Writing.{Room, Wrote};
 ghost use Rattle.writer.specs.Externs.{declaredRow, declaredRows, externRows};
 
 fn declared(of: Part, r: Row) -> Row
@@ -85,7 +85,7 @@ pub fn externs<'a>(
         i += 1;
         if journal::word(work, r, 0) == 2 {
             let sheet = sheets::select(root, library, journal::word(work, r, 1));
-            p = declaration(sheet, lists::wide(journal::word(work, r, 4)), out, p);
+            p = declaration(sheet, words::wide(journal::word(work, r, 4)), out, p);
         }
     }
     p

@@ -1,8 +1,4 @@
 // Out, scopes and ledger from the journal of an accepted expansion: one pass over the records, and then what follows the nodes.
 pub mod document;
 mod externs;
-mod lists;
-mod nodes;
 mod pass;
-mod rows;
-mod tables;

@@ -1,14 +1,14 @@
 // The records, gone through once: each node gives its rows and its entry of the ledger, each scope its entry.
-use super::nodes;
-use super::tables;
 use journal;
+use nodes;
+use tables;
 ghost use Prim.Native.Nat.{_+_};
 ghost use lib.ListN.{length};
 ghost use Rattle.sheet.specs.Print.{rowsOfEach, nodeRows};
 ghost use Rattle.reading.specs.Reading.{nodesOf};
-ghost use Rattle.writer.specs.Writing.{Pasted, Room, Wrote};
-ghost use Rattle.writer.specs.Instances.{Legible};
-ghost use Rattle.writer.specs.Tables.{scopeText, ledgerText, TablesRoom};
+ghost use Rattle.lists.specs.Writing.{Pasted, Room, Wrote};
+ghost use Rattle.nodes.specs.Instances.{Legible};
+ghost use Rattle.tables.specs.Tables.{scopeText, ledgerText, TablesRoom};
 
 // The rows stand from row `start` on; answers the row after them. A scope is opened before the nodes in it: when a node
 // is met, the document of its scope stands in `scopes`.

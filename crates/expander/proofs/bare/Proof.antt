@@ -6,7 +6,7 @@ use Rattle.expander.proofs.bare.Reads as reads
 use Rattle.expander.proofs.bare.Lts as lts
 use Rattle.lookup.proofs.rows.select.Reads as select-reads
 use Rattle.walks.proofs.walk.bare.Reads as bare-reads
-use Rattle.source.proofs.directory.number.Reads as number-reads
+use Rattle.directory.proofs.number.Reads as number-reads
 use denote.Ref.{now}
 use Rattle.cycle.proofs.OriginLaws.{rows-are}
 

@@ -11,7 +11,7 @@ use Rattle.journal.proofs.word.Reads as word-reads
 use Rattle.lookup.proofs.rows.select.Reads as select-reads
 use Rattle.parts.proofs.count.Reads as count-reads
 use Rattle.refine.proofs.too_many.Reads as too-many-reads
-use Rattle.source.proofs.directory.number.Reads as number-reads
+use Rattle.directory.proofs.number.Reads as number-reads
 use Rattle.source.proofs.extern_proto.Reads as extern-proto-reads
 use mathlib.Core.Path.{_≡_, refl}
 use Prim.Native.Nat.{_+_, _≤_, _<_}

@@ -8,7 +8,7 @@ use Rattle.walks.proofs.walk.seek.Reads as seek-reads
 use Rattle.parts.proofs.take.Reads as take-reads
 use Rattle.refine.proofs.keep.Reads as keep-reads
 use Rattle.sheet.proofs.row.row_at.Reads as row-at-reads
-use Rattle.source.proofs.directory.number.Reads as number-reads
+use Rattle.directory.proofs.number.Reads as number-reads
 use mathlib.Core.Path.{_≡_, refl, sym, _∙_}
 use Prim.Native.Nat.{_-_}
 use denote.Ref.{now}
@@ -16,7 +16,7 @@ use lib.ListN.{length}
 use Rattle.sheet.specs.declared.part.Part.the-variants.{BodyOrder}
 use Rattle.sheet.specs.Rows.{rows}
 use Rattle.walks.proofs.WalkLaws.{stands, missing}
-use Rattle.source.specs.Directory.{numberOf}
+use Rattle.directory.specs.Directory.{numberOf}
 use Rattle.parts.specs.Contract.{rowsOf}
 use Rattle.parts.proofs.Lending.{sheet-is}
 use Rattle.parts.proofs.Externs.{rows-few}

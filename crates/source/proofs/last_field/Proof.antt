@@ -5,7 +5,7 @@ use Rattle.source.proofs.last_field.Tie as tie
 use Rattle.source.proofs.last_field.Reads as reads
 use Rattle.source.proofs.last_field.Lts as lts
 use Rattle.lookup.proofs.rows.select.Reads as select-reads
-use Rattle.source.proofs.directory.number.Reads as number-reads
+use Rattle.directory.proofs.number.Reads as number-reads
 use Rattle.words.proofs.wide.Reads as wide-reads
 use Rattle.names.proofs.named.Reads as named-reads
 use Rattle.names.proofs.walked.Reads as walked-reads

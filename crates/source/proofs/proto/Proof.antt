@@ -6,7 +6,7 @@ use Rattle.source.proofs.proto.Reads as reads
 use Rattle.source.proofs.proto.Lts as lts
 use Rattle.source.proofs.group.locate.Reads as locate-reads
 use denote.Ref.{now}
-use Rattle.source.proofs.GroupLaws.{proto-at}
+use Rattle.directory.proofs.GroupLaws.{proto-at}
 use native.Mathlib.Omega.{arith}
 
 locate-requires : tie.Need-locate-requires

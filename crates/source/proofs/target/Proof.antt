@@ -9,7 +9,7 @@ use denote.Ref.{now}
 use mathlib.Core.Path.{_∙_, ap}
 use Rattle.sheet.specs.Rows.{rows}
 use Rattle.sheet.specs.Parse.{documentOf, filesOf}
-use Rattle.source.specs.Directory.{numberOf}
+use Rattle.directory.specs.Directory.{numberOf}
 use Rattle.source.proofs.SourcedLaws.{number-root}
 use Rattle.source.proofs.InstanceLaws.{instance-proto, instance-extern, instance-plain}
 use native.Mathlib.Omega.{arith}

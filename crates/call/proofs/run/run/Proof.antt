@@ -6,7 +6,7 @@ use Rattle.call.proofs.run.run.Reads as reads
 use Rattle.call.proofs.run.run.Lts as lts
 use Rattle.tops.proofs.top.Reads as top-reads
 use Rattle.call.proofs.run.write.Reads as write-reads
-use Rattle.source.proofs.prepare.Reads as prepare-reads
+use Rattle.setup.proofs.prepare.Reads as prepare-reads
 use mathlib.Core.Path.{_≡_, refl, sym, _∙_}
 use Rattle.call.proofs.Runs.{fits, blank, run-refused, writable, run-written}
 use native.Mathlib.Omega.{arith}

@@ -7,7 +7,7 @@ use Rattle.source.proofs.group.locate.Lts as lts
 use Rattle.walks.proofs.index.find.Reads as find-reads
 use Rattle.lookup.proofs.rows.select.Reads as select-reads
 use Rattle.words.proofs.wide.Reads as wide-reads
-use Rattle.source.proofs.group.part_of.Reads as part-of-reads
+use Rattle.directory.proofs.indexes.part_of.Reads as part-of-reads
 use Rattle.source.proofs.SourcedLaws.{place-within, filled-at}
 use native.Mathlib.Omega.{arith}
 

@@ -5,7 +5,7 @@ use Rattle.source.proofs.instance.pick_row.Tie as tie
 use Rattle.source.proofs.instance.pick_row.Reads as reads
 use Rattle.source.proofs.instance.pick_row.Lts as lts
 use Rattle.picks.proofs.pick_urls.Reads as pick-urls-reads
-use Rattle.source.proofs.directory.slot_of.Reads as slot-of-reads
+use Rattle.directory.proofs.slot_of.Reads as slot-of-reads
 use Rattle.source.proofs.PickedLaws.{target-none, target-proto}
 
 pick-urls-requires : tie.Need-pick-urls-requires

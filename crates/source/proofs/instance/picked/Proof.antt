@@ -6,7 +6,7 @@ use Rattle.source.proofs.instance.picked.Reads as reads
 use Rattle.source.proofs.instance.picked.Lts as lts
 use Rattle.memo.proofs.fresh.Reads as fresh-reads
 use Rattle.words.proofs.wide.Reads as wide-reads
-use Rattle.source.proofs.directory.table_of.Reads as table-of-reads
+use Rattle.directory.proofs.table_of.Reads as table-of-reads
 use Rattle.source.proofs.instance.kept.Reads as kept-reads
 use Rattle.source.proofs.instance.pick_row.Reads as pick-row-reads
 use Rattle.source.proofs.instance.root_extern.Reads as root-extern-reads

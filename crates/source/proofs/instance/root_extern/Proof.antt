@@ -5,7 +5,7 @@ use Rattle.source.proofs.instance.root_extern.Tie as tie
 use Rattle.source.proofs.instance.root_extern.Reads as reads
 use Rattle.source.proofs.instance.root_extern.Lts as lts
 use Rattle.source.proofs.group.locate.Reads as locate-reads
-use Rattle.source.proofs.GroupLaws.{root-at}
+use Rattle.directory.proofs.GroupLaws.{root-at}
 use Rattle.source.proofs.SourcedLaws.{slot-root}
 use native.Mathlib.Omega.{arith}
 

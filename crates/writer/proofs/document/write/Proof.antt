@@ -6,16 +6,16 @@ use Rattle.writer.proofs.document.write.Reads as reads
 use Rattle.writer.proofs.document.write.Lts as lts
 use Rattle.sheet.proofs.row.row_at.Reads as row-at-reads
 use Rattle.writer.proofs.externs.externs.Reads as externs-reads
-use Rattle.writer.proofs.lists.count_list.Reads as count-list-reads
-use Rattle.writer.proofs.lists.list.Reads as list-reads
-use Rattle.writer.proofs.lists.wide.Reads as wide-reads
+use Rattle.lists.proofs.count_list.Reads as count-list-reads
+use Rattle.lists.proofs.list.Reads as list-reads
+use Rattle.words.proofs.wide.Reads as wide-reads
 use Rattle.writer.proofs.pass.pass.Reads as pass-reads
-use Rattle.writer.proofs.rows.line.Reads as line-reads
-use Rattle.writer.proofs.rows.put.Reads as put-reads
+use Rattle.lists.proofs.rows.line.Reads as line-reads
+use Rattle.lists.proofs.rows.put.Reads as put-reads
 use native.Mathlib.Omega.{arith}
 use mathlib.Core.Path.{refl}
 use denote.Ref.{now}
-use Rattle.writer.proofs.Writing.{wrote-from, room-on, go-on, arrive}
+use Rattle.lists.proofs.Writing.{wrote-from, room-on, go-on, arrive}
 use Rattle.writer.proofs.DocumentRows.{out-coming}
 
 row-at-requires : tie.Need-row-at-requires

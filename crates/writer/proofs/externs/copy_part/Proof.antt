@@ -6,7 +6,7 @@ use Rattle.writer.proofs.externs.copy_part.Lts as lts
 use Rattle.walks.proofs.walk.seek.Reads as seek-reads
 use Rattle.sheet.proofs.row.row_at.Reads as row-at-reads
 use Rattle.writer.proofs.externs.declared.Reads as declared-reads
-use Rattle.writer.proofs.rows.put.Reads as put-reads
+use Rattle.lists.proofs.rows.put.Reads as put-reads
 use Prim.Native.Nat.{_-_}
 use native.Mathlib.Omega.{arith}
 use denote.Ref.{now}

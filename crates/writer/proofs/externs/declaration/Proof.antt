@@ -6,12 +6,12 @@ use Rattle.writer.proofs.externs.declaration.Reads as reads
 use Rattle.writer.proofs.externs.declaration.Lts as lts
 use Rattle.sheet.proofs.row.row_at.Reads as row-at-reads
 use Rattle.writer.proofs.externs.copy_part.Reads as copy-part-reads
-use Rattle.writer.proofs.rows.line.Reads as line-reads
-use Rattle.writer.proofs.rows.put.Reads as put-reads
+use Rattle.lists.proofs.rows.line.Reads as line-reads
+use Rattle.lists.proofs.rows.put.Reads as put-reads
 use native.Mathlib.Omega.{arith}
 use denote.Ref.{now}
 use Rattle.sheet.specs.Rows.{rows}
-use Rattle.writer.proofs.Writing.{room-on, go-on, arrive}
+use Rattle.lists.proofs.Writing.{room-on, go-on, arrive}
 use Rattle.writer.proofs.ExternRows.{extern-coming}
 
 row-at-requires : tie.Need-row-at-requires

@@ -5,7 +5,7 @@ use Rattle.writer.proofs.externs.declared.Tie as tie
 use Rattle.writer.proofs.externs.declared.Reads as reads
 use Rattle.writer.proofs.externs.declared.Lts as lts
 use Rattle.sheet.proofs.part.kind_of.Reads as kind-of-reads
-use Rattle.writer.proofs.rows.line.Reads as line-reads
+use Rattle.lists.proofs.rows.line.Reads as line-reads
 use borrow.Author.Tests.{eq-eqb, ne-eqb}
 
 kind-of-requires : tie.Need-kind-of-requires

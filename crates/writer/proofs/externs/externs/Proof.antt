@@ -6,7 +6,7 @@ use Rattle.writer.proofs.externs.externs.Lts as lts
 use Rattle.journal.proofs.word.Reads as word-reads
 use Rattle.lookup.proofs.rows.select.Reads as select-reads
 use Rattle.writer.proofs.externs.declaration.Reads as declaration-reads
-use Rattle.writer.proofs.lists.wide.Reads as wide-reads
+use Rattle.words.proofs.wide.Reads as wide-reads
 use mathlib.Core.Path.{sym, _∙_}
 use Prim.Native.Nat.{_-_}
 use native.Mathlib.Omega.{arith}
@@ -14,7 +14,7 @@ use denote.Ref.{now}
 use Rattle.sheet.specs.Print.{externProtoRows}
 use Rattle.journal.specs.Records.{tagExtern}
 use Rattle.reading.specs.Reading.{externRec, externsOf}
-use Rattle.writer.proofs.Writing.{wrote-none}
+use Rattle.lists.proofs.Writing.{wrote-none}
 use Rattle.writer.proofs.Logs.{of-tag, of-other, Logging, log-begin, log-room, log-more, log-skip, log-end}
 use Rattle.writer.proofs.ExternRows.{externsAt, extern-at, extern-room, externs-none}
 use borrow.Author.Needs.{needs}

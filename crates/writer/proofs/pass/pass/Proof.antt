@@ -4,15 +4,15 @@ use Rattle.writer.proofs.pass.pass.Tie as tie
 use Rattle.writer.proofs.pass.pass.Reads as reads
 use Rattle.writer.proofs.pass.pass.Lts as lts
 use Rattle.journal.proofs.word.Reads as word-reads
-use Rattle.writer.proofs.nodes.count_node.Reads as count-node-reads
-use Rattle.writer.proofs.nodes.node.Reads as node-reads
-use Rattle.writer.proofs.tables.entry.Reads as entry-reads
-use Rattle.writer.proofs.tables.scope.Reads as scope-reads
+use Rattle.nodes.proofs.count_node.Reads as count-node-reads
+use Rattle.nodes.proofs.node.Reads as node-reads
+use Rattle.tables.proofs.entry.Reads as entry-reads
+use Rattle.tables.proofs.scope.Reads as scope-reads
 use Prim.Native.Nat.{_-_}
 use native.Mathlib.Omega.{arith}
 use mathlib.Core.Path.{refl}
 use denote.Ref.{now}
-use Rattle.writer.proofs.Writing.{wrote-from}
+use Rattle.lists.proofs.Writing.{wrote-from}
 use Rattle.writer.proofs.Passing.{Passing, pass-begin, node-room, entry-room, scope-room, scopes-begun, pass-node, pass-scope, pass-other, pass-rows, pass-ledger, pass-scopes}
 
 abbrev Inv-loop : tie.InvT-loop

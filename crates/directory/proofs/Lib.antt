@@ -1,0 +1,2 @@
+pub mod DirectoryLaws
+pub mod GroupLaws

@@ -1,0 +1,4 @@
+pub mod Writing
+pub mod Walks
+pub mod Chains
+pub mod Records
