@@ -1,3 +1,4 @@
 pub mod Ast
 pub mod Choice
+pub mod Lists
 pub mod Lookups

@@ -7,7 +7,7 @@ use Prim.Native.Nat.{ℕ, _+_, _*_, _≤_, _<_}
 use native.Mathlib.Omega.{arith}
 use lib.ListN.{length}
 use lib.Dec.{eqb}
-use borrow.Author.Tests.{eqb-true, ne-eqb}
+use borrow.Author.Tests.{eqb-true, ne-eqb, not-true, not-false}
 use Rattle.ast.specs.Ast.{FieldData, FieldValue}
 use Rattle.ast.specs.Choice.{choose}
 use Rattle.expansion.specs.State.{ok}
@@ -34,14 +34,6 @@ use Rattle.refine.specs.Contract.{Valued, Cloned}
 use Rattle.refine.proofs.Later.{later-handle}
 use Rattle.bindings.specs.Contract.{Classed, NotGiven, GivenValue, GivenRefused}
 use Rattle.bindings.proofs.Steps.{anySource, done-later}
-
-not-true : (b : Bool) → not b ≡ true → b ≡ false
-not-true true e = absurd (omega (arith, ap {B = ℕ} (λ (x : Bool). choose x 1 0) e))
-not-true false e = refl
-
-not-false : (b : Bool) → not b ≡ false → b ≡ true
-not-false true e = refl
-not-false false e = absurd (omega (arith, ap {B = ℕ} (λ (x : Bool). choose x 1 0) e))
 
 -- the class of a value
 pub class-two : (x : ℕ) → x ≡ 2 → Classed x 2

@@ -23,8 +23,3 @@ statementIds (Statement.Proto p) = []
 statementIds (Statement.ExternProto x) = []
 statementIds (Statement.Route r) = []
 statementIds (Statement.Other p) = []
-
--- of all, in order
-abbrev pub flat : {A B : Type 0} → (A → List B) → List A → List B
-flat g [] = []
-flat g (a ∷ l) = g a ++ flat g l

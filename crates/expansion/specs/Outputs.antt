@@ -4,7 +4,8 @@ use mathlib.Core.Option.{Option, none, some}
 use Prim.Native.Nat.{ℕ, suc, _+_}
 use lib.ListN.{length}
 use Rattle.ast.specs.Ast.{Field, InterfaceDecl, Route, Statement, ProtoInstance, Node, ExternProtoDecl, Document}
-use Rattle.expansion.specs.Ids.{optionIds, bindingIds, flat}
+use Rattle.ast.specs.Lists.{flat}
+use Rattle.expansion.specs.Ids.{optionIds, bindingIds}
 
 -- ---- node ids (document 01, Modules: Reached): "The node ids of an output stand in its Node statements, id rows, associations and route ends."
 

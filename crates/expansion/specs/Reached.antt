@@ -11,7 +11,8 @@ use Rattle.picks.specs.Picks.{Pick}
 use Rattle.steps.specs.Steps.{Kind, noNode, plainNode, instanceNode, Action, copyId, openDefault, Graph}
 use Rattle.expansion.specs.Input.{Input, docs, protoOf, lastField}
 use Rattle.expansion.specs.Scopes.{Scope, documentOf, isBody}
-use Rattle.expansion.specs.Ids.{optionIds, bindingIds, statementIds, flat}
+use Rattle.ast.specs.Lists.{flat}
+use Rattle.expansion.specs.Ids.{optionIds, bindingIds, statementIds}
 
 -- ---- starts
 

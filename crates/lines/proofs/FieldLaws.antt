@@ -10,6 +10,7 @@ use borrow.Author.Tests.{leb-true, le-leb, eq-eqb, ne-eqb}
 use lib.Dec.{leb, eqb}
 use lib.ListN.{length, take, getD}
 use lib.Seq.{take-suc}
+use Rattle.ast.proofs.Basics.{and-l, and-r}
 use Rattle.lines.specs.declared.Field.{Field}
 use Rattle.lines.specs.declared.Field.the-variants.{Spaces, Number, Bad}
 use Rattle.ast.specs.Choice.{choose}
@@ -63,14 +64,6 @@ field-read n h =
     rw (before-read 10 (n / 10) (omega arith) (omega arith)) (last-read n h)
 
 -- ---- and nothing else is read
-
-pub and-l : (a b : Bool) → (a && b) ≡ true → a ≡ true
-and-l true b h = refl
-and-l false b h = h
-
-pub and-r : (a b : Bool) → (a && b) ≡ true → b ≡ true
-and-r true b h = h
-and-r false b h = let z : false ≡ true = h in cc
 
 -- the three cases of a field are apart
 no-spaces : {n : ℕ} → Spaces ≡ Number n → ⊥

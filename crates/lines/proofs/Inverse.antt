@@ -9,6 +9,7 @@ use borrow.Author.Tests.{eqb-true, ltb-false, not-false}
 use lib.Dec.{ltb, eqb}
 use lib.ListN.{length, take, drop}
 use lib.Seq.{take-at, take-all}
+use Rattle.ast.proofs.Basics.{neither}
 use Rattle.ast.specs.Choice.{choose}
 use Rattle.lines.specs.Answer.{Answer, accepted, refused}
 use Rattle.lines.specs.Read.{goodLine, numbers, goodLines, wordsOf, readLines}
@@ -24,10 +25,6 @@ use Rattle.lines.proofs.LineLaws.{Words, line-read, lines-read, line-sh
 not-refused : (t : Bool) (r p c : ℕ) (l m : List ℕ) (y : Answer × List ℕ) → choose t (refused (suc r) p, l) y ≡ (accepted c, m) → (t ≡ false) × (y ≡ (accepted c, m))
 not-refused true r p c l m y e = let z : suc r ≡ 0 = ap (λ (x : Answer × List ℕ). x .0 .refusal) e in absurd (omega arith)
 not-refused false r p c l m y e = (refl, e)
-
-neither : (a b : Bool) → (a || b) ≡ false → (a ≡ false) × (b ≡ false)
-neither true b h = let z : true ≡ false = h in absurd (let x : _≡_ {A = ℕ} 0 1 = cc in omega arith)
-neither false b h = (refl, h)
 
 multiple : (n : ℕ) → not (eqb n 0) ≡ false → n ≡ 0
 multiple n h = eqb-true n 0 (not-false (eqb n 0) h)

@@ -8,13 +8,14 @@ use borrow.Author.Tests.{eqb-true}
 use lib.Dec.{eqb}
 use lib.ListN.{length, take, drop, getD, length-take, length-drop, take-append-drop}
 use lib.Seq.{take-at, drop-at, getD-at, getD-drop, take-add, take-suc}
+use Rattle.ast.proofs.Basics.{and-l, and-r}
 use Rattle.lines.specs.declared.Field.{Field}
 use Rattle.lines.specs.declared.Field.the-variants.{Spaces, Number, Bad}
 use Rattle.ast.specs.Choice.{choose}
 use Rattle.lines.specs.Read.{fieldOf, isNumber, valueOf, areNumbers, numbers, goodLine, goodLines, wordsOf}
 use Rattle.lines.specs.Write.{field, fields, line, linesOf}
 use Rattle.lines.proofs.WriteLaws.{field-length, fields-length, line-length}
-use Rattle.lines.proofs.FieldLaws.{and-l, and-r, field-read, number-shown}
+use Rattle.lines.proofs.FieldLaws.{field-read, number-shown}
 
 -- words: each at most 4294967295
 abbrev pub Words : List ℕ → Type 0

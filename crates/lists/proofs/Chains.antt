@@ -9,7 +9,8 @@ use lib.Dec.{eqb, leb}
 use borrow.Author.Tests.{ne-eqb, leb-true, leb-false}
 use Rattle.ast.specs.Choice.{choose}
 use Rattle.sheet.specs.declared.row.Row.{Row}
-use Rattle.sheet.specs.Print.{rowsOfEach, idRow}
+use Rattle.ast.specs.Lists.{flat}
+use Rattle.sheet.specs.Print.{idRow}
 use Rattle.journal.specs.Records.{cell}
 use Rattle.journal.specs.Logs.{scan, revOnto}
 use Rattle.journal.proofs.Lists.{scan-low, scan-push, scan-end}
@@ -20,25 +21,25 @@ use Rattle.lists.specs.Cells.{chain}
 use Rattle.lists.specs.Lists.{clip, chainRows, idRows, recordRows, listRows, Below}
 use Rattle.lists.proofs.Walks.{Walking, walk-room, walk-again, walk-stop, Summing, sum-room, sum-again, sum-stop}
 
--- ---- rows of each of a list
+-- ---- the lists of each, one after another
 
-module _ {A : Type 0} (f : A → List Row) where
+module _ {A B : Type 0} (f : A → List B) where
   -- of two lists
-  each-append : (a b : List A) → rowsOfEach f (a ++ b) ≡ rowsOfEach f a ++ rowsOfEach f b
-  each-append [] b = refl
-  each-append (x ∷ a) b = rw (each-append a b) (sym (append-assoc (f x) (rowsOfEach f a) (rowsOfEach f b)))
+  pub flat-append : (a b : List A) → flat f (a ++ b) ≡ flat f a ++ flat f b
+  flat-append [] b = refl
+  flat-append (x ∷ a) b = rw (flat-append a b) (sym (append-assoc (f x) (flat f a) (flat f b)))
 
   -- of one
-  each-one : (x : A) → rowsOfEach f (x ∷ []) ≡ f x
-  each-one x = append-nil (f x)
+  flat-one : (x : A) → flat f (x ∷ []) ≡ f x
+  flat-one x = append-nil (f x)
 
   -- of what a list is read as
-  each-map : {B : Type 0} (d : B → A) (l : List B) → rowsOfEach f (map d l) ≡ rowsOfEach (λ b. f (d b)) l
-  each-map d [] = refl
-  each-map d (b ∷ l) = rw (each-map d l)
+  pub flat-map : {C : Type 0} (d : C → A) (l : List C) → flat f (map d l) ≡ flat (λ c. f (d c)) l
+  flat-map d [] = refl
+  flat-map d (c ∷ l) = rw (flat-map d l)
 
 -- one row for each
-map-each : {A B : Type 0} (f : A → Row) (d : B → A) (l : List B) → map f (map d l) ≡ rowsOfEach (λ b. f (d b) ∷ []) l
+map-each : {A B : Type 0} (f : A → Row) (d : B → A) (l : List B) → map f (map d l) ≡ flat (λ b. f (d b) ∷ []) l
 map-each f d [] = refl
 map-each f d (b ∷ l) = rw (map-each f d l)
 
@@ -113,9 +114,9 @@ module _ {A : Type 0} (w : List ℕ) (d : ℕ → A) (h : ℕ) where
   chain-map = rw (scan-map d (λ r. cell w r 8) h h) (rev-map d (scan (λ r. r) (λ r. cell w r 8) h h) [])
 
   -- the rows of what a chain's records are read as
-  pub chain-each : (f : A → List Row) → rowsOfEach f (chain d w h h) ≡ chainRows (λ r. f (d r)) w h
+  pub chain-each : (f : A → List Row) → flat f (chain d w h h) ≡ chainRows (λ r. f (d r)) w h
   unfolding chainRows
-  chain-each f = ap (rowsOfEach f) chain-map ∙ each-map f d (chain (λ r. r) w h h)
+  chain-each f = ap (flat f) chain-map ∙ flat-map f d (chain (λ r. r) w h h)
 
   -- one row for each record
   pub chain-rows : (f : A → Row) → map f (chain d w h h) ≡ chainRows (λ r. f (d r) ∷ []) w h
@@ -133,8 +134,8 @@ module _ (g : ℕ → List Row) (w : List ℕ) where
   unfolding chainRows revOnto
   chain-step {cur} {v} lt b =
       let s : List ℕ = scan (λ r. r) (λ r. cell w r 8) v v in
-      ap (λ (l : List ℕ). rowsOfEach g (revOnto l [])) (scan-step (λ r. r) (λ r. cell w r 8) cur v lt (b .same))
-      ∙ ap (rowsOfEach g) (rev-front s ((cur - 1) ∷ [])) ∙ each-append g (revOnto s []) ((cur - 1) ∷ []) ∙ ap (λ (l : List Row). rowsOfEach g (revOnto s []) ++ l) (each-one g (cur - 1))
+      ap (λ (l : List ℕ). flat g (revOnto l [])) (scan-step (λ r. r) (λ r. cell w r 8) cur v lt (b .same))
+      ∙ ap (flat g) (rev-front s ((cur - 1) ∷ [])) ∙ flat-append g (revOnto s []) ((cur - 1) ∷ []) ∙ ap (λ (l : List Row). flat g (revOnto s []) ++ l) (flat-one g (cur - 1))
 
   -- an empty chain has none
   pub chain-end : {cur : ℕ} → cur ≤ 0 → chainRows g w cur ≡ []

@@ -5,6 +5,7 @@ use Prim.Native.Nat.{ℕ, suc, _+_, _*_, _-_, _≤_}
 use native.Mathlib.Omega.{arith}
 use lib.ListN.{length, take, drop, set, length-set, length-append, take-append-drop}
 use lib.Seq.{sets-eq, length-take-le, take-append-le, take-at, drop-at, drop-drop}
+use Rattle.operation.proofs.Said.{words-length}
 use Rattle.sheet.specs.declared.row.Row.{Row}
 use Rattle.sheet.specs.Rows.{words}
 use Rattle.lists.specs.Writing.{Pasted, Room, Wrote}
@@ -69,12 +70,6 @@ pub words-append : (a b : List Row) → words (a ++ b) ≡ words a ++ words b
 unfolding words
 words-append [] b = refl
 words-append (r ∷ a) b = rw (words-append a b)
-
--- eight words to a row
-pub words-length : (R : List Row) → length (words R) ≡ 8 * length R
-unfolding words
-words-length [] = refl
-words-length (r ∷ R) = let h : length (words R) ≡ 8 * length R = words-length R in omega arith
 
 -- eight stores put a row
 pub put-law : (o : List ℕ) (p : ℕ) (r : Row) → 8 * p + 8 ≤ length o

@@ -6,7 +6,8 @@ use lib.ListN.{length}
 use lib.Dec.{eqb, leb}
 use Rattle.ast.specs.Choice.{choose}
 use Rattle.sheet.specs.declared.row.Row.{Row}
-use Rattle.sheet.specs.Print.{rowsOfEach, idRow, fieldRows, interfaceRows, statementRow, bodyElementRow, routeRow, associationRow}
+use Rattle.ast.specs.Lists.{flat}
+use Rattle.sheet.specs.Print.{idRow, fieldRows, interfaceRows, statementRow, bodyElementRow, routeRow, associationRow}
 use Rattle.journal.specs.Records.{cell}
 use Rattle.lists.specs.declared.Kind.{Kind}
 use Rattle.lists.specs.declared.Kind.the-variants.{Fields, Interfaces, Statements, Order, Roots, Routes, Associations}
@@ -18,7 +19,7 @@ clip top h = choose (leb h top) h 0
 
 -- the rows of a list, each record's printed by g
 unfoldable pub chainRows : (ℕ → List Row) → List ℕ → ℕ → List Row
-chainRows g w h = rowsOfEach g (chain (λ r. r) w h h)
+chainRows g w h = flat g (chain (λ r. r) w h h)
 
 -- the rows of a value's ids
 abbrev pub idRows : List ℕ → ℕ → List Row

@@ -4,8 +4,10 @@ use mathlib.Core.List.{List, [], _∷_, _++_, map}
 use Prim.Native.Nat.{ℕ, _+_, _-_, _<_, _≤_}
 use native.Mathlib.Omega.{arith}
 use lib.ListN.{length, length-append, length-map}
+use Rattle.ast.proofs.Basics.{map-append}
 use Rattle.sheet.specs.declared.row.Row.{Row}
-use Rattle.sheet.specs.Print.{row, rowsOfEach, idRow, routeRow, associationRow, anyInstanceRows}
+use Rattle.ast.specs.Lists.{flat}
+use Rattle.sheet.specs.Print.{row, idRow, routeRow, associationRow, anyInstanceRows}
 use Rattle.journal.specs.Records.{tagRoot, tagRoute, tagAssociation, tagInstance, cell}
 use Rattle.journal.specs.Logs.{scan}
 use Rattle.journal.specs.Owned.{ownedBy}
@@ -112,7 +114,7 @@ module _ (k : Kind) (w : List ℕ) where
     -- an instance's own rows, and then those of the nested one
     pub nested-step : nestedRows k w h ≡ listRows k w (cell w (h - 1) (ownWord k)) ++ nestedRows k w v
     unfolding nestedRows
-    nested-step = ap (rowsOfEach (λ r. listRows k w (cell w r (ownWord k)))) (scan-step (λ r. r) (λ r. cell w r 8) h v lt (b .same))
+    nested-step = ap (flat (λ r. listRows k w (cell w r (ownWord k)))) (scan-step (λ r. r) (λ r. cell w r 8) h v lt (b .same))
 
     nested-length : length (nestedRows k w h) ≡ length (nestedRows k w v) + length (listRows k w (cell w (h - 1) (ownWord k)))
     nested-length = ap length nested-step ∙ length-append (listRows k w (cell w (h - 1) (ownWord k))) (nestedRows k w v) ∙ omega arith
@@ -132,17 +134,13 @@ module _ (k : Kind) (w : List ℕ) where
 
 -- ---- an instance
 
-map-append : {A B : Type 0} (f : A → B) (a b : List A) → map f (a ++ b) ≡ map f a ++ map f b
-map-append f [] b = refl
-map-append f (x ∷ a) b = rw (map-append f a b)
-
 module _ (w : List ℕ) where
-  roots-rows : (L : List ℕ) → map idRow (mergedRoots (map (instanceCells w) L)) ≡ rowsOfEach (λ r. listRows Roots w (cell w r 3)) L
+  roots-rows : (L : List ℕ) → map idRow (mergedRoots (map (instanceCells w) L)) ≡ flat (λ r. listRows Roots w (cell w r 3)) L
   unfolding mergedRoots listRows
   roots-rows [] = refl
   roots-rows (r ∷ L) = rw (map-append idRow (instanceCells w r .extraRoots) (mergedRoots (map (instanceCells w) L)), chain-rows w (rootRec w) (cell w r 3) idRow, roots-rows L)
 
-  routes-rows : (L : List ℕ) → map routeRow (mergedRoutes (map (instanceCells w) L)) ≡ rowsOfEach (λ r. listRows Routes w (cell w r 4)) L
+  routes-rows : (L : List ℕ) → map routeRow (mergedRoutes (map (instanceCells w) L)) ≡ flat (λ r. listRows Routes w (cell w r 4)) L
   unfolding mergedRoutes listRows
   routes-rows [] = refl
   routes-rows (r ∷ L) = rw (map-append routeRow (instanceCells w r .routes) (mergedRoutes (map (instanceCells w) L)), chain-rows w (routeRec w) (cell w r 4) routeRow, routes-rows L)
@@ -152,8 +150,8 @@ module _ (w : List ℕ) where
   instanceRow r a b c = row 13 (cell w r 2) (length a) (length b) (length c) 0 0 0
 
   shape : (r : ℕ) (L : List ℕ) → anyInstanceRows (merged (map (instanceCells w) (r ∷ L)))
-      ≡ instanceRow r (rowsOfEach (λ n. listRows Roots w (cell w n 3)) (r ∷ L)) (rowsOfEach (λ n. listRows Routes w (cell w n 4)) (r ∷ L)) (listRows Associations w (cell w r 5))
-      ∷ ((rowsOfEach (λ n. listRows Roots w (cell w n 3)) (r ∷ L) ++ rowsOfEach (λ n. listRows Routes w (cell w n 4)) (r ∷ L)) ++ listRows Associations w (cell w r 5))
+      ≡ instanceRow r (flat (λ n. listRows Roots w (cell w n 3)) (r ∷ L)) (flat (λ n. listRows Routes w (cell w n 4)) (r ∷ L)) (listRows Associations w (cell w r 5))
+      ∷ ((flat (λ n. listRows Roots w (cell w n 3)) (r ∷ L) ++ flat (λ n. listRows Routes w (cell w n 4)) (r ∷ L)) ++ listRows Associations w (cell w r 5))
   unfolding merged mergedRoots mergedRoutes listRows
   shape r L =
       let a = mergedRoots (map (instanceCells w) (r ∷ L)) in

@@ -7,7 +7,8 @@ use lib.ListN.{length, length-append}
 use Rattle.sheet.specs.declared.row.Row.{Row}
 use Rattle.sheet.specs.Rows.{front}
 use Rattle.sheet.specs.Parse.{optional, originOf}
-use Rattle.sheet.specs.Print.{row, rowsOfEach, fieldRows, interfaceRows, statementRow, bodyElementRow, nodeRow, nodeRows, anyInstanceRows}
+use Rattle.ast.specs.Lists.{flat}
+use Rattle.sheet.specs.Print.{row, fieldRows, interfaceRows, statementRow, bodyElementRow, nodeRow, nodeRows, anyInstanceRows}
 use Rattle.journal.specs.Records.{tagField, tagInterface, tagStatement, tagOrder, cell}
 use Rattle.reading.specs.Reading.{fieldsAt, interfacesAt, statementsAt, orderAt, nodeBy, nodeRec, instanceAt}
 use Rattle.reading.specs.Fair.{HandleAt, NodeClosed}
@@ -24,13 +25,13 @@ use Rattle.nodes.proofs.Tagged.{fields-read, interfaces-read, statement
 -- ---- the lists of a node are those of the journal
 
 module _ {w : List ℕ} {c : ℕ} (L : Legible w c) {h : ℕ} where
-  fields-rows : HandleAt w c tagField h → rowsOfEach fieldRows (fieldsAt w h) ≡ listRows Fields w h
+  fields-rows : HandleAt w c tagField h → flat fieldRows (fieldsAt w h) ≡ listRows Fields w h
   unfolding listRows
-  fields-rows x = ap (rowsOfEach fieldRows) (fields-read (L .fair) x) ∙ chain-each w (fieldRec w) h fieldRows
+  fields-rows x = ap (flat fieldRows) (fields-read (L .fair) x) ∙ chain-each w (fieldRec w) h fieldRows
 
-  interfaces-rows : HandleAt w c tagInterface h → rowsOfEach interfaceRows (interfacesAt w h) ≡ listRows Interfaces w h
+  interfaces-rows : HandleAt w c tagInterface h → flat interfaceRows (interfacesAt w h) ≡ listRows Interfaces w h
   unfolding listRows
-  interfaces-rows x = ap (rowsOfEach interfaceRows) (interfaces-read (L .fair) x) ∙ chain-each w (interfaceRec w) h interfaceRows
+  interfaces-rows x = ap (flat interfaceRows) (interfaces-read (L .fair) x) ∙ chain-each w (interfaceRec w) h interfaceRows
 
   -- the statements, of a node or at the top
   pub statements-rows : HandleAt w c tagStatement h → map statementRow (statementsAt w h) ≡ listRows Statements w h

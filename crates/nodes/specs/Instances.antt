@@ -4,7 +4,7 @@ use mathlib.Core.List.{List}
 use Prim.Native.Nat.{ℕ, _*_, _<_, _≤_}
 use lib.ListN.{length}
 use Rattle.sheet.specs.declared.row.Row.{Row}
-use Rattle.sheet.specs.Print.{rowsOfEach}
+use Rattle.ast.specs.Lists.{flat}
 use Rattle.journal.specs.Records.{tagNode, cell}
 use Rattle.journal.specs.Logs.{scan}
 use Rattle.journal.specs.Owned.{Owned}
@@ -37,4 +37,4 @@ ownWord Associations = 4
 
 -- the rows of a list of an instance and of those nested in it, the outer's first
 unfoldable pub nestedRows : Kind → List ℕ → ℕ → List Row
-nestedRows k w h = rowsOfEach (λ r. listRows k w (cell w r (ownWord k))) (scan (λ r. r) (λ r. cell w r 8) h h)
+nestedRows k w h = flat (λ r. listRows k w (cell w r (ownWord k))) (scan (λ r. r) (λ r. cell w r 8) h h)

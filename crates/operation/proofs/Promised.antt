@@ -16,7 +16,7 @@ use Rattle.sheet.specs.Parse.{documentOf}
 use Rattle.sheet.specs.Print.{documentRows}
 use Rattle.roundtrip.proofs.RoundTrip.{root-in-range, library-in-range}
 use Rattle.expansion.specs.Scopes.{scopeEntry}
-use Rattle.expansion.specs.Ids.{flat}
+use Rattle.ast.specs.Lists.{flat}
 use Rattle.expansion.specs.Expand.{Expansion, Answer, expand}
 use Rattle.expansion.specs.Expanded.{Expanded}
 use Rattle.expansion.specs.Proofs.Demand.{demand-3, refusals}

@@ -9,7 +9,7 @@ use Rattle.sheet.specs.declared.row.Row.{Row}
 use Rattle.sheet.specs.Rows.{rows, words}
 use Rattle.roundtrip.proofs.RoundTrip.{words-read-back}
 use Rattle.expansion.specs.Scopes.{Scope, scopeEntry}
-use Rattle.expansion.specs.Ids.{flat}
+use Rattle.ast.specs.Lists.{flat}
 use Rattle.expansion.specs.Expand.{LedgerEntry}
 use Rattle.operation.specs.Operation.{ledgerWords}
 use Rattle.operation.specs.Promises.{ledgerSaid, scopesSaid}
@@ -27,15 +27,15 @@ pub ledger-length : (l : List LedgerEntry) → length (flat ledgerWords l) ≡ 3
 ledger-length [] = refl
 ledger-length (x ∷ l) = omega (arith, ledger-length l)
 
-entry-length : (e : Scope) → length (scopeEntry e) ≡ 5
-entry-length Scope.Root = refl
-entry-length (Scope.Body p n) = refl
-entry-length (Scope.Default p k n) = refl
-
 -- five a scope
+pub scope-length : (e : Scope) → length (scopeEntry e) ≡ 5
+scope-length Scope.Root = refl
+scope-length (Scope.Body p n) = refl
+scope-length (Scope.Default p k n) = refl
+
 pub scopes-length : (l : List Scope) → length (flat scopeEntry l) ≡ 5 * length l
 scopes-length [] = refl
-scopes-length (e ∷ l) = omega (arith, length-append (scopeEntry e) (flat scopeEntry l), entry-length e, scopes-length l)
+scopes-length (e ∷ l) = omega (arith, length-append (scopeEntry e) (flat scopeEntry l), scope-length e, scopes-length l)
 
 -- ---- read back, whatever stands past them
 

@@ -5,15 +5,12 @@ use mathlib.Core.List.{List}
 use Prim.Native.Nat.{ℕ}
 use native.Mathlib.Omega.{arith}
 use borrow.Author.Tests.{ltb-false, le-ltb, eqb-true, eq-eqb, not-false}
+use Rattle.ast.proofs.Basics.{neither}
 use Rattle.operation.specs.Operation.{Call, overCaps, tooShort, wrongLength}
 use Rattle.operation.specs.Promises.{Room, Sheet, Sheets}
 
 pub yes-no : true ≡ false → ⊥
 yes-no e = let z : _≡_ {A = ℕ} 0 1 = cc in omega arith
-
-or-false : (a b : Bool) → (a || b) ≡ false → (a ≡ false) × (b ≡ false)
-or-false true b e = absurd (yes-no e)
-or-false false b e = (refl, e)
 
 both-false : (a b : Bool) → a ≡ false → b ≡ false → (a || b) ≡ false
 both-false a b p q = rw (p, q)
@@ -25,12 +22,12 @@ not-of-true a p = rw p
 
 pub room-if : (c : Call) → (overCaps (c .limits) || tooShort c) ≡ false → Room c
 room-if c e =
-    let a = or-false _ _ e in
-    let caps = or-false _ _ (a .0) in
-    let caps2 = or-false _ _ (caps .0) in
-    let short = or-false _ _ (a .1) in
-    let short2 = or-false _ _ (short .0) in
-    let short3 = or-false _ _ (short2 .0) in
+    let a = neither _ _ e in
+    let caps = neither _ _ (a .0) in
+    let caps2 = neither _ _ (caps .0) in
+    let short = neither _ _ (a .1) in
+    let short2 = neither _ _ (short .0) in
+    let short3 = neither _ _ (short2 .0) in
     record {
       maxNodes = ltb-false _ _ (caps2 .0);
       maxDepth = ltb-false _ _ (caps2 .1);
@@ -49,13 +46,13 @@ room-then c r =
 -- ---- refusal 2
 
 sheet-if : (l : List ℕ) → wrongLength l ≡ false → Sheet l
-sheet-if l e = let a = or-false _ _ e in record { whole = eqb-true _ _ (not-false _ (a .0)); cap = ltb-false _ _ (a .1) }
+sheet-if l e = let a = neither _ _ e in record { whole = eqb-true _ _ (not-false _ (a .0)); cap = ltb-false _ _ (a .1) }
 
 sheet-then : (l : List ℕ) → Sheet l → wrongLength l ≡ false
 sheet-then l s = both-false _ _ (not-of-true _ (eq-eqb _ _ (s .whole))) (le-ltb _ _ (s .cap))
 
 pub sheets-if : (c : Call) → (wrongLength (c .root) || wrongLength (c .library)) ≡ false → Sheets c
-sheets-if c e = let a = or-false _ _ e in (sheet-if (c .root) (a .0), sheet-if (c .library) (a .1))
+sheets-if c e = let a = neither _ _ e in (sheet-if (c .root) (a .0), sheet-if (c .library) (a .1))
 
 pub sheets-then : (c : Call) → Sheets c → (wrongLength (c .root) || wrongLength (c .library)) ≡ false
 sheets-then c s = both-false _ _ (sheet-then (c .root) (s .0)) (sheet-then (c .library) (s .1))

@@ -13,7 +13,7 @@ use Rattle.sheet.specs.Parse.{documentOf, filesOf}
 use Rattle.sheet.specs.Print.{documentRows}
 use Rattle.expansion.specs.Input.{Limits, Input}
 use Rattle.expansion.specs.Scopes.{scopeEntry}
-use Rattle.expansion.specs.Ids.{flat}
+use Rattle.ast.specs.Lists.{flat}
 use Rattle.expansion.specs.Expand.{LedgerEntry, Answer, expand}
 
 -- "Expand takes a root sheet, a library sheet, three limits and four lent slices.": their words before the call; of work, of which nothing holds after it, the length

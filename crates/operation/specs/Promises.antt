@@ -11,7 +11,7 @@ use Rattle.checker.specs.Grammar.{checked}
 use Rattle.sheet.specs.Parse.{documentOf}
 use Rattle.picks.specs.Picks.{Pick}
 use Rattle.expansion.specs.Scopes.{Scope, scopeEntry}
-use Rattle.expansion.specs.Ids.{flat}
+use Rattle.ast.specs.Lists.{flat}
 use Rattle.expansion.specs.Expand.{LedgerEntry, Expansion, Answer, expand}
 use Rattle.expansion.specs.Expanded.{Expanded, Refusal}
 use Rattle.operation.specs.Operation.{Call, After, input}

@@ -7,15 +7,16 @@ use native.Mathlib.Omega.{arith}
 use lib.ListN.{length, length-append, length-map}
 use Rattle.ast.specs.Ast.{FieldData, FieldBinding, FieldValue, Field, InterfaceDecl, ProtoInstance, Node, ProtoDecl, ExternProtoDecl, Document}
 use Rattle.sheet.specs.declared.row.Row.{Row}
-use Rattle.sheet.specs.Print.{rowsOfEach, idRow, dataRows, bindingRows, defaultRows, routeRow, associationRow, anyInstanceRows, protoRows, documentRows}
+use Rattle.ast.specs.Lists.{flat}
+use Rattle.sheet.specs.Print.{idRow, dataRows, bindingRows, defaultRows, routeRow, associationRow, anyInstanceRows, protoRows, documentRows}
 use Rattle.sheet.specs.Print
 use Rattle.expansion.specs.Ids.{dataIds, optionIds, bindingIds}
 use Rattle.expansion.specs.Outputs.{sumOf, fieldRows, interfaceRows, instanceRows, contentRows, nodeRows, externRows, rows}
 
 -- the rows of each of a list
-each-count : {A : Type 0} (f : A → List Row) (g : A → ℕ) → ((x : A) → length (f x) ≡ g x) → (l : List A) → length (rowsOfEach f l) ≡ sumOf g l
+each-count : {A : Type 0} (f : A → List Row) (g : A → ℕ) → ((x : A) → length (f x) ≡ g x) → (l : List A) → length (flat f l) ≡ sumOf g l
 each-count f g h [] = refl
-each-count f g h (x ∷ l) = omega (arith, length-append (f x) (rowsOfEach f l), h x, each-count f g h l)
+each-count f g h (x ∷ l) = omega (arith, length-append (f x) (flat f l), h x, each-count f g h l)
 
 -- The rows below a field's or an interface's own, of its ids; a field, an interface, a record, a node, an extern.
 data-count : (d : FieldData) → length (dataRows d) ≡ length (dataIds d)
@@ -53,4 +54,4 @@ extern-count x = simp (length-append, length-map) (omega (arith, each-count Prin
 pub rows-count : (D : Document) → D .protos ≡ [] → length (documentRows D) ≡ rows D
 unfolding documentRows
 rows-count D e =
-    simp (length-append, length-map) (omega (arith, ap (λ (p : List ProtoDecl). length (rowsOfEach protoRows p)) e, each-count Print.nodeRows nodeRows node-count (D .nodes), each-count Print.externProtoRows externRows extern-count (D .externProtos)))
+    simp (length-append, length-map) (omega (arith, ap (λ (p : List ProtoDecl). length (flat protoRows p)) e, each-count Print.nodeRows nodeRows node-count (D .nodes), each-count Print.externProtoRows externRows extern-count (D .externProtos)))

@@ -7,7 +7,7 @@ use Prim.Native.Nat.{ℕ, zero, suc, _+_, _-_}
 use native.Mathlib.Omega.{arith}
 use lib.ListN.{length, getD, drop}
 use lib.Dec.{eqb}
-use borrow.Author.Tests.{eq-eqb, ne-eqb}
+use borrow.Author.Tests.{eq-eqb, ne-eqb, not-true, not-false}
 use Rattle.ast.specs.Ast.{FieldValue, FieldBinding, Field, Statement, BodyElement}
 use Rattle.ast.specs.Choice.{choose}
 use Rattle.sheet.specs.declared.row.Row.{Row}
@@ -46,14 +46,6 @@ use Rattle.names.proofs.NameLaws.{fields-at, fields-none}
 use Rattle.parts.proofs.Said.{statements-at, statements-end}
 
 -- ---- a field that is kept
-off : (b : Bool) → not b ≡ true → b ≡ false
-off true e = sym e
-off false e = refl
-
-on : (b : Bool) → not b ≡ false → b ≡ true
-on true e = refl
-on false e = sym e
-
 module _ (w : List ℕ) (e : code.Env) (r : Row) where
   pub kept-value : (r .b ≡ 1 → ⊥) → true ≡ fieldKept w e r
   unfolding fieldOf
@@ -62,16 +54,16 @@ module _ (w : List ℕ) (e : code.Env) (r : Row) where
   module _ (is : r .b ≡ 1) where
     pub kept-outside : not (e .body) ≡ true → true ≡ fieldKept w e r
     unfolding fieldOf
-    kept-outside q = rw (eq-eqb (r .b) 1 is, off (e .body) q)
+    kept-outside q = rw (eq-eqb (r .b) 1 is, not-true (e .body) q)
 
     module _ (body : not (e .body) ≡ false) {f : Found} (x : Valued w (e .values) (r .c) f) where
       pub kept-none : f ≡ Nothing → false ≡ fieldKept w e r
       unfolding fieldOf
-      kept-none q = rw (eq-eqb (r .b) 1 is, on (e .body) body, x .same, q)
+      kept-none q = rw (eq-eqb (r .b) 1 is, not-false (e .body) body, x .same, q)
 
       pub kept-some : {n : ℕ} → f ≡ At n → true ≡ fieldKept w e r
       unfolding fieldOf
-      kept-some q = rw (eq-eqb (r .b) 1 is, on (e .body) body, x .same, q)
+      kept-some q = rw (eq-eqb (r .b) 1 is, not-false (e .body) body, x .same, q)
 
 -- of a field from its row on
 kept-front : (vs : Option Values) (l : List Row) → keptField vs (fieldOf l) ≡ keptField vs (fieldOf (front l ∷ []))

@@ -6,6 +6,7 @@ use mathlib.Core.Option.{Option, none, some}
 use Prim.Native.Nat.{ℕ, zero, suc, _+_, _-_}
 use native.Mathlib.Omega.{arith}
 use lib.ListN.{length, getD, drop}
+use Rattle.ast.proofs.Basics.{map-append}
 use Rattle.ast.specs.Ast.{Route, Statement}
 use Rattle.sheet.specs.declared.row.Row.{Row}
 use Rattle.sheet.specs.declared.part.Part.the-variants.{Statements}
@@ -46,10 +47,6 @@ abbrev envFor : ℕ → ℕ → Env
 envFor scope doc = record { scope = scope; entry = Scope.Body (record { document = doc; proto = 0 }) 0; isValues = none }
 
 -- ---- lists
-pub map-append : {A B : Type 0} (f : A → B) (xs ys : List A) → map f (xs ++ ys) ≡ map f xs ++ map f ys
-map-append f [] ys = refl
-map-append f (x ∷ xs) ys = ap (λ (l : List _). f x ∷ l) (map-append f xs ys)
-
 pub somes-more : {A : Type 0} (xs ys : List (Option A)) → somes (xs ++ ys) ≡ somes xs ++ somes ys
 unfolding somes
 somes-more [] ys = refl

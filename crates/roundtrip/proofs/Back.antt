@@ -9,6 +9,7 @@ use native.Mathlib.Decide.{ℕ-discrete}
 use lib.ListN.{length}
 use lib.Dec.{leb, eqb}
 use borrow.Author.Tests.{eq-eqb, ne-eqb, leb-true}
+use Rattle.ast.proofs.Basics.{and-l, and-r}
 use Rattle.sheet.specs.declared.row.Row.{Row}
 use Rattle.ast.specs.Ast.{FieldData}
 use Rattle.shape.proofs.Numbers.{between}
@@ -17,7 +18,7 @@ use Rattle.sheet.specs.Rows.{none#}
 use Rattle.shape.specs.Shape.{isName, hasValue, zeroFromC, zeroFromE, originFits, routeFits, nodeFits, fieldFits, interfaceFits, statementFits, orderFits, nameFits, urlFits, topFits, associationFits, zeroFromB}
 use Rattle.sheet.specs.Parse.{optional, idsOf, fieldOf, interfaceOf, statementOf, routeOf, bodyElementOf, originOf, associationOf, urlOf}
 use Rattle.sheet.specs.Print.{row, class, amount, dataRows, topRow, orNone, idRow, fieldRows, interfaceRows, statementRow, routeRow, bodyElementRow, nodeRow, associationRow, urlRow}
-use Rattle.roundtrip.proofs.Tests.{and-l, and-r, or-e, tests}
+use Rattle.roundtrip.proofs.Tests.{or-e, tests}
 
 -- a number or none is written as it is read
 num-opt : (n : ℕ) → orNone (optional n) ≡ n

@@ -16,7 +16,8 @@ use Rattle.checker.specs.declared.grammar.Next.the-variants.{Go, No}
 use Rattle.ast.specs.Choice.{choose}
 use Rattle.shape.specs.Shape.{shapeFits}
 use Rattle.checker.specs.Grammar.{roleOf, standsIn, comesIn, afterInner, byRole, moves, allowed, isLibrary, goIf, fits, hasEnded}
-use Rattle.sheet.specs.Print.{row, rowsOfEach}
+use Rattle.ast.specs.Lists.{flat}
+use Rattle.sheet.specs.Print.{row}
 use Rattle.shape.proofs.Numbers.{between}
 use Rattle.shape.proofs.ShapeLaws.{shape-none}
 use Rattle.roundtrip.specs.Each.{Each}
@@ -90,7 +91,7 @@ pub record Cuts {A : Type 0} (form : Form) (k : ℕ) (print : A → List Row) (G
   pub left : List Row
   pub part : ℕ
   pub last : ℕ
-  pub is : R ≡ rowsOfEach print items ++ left
+  pub is : R ≡ flat print items ++ left
   pub given : Each G items
   pub holds : I part last left
   pub goes : Accepts form (bare part last) left
@@ -120,7 +121,7 @@ module _ {A : Type 0} (form : Form) (k : ℕ) (print : A → List Row) (G : A �
             left = y .left;
             part = y .part;
             last = y .last;
-            is = c .is ∙ ap (_++_ (print (c .item))) (y .is) ∙ sym (append-assoc (print (c .item)) (rowsOfEach print (y .items)) (y .left));
+            is = c .is ∙ ap (_++_ (print (c .item))) (y .is) ∙ sym (append-assoc (print (c .item)) (flat print (y .items)) (y .left));
             given = (c .given, y .given);
             holds = y .holds;
             goes = y .goes;

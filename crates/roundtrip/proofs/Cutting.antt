@@ -10,6 +10,7 @@ use native.Mathlib.Decide.{ℕ-discrete}
 use lib.ListN.{length, length-append}
 use lib.Dec.{ltb, leb, eqb}
 use borrow.Author.Tests.{eqb-true, lt-ltb, leb-true}
+use Rattle.ast.proofs.Basics.{and-l, and-r}
 use Rattle.sheet.specs.declared.row.Row.{Row}
 use Rattle.checker.specs.declared.grammar.Form.{Form}
 use Rattle.checker.specs.declared.grammar.State.{State}
@@ -19,10 +20,11 @@ use Rattle.ast.specs.Ast.{InterfaceDecl, Route, Association, ProtoInstance, Nod
 use Rattle.shape.specs.Shape.{isName, shapeFits}
 use Rattle.checker.specs.Grammar.{roleOf, standsIn, comesIn, afterInner, moves, isLibrary, goIf, opened}
 use Rattle.sheet.specs.Parse.{optional, idsOf, fieldOf, interfaceOf, routeOf, statementOf, bodyElementOf, associationOf, urlOf, originOf}
-use Rattle.sheet.specs.Print.{row, rowsOfEach, idRow, fieldRows, interfaceRows, routeRow, statementRow, bodyElementRow, associationRow, instanceRows, anyInstanceRows, nodeRows, protoRows, urlRow, externProtoRows, topRow, documentRows, fileRows, libraryRows}
+use Rattle.ast.specs.Lists.{flat}
+use Rattle.sheet.specs.Print.{row, idRow, fieldRows, interfaceRows, routeRow, statementRow, bodyElementRow, associationRow, instanceRows, anyInstanceRows, nodeRows, protoRows, urlRow, externProtoRows, topRow, documentRows, fileRows, libraryRows}
 use Rattle.roundtrip.specs.Each.{Each}
 use Rattle.roundtrip.specs.Ranges.{IsPresent}
-use Rattle.roundtrip.proofs.Tests.{never, and-l, and-r, tests}
+use Rattle.roundtrip.proofs.Tests.{never, tests}
 use Rattle.roundtrip.proofs.Back.{owes, empty, field-back, iface-back, stmt-back, route-back, mark-back, node-back, assoc-back, url-back, name-back, top-back, zero-b, zero-e}
 use Rattle.roundtrip.proofs.Accepts.{at, bare, no-go, Accepts}
 use Rattle.roundtrip.proofs.Steps.{Sure, routeAsks, StatementGiven}
@@ -41,7 +43,7 @@ three : (i r a z l l1 l2 : List Row) → l ≡ i ++ l1 → l1 ≡ r ++ l2 → l2
 three i r a z l l1 l2 b c d = rw (b, c, d) (simp append-assoc)
 
 -- single rows in front, written as a map
-as-map : {A : Type 0} (print : A → Row) (xs : List A) {R : List Row} (left : List Row) → R ≡ rowsOfEach (one print) xs ++ left → R ≡ map print xs ++ left
+as-map : {A : Type 0} (print : A → Row) (xs : List A) {R : List Row} (left : List Row) → R ≡ flat (one print) xs ++ left → R ≡ map print xs ++ left
 as-map print xs left h = rw (rows-map print xs) h
 
 module _ (form : Form) where
@@ -89,7 +91,7 @@ module _ (form : Form) where
     pub items : List A
     pub left : List Row
     pub last : ℕ
-    pub is : R ≡ rowsOfEach print items ++ left
+    pub is : R ≡ flat print items ++ left
     pub given : Each G items
     pub most : last ≤ k
     pub past : Each (Past last left) (k ∷ J)
@@ -237,11 +239,11 @@ module _ (form : Form) where
       let X : Node = record { typeName = a; defName = optional b; origin = originOf (r ∷ []); fields = F .items; interface = I .items; statements = S .items; bodyOrder = O .items; instance = N .0 } in
       part-cut 2 [] nodeRows NodeGiven X (r ∷ l) (N .1) (N .2) (omega arith) tt
       (ap₂ _∷_ (sym (node-back a b c d e f g [] (x .0)))
-      (five (rowsOfEach fieldRows (F .items)) (rowsOfEach interfaceRows (I .items)) (map statementRow (S .items)) (map bodyElementRow (O .items)) (anyInstanceRows (N .0)) (N .1) l (F .left) (I .left) (S .left) (O .left) (F .is) (I .is) (as-map statementRow (S .items) (S .left) (S .is)) (as-map bodyElementRow (O .items) (O .left) (O .is)) (N .3)))
+      (five (flat fieldRows (F .items)) (flat interfaceRows (I .items)) (map statementRow (S .items)) (map bodyElementRow (O .items)) (anyInstanceRows (N .0)) (N .1) l (F .left) (I .left) (S .left) (O .left) (F .is) (I .is) (as-map statementRow (S .items) (S .left) (S .is)) (as-map bodyElementRow (O .items) (O .left) (O .is)) (N .3)))
       (omega arith) (present b, I .given, S .given, N .4) (N .5) (N .6)
 
   -- interfaces and then single rows: what a proto and an extern hold
-  two-lists : {A : Type 0} (print : A → Row) (is : List InterfaceDecl) (xs : List A) (l m left : List Row) → l ≡ rowsOfEach interfaceRows is ++ m → m ≡ rowsOfEach (one print) xs ++ left → l ≡ (rowsOfEach interfaceRows is ++ map print xs) ++ left
+  two-lists : {A : Type 0} (print : A → Row) (is : List InterfaceDecl) (xs : List A) (l m left : List Row) → l ≡ flat interfaceRows is ++ m → m ≡ flat (one print) xs ++ left → l ≡ (flat interfaceRows is ++ map print xs) ++ left
   two-lists print is xs l m left h i = rw (h, i, rows-map print xs) (simp append-assoc)
 
   -- a proto
@@ -334,7 +336,7 @@ module _ (form : Form) where
             S .left,
             S .last,
             ap₂ _∷_ (m ∙ sym (zero-b 1 (r .a) (r .b) (r .c) (r .d) (r .e) (r .f) (r .g) (rw m at s)))
-                (five (rowsOfEach nodeRows (N .items)) (rowsOfEach protoRows (P .items)) (rowsOfEach externProtoRows (E .items)) (topRow ∷ []) (map statementRow (S .items)) (S .left) l (N .left) (P .left) (E .left) (T .0) (N .is) (P .is) (E .is) (T .1) (as-map statementRow (S .items) (S .left) (S .is))),
+                (five (flat nodeRows (N .items)) (flat protoRows (P .items)) (flat externProtoRows (E .items)) (topRow ∷ []) (map statementRow (S .items)) (S .left) l (N .left) (P .left) (E .left) (T .0) (N .is) (P .is) (E .is) (T .1) (as-map statementRow (S .items) (S .left) (S .is))),
             (N .given, P .given, E .given, S .given),
             outer form 11 (S .last) (S .left) (inr (inr (λ q z. rw z)), (inr (inr (λ q z. rw z)), (inr (inl (S .past .0)), (inr (inr (λ q z. rw z)), (inr (inr (λ q z. rw z)), (inr (inr (λ q z. rw z)), tt)))))) (S .goes),
             S .goes,
@@ -375,4 +377,4 @@ module _ (form : Form) where
   library-whole R t =
       let C = cuts form 12 fileRows FileGiven BeforeFile file-cut R 12 0 (omega arith, outer-none 12 0 R (λ q. refl) t) t in
       let e = at-end (C .part) (C .last) (C .left) (C .holds .0) (C .holds .1) (λ b. C .ahead) (C .goes) in
-      (C .items, C .is ∙ ap (_++_ (rowsOfEach fileRows (C .items))) e ∙ append-nil (rowsOfEach fileRows (C .items)), C .given)
+      (C .items, C .is ∙ ap (_++_ (flat fileRows (C .items))) e ∙ append-nil (flat fileRows (C .items)), C .given)

@@ -14,7 +14,8 @@ use Rattle.ast.specs.Ast.{FieldData, FieldValue, FieldBinding, Field, Interface
 use Rattle.ast.specs.Choice.{choose, first}
 use Rattle.sheet.specs.Rows.{none#, front, rest}
 use Rattle.sheet.specs.Parse.{elements, optional, idsOf, valueOf, fieldOf, interfaceOf, routeOf, statementOf, bodyElementOf, originOf, associationOf, instanceOf, fieldsOf, interfacesOf, statementsOf, nodeOf, protoOf, urlOf, externProtoOf, afterTop, documentOf, fileOf, filesOf}
-use Rattle.sheet.specs.Print.{row, rowsOfEach, orNone, idRow, class, amount, dataRows, bindingRows, fieldRows, defaultRows, interfaceRows, routeRow, statementRow, bodyElementRow, associationRow, instanceRows, anyInstanceRows, nodeRow, nodeRows, protoRows, urlRow, externProtoRows, topRow, documentRows, fileRows, libraryRows}
+use Rattle.ast.specs.Lists.{flat}
+use Rattle.sheet.specs.Print.{row, orNone, idRow, class, amount, dataRows, bindingRows, fieldRows, defaultRows, interfaceRows, routeRow, statementRow, bodyElementRow, associationRow, instanceRows, anyInstanceRows, nodeRow, nodeRows, protoRows, urlRow, externProtoRows, topRow, documentRows, fileRows, libraryRows}
 use Rattle.roundtrip.specs.Each.{Each}
 use Rattle.roundtrip.specs.Ranges.{IsPresent, InterfaceInRange, RouteInRange, StatementInRange, InstanceInRange, AnyInstanceInRange, NodeInRange, ProtoInRange, UrlInRange, ExternInterfaceInRange, ExternProtoInRange, InRange, FileInRange}
 use Rattle.roundtrip.proofs.Tests.{or-i}
@@ -282,7 +283,7 @@ module _ (x : Node) where
   inner-rows l = chain (F ∷ I ∷ S ∷ O ∷ N ∷ []) l
 
   -- its print is these rows
-  node-rows : (l : List Row) → (rowsOfEach fieldRows (x .fields) ++ (rowsOfEach interfaceRows (x .interface) ++ (map statementRow (x .statements) ++ (map bodyElementRow (x .bodyOrder) ++ anyInstanceRows (x .instance))))) ++ l ≡ inner-rows l
+  node-rows : (l : List Row) → (flat fieldRows (x .fields) ++ (flat interfaceRows (x .interface) ++ (map statementRow (x .statements) ++ (map bodyElementRow (x .bodyOrder) ++ anyInstanceRows (x .instance))))) ++ l ≡ inner-rows l
   node-rows l = rw (rows-map statementRow (x .statements), rows-map bodyElementRow (x .bodyOrder)) (simp append-assoc)
 
   -- its first row
@@ -336,7 +337,7 @@ nodesListed = record { heads = node-heads; others = refl; again = refl; back = n
 -- ---- protos, externs: a row, interfaces, and a list of single rows
 
 -- their rows after the first, list after list
-two-rows : {A : Type 0} {u : Part} {print : A → Row} {parse : List Row → A} {Fine : A → Type 0} (L : Listed u [] anyKind (one print) parse Fine) (is : List InterfaceDecl) (xs : List A) (l : List Row) → (rowsOfEach interfaceRows is ++ map print xs) ++ l ≡ chain (run-of interfacesListed is ∷ run-of L xs ∷ []) l
+two-rows : {A : Type 0} {u : Part} {print : A → Row} {parse : List Row → A} {Fine : A → Type 0} (L : Listed u [] anyKind (one print) parse Fine) (is : List InterfaceDecl) (xs : List A) (l : List Row) → (flat interfaceRows is ++ map print xs) ++ l ≡ chain (run-of interfacesListed is ∷ run-of L xs ∷ []) l
 two-rows {print} L is xs l = rw (rows-map print xs) (simp append-assoc)
 
 -- what follows a proto
@@ -416,7 +417,7 @@ module _ (x : Document) where
   part-rows l = chain (Ns ∷ Ps ∷ Es ∷ []) (top-rows l)
 
   -- its print is these rows
-  document-rows : (l : List Row) → (rowsOfEach nodeRows (x .nodes) ++ (rowsOfEach protoRows (x .protos) ++ (rowsOfEach externProtoRows (x .externProtos) ++ (topRow ∷ map statementRow (x .statements))))) ++ l ≡ part-rows l
+  document-rows : (l : List Row) → (flat nodeRows (x .nodes) ++ (flat protoRows (x .protos) ++ (flat externProtoRows (x .externProtos) ++ (topRow ∷ map statementRow (x .statements))))) ++ l ≡ part-rows l
   document-rows l = rw (rows-map statementRow (x .statements)) (simp append-assoc)
 
   -- each of its lists is found, so it is parsed back

@@ -6,6 +6,7 @@ use mathlib.Core.Logic.{_↔_}
 use Prim.Native.Nat.{ℕ, suc, _≤_}
 use native.Mathlib.Omega.{arith}
 use lib.ListN.{length}
+use Rattle.ast.proofs.Basics.{and-r}
 use Rattle.sheet.specs.declared.row.Row.{Row}
 use Rattle.checker.specs.declared.grammar.Form.{Form}
 use Rattle.checker.specs.declared.grammar.Form.the-variants.{Root, Library, Expanded}
@@ -15,9 +16,9 @@ use Rattle.checker.specs.declared.grammar.Next.the-variants.{Go, No}
 use Rattle.ast.specs.Choice.{choose}
 use Rattle.shape.specs.Shape.{shapeFits}
 use Rattle.checker.specs.Grammar.{staysExpanded, allowed, goIf, fits}
-use Rattle.sheet.specs.Print.{rowsOfEach}
+use Rattle.ast.specs.Lists.{flat}
 use Rattle.roundtrip.specs.Each.{Each}
-use Rattle.roundtrip.proofs.Tests.{never, and-r}
+use Rattle.roundtrip.proofs.Tests.{never}
 use Rattle.roundtrip.proofs.Accepts.{bare, no-go, go-inj, Accepts}
 
 -- ---- what is asked
@@ -187,7 +188,7 @@ pub asking : {form : Form} {S T I J : Span} {a b : Asks} {R : List Row} → Sub 
 asking i j o x e f p la w = let y = f p la (i p la w) in (y .0, y .1, j (y .0) (y .1) (y .2), instead o x e (y .3))
 
 -- the rows of each of a list
-pub listed : {A : Type 0} {form : Form} {S T : Span} (print : A → List Row) (a : A → Asks) → Sub T S → ((x : A) → Passes form S T (a x) (print x)) → (l : List A) → Passes form S S (each a l) (rowsOfEach print l)
+pub listed : {A : Type 0} {form : Form} {S T : Span} (print : A → List Row) (a : A → Asks) → Sub T S → ((x : A) → Passes form S T (a x) (print x)) → (l : List A) → Passes form S S (each a l) (flat print l)
 listed {form} print a i f [] = λ p la w. (p, la, w, stay form (bare p la))
 listed {form} print a i f (x ∷ l) = then i (f x) (listed print a i f l)
 

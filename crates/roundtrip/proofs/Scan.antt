@@ -5,12 +5,13 @@ use mathlib.Core.Bool.{Bool, true, false, not, _&&_}
 use Prim.Native.Nat.{ℕ}
 use lib.Dec.{eqb}
 use borrow.Author.Tests.{eq-eqb, not-true}
+use Rattle.ast.proofs.Basics.{and-l, and-r}
 use Rattle.sheet.specs.declared.row.Row.{Row}
 use Rattle.sheet.specs.declared.part.Part.{Part}
 use Rattle.sheet.specs.Parse.{kindOf, passes, elements}
-use Rattle.sheet.specs.Print.{rowsOfEach}
+use Rattle.ast.specs.Lists.{flat}
 use Rattle.roundtrip.specs.Each.{Each}
-use Rattle.roundtrip.proofs.Tests.{and-i, and-l, and-r, or-i, among, every, every-at}
+use Rattle.roundtrip.proofs.Tests.{and-i, or-i, among, every, every-at}
 
 -- ---- kinds of rows
 
@@ -92,31 +93,31 @@ pub record Listed {A : Type 0} (t : Part) (K N : List ℕ) (print : A → List R
 
 module _ {A : Type 0} {t : Part} {K N : List ℕ} {print : A → List Row} {parse : List Row → A} {Fine : A → Type 0} (L : Listed t K N print parse Fine) where
   -- the kinds of its rows
-  pub kinds : (xs : List A) → Among (kindOf t ∷ K) (rowsOfEach print xs)
+  pub kinds : (xs : List A) → Among (kindOf t ∷ K) (flat print xs)
   kinds [] = tt
-  kinds (x ∷ xs) = among-append (kindOf t ∷ K) (print x) (rowsOfEach print xs) (go (print x) (L .heads x)) (kinds xs)
+  kinds (x ∷ xs) = among-append (kindOf t ∷ K) (print x) (flat print xs) (go (print x) (L .heads x)) (kinds xs)
     where
       go : (R : List Row) → Heads (kindOf t) K R → Among (kindOf t ∷ K) R
       go [] h = absurd h
       go (r ∷ l) h = (rw (eq-eqb (r .kind) (kindOf t) (h .0)), among-more (kindOf t) K l (h .1))
 
   -- how it begins, or else what follows it
-  pub begins : (xs : List A) (M : List ℕ) (l : List Row) → Follows M l → Follows (kindOf t ∷ M) (rowsOfEach print xs ++ l)
+  pub begins : (xs : List A) (M : List ℕ) (l : List Row) → Follows M l → Follows (kindOf t ∷ M) (flat print xs ++ l)
   begins [] M [] h = tt
   begins [] M (r ∷ l) h = or-i (eqb (r .kind) (kindOf t)) h
   begins (x ∷ xs) M l h = go (print x) (L .heads x)
     where
-      go : (R : List Row) → Heads (kindOf t) K R → Follows (kindOf t ∷ M) ((R ++ rowsOfEach print xs) ++ l)
+      go : (R : List Row) → Heads (kindOf t) K R → Follows (kindOf t ∷ M) ((R ++ flat print xs) ++ l)
       go [] h = absurd h
       go (r ∷ R) h = rw (eq-eqb (r .kind) (kindOf t) (h .0))
 
   -- the scan of its part finds it, where the row that follows may and ends the scan
-  found : (M : List ℕ) → every (λ k. among k N) M ≡ true → every (ends t) M ≡ true → (xs : List A) (l : List Row) → Each Fine xs → Follows M l → map parse (elements t (rowsOfEach print xs ++ l)) ≡ xs
+  found : (M : List ℕ) → every (λ k. among k N) M ≡ true → every (ends t) M ≡ true → (xs : List A) (l : List Row) → Each Fine xs → Follows M l → map parse (elements t (flat print xs ++ l)) ≡ xs
   found M n e [] l f h = ap (map parse) (ended t M e l h)
   found M n e (x ∷ xs) l f h =
-      ap (λ (R : List Row). map parse (elements t R)) (append-assoc (print x) (rowsOfEach print xs) l) ∙
-      ap (map parse) (element t K (L .others) (print x) (rowsOfEach print xs ++ l) (L .heads x)) ∙
-      ap₂ _∷_ (L .back x (rowsOfEach print xs ++ l) (f .0) (follows-in (kindOf t ∷ M) N (rowsOfEach print xs ++ l) (and-i (L .again) n) (begins xs M l h))) (found M n e xs l (f .1) h)
+      ap (λ (R : List Row). map parse (elements t R)) (append-assoc (print x) (flat print xs) l) ∙
+      ap (map parse) (element t K (L .others) (print x) (flat print xs ++ l) (L .heads x)) ∙
+      ap₂ _∷_ (L .back x (flat print xs ++ l) (f .0) (follows-in (kindOf t ∷ M) N (flat print xs ++ l) (and-i (L .again) n) (begins xs M l h))) (found M n e xs l (f .1) h)
 
 -- ---- printed lists, one after the other
 
@@ -130,7 +131,7 @@ pub record Run : Type 0 where
 
 -- a printed list as one
 abbrev pub run-of : {A : Type 0} {t : Part} {K N : List ℕ} {print : A → List Row} {parse : List Row → A} {Fine : A → Type 0} → Listed t K N print parse Fine → List A → Run
-run-of {t} {K} {print} L xs = record { rows = rowsOfEach print xs; kind = kindOf t; others = K; begins = begins L xs; kinds = kinds L xs }
+run-of {t} {K} {print} L xs = record { rows = flat print xs; kind = kindOf t; others = K; begins = begins L xs; kinds = kinds L xs }
 
 -- their rows, and then l
 abbrev pub chain : List Run → List Row → List Row
@@ -170,9 +171,9 @@ alone-among K ss R l h a e = subst (Among K) (sym e ∙ append-nil R) (chain-amo
 
 -- the scan of a part finds its list between others
 pub found-in : {A : Type 0} {t : Part} {K N : List ℕ} {print : A → List Row} {parse : List Row → A} {Fine : A → Type 0} (before : List Run) (L : Listed t K N print parse Fine) (xs : List A) (after : List Run) (M : List ℕ) (l : List Row) →
-    every-run (passed t) before ≡ true → every (λ k. among k N) (heads-of after M) ≡ true → every (ends t) (heads-of after M) ≡ true → Each Fine xs → Follows M l → map parse (elements t (chain before (rowsOfEach print xs ++ chain after l))) ≡ xs
+    every-run (passed t) before ≡ true → every (λ k. among k N) (heads-of after M) ≡ true → every (ends t) (heads-of after M) ≡ true → Each Fine xs → Follows M l → map parse (elements t (chain before (flat print xs ++ chain after l))) ≡ xs
 found-in {t} {print} {parse} before L xs after M l p n e f h =
-    ap (map parse) (chain-passed t before (rowsOfEach print xs ++ chain after l) p) ∙ found L (heads-of after M) n e xs (chain after l) f (chain-follows after M l h)
+    ap (map parse) (chain-passed t before (flat print xs ++ chain after l) p) ∙ found L (heads-of after M) n e xs (chain after l) f (chain-follows after M l h)
 
 -- ---- a list of single rows
 
@@ -181,6 +182,6 @@ abbrev pub one : {A : Type 0} → (A → Row) → A → List Row
 one print x = print x ∷ []
 
 -- written as a list of elements
-pub rows-map : {A : Type 0} (print : A → Row) (xs : List A) → map print xs ≡ rowsOfEach (one print) xs
+pub rows-map : {A : Type 0} (print : A → Row) (xs : List A) → map print xs ≡ flat (one print) xs
 rows-map print [] = refl
 rows-map print (x ∷ xs) = ap (_∷_ (print x)) (rows-map print xs)

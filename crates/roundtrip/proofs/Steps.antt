@@ -9,6 +9,7 @@ use native.Mathlib.Omega.{arith}
 use lib.ListN.{length}
 use lib.Dec.{ltb, leb, eqb}
 use borrow.Author.Tests.{ne-eqb, lt-ltb, le-leb, leb-true}
+use Rattle.ast.proofs.Basics.{and-l, and-r}
 use Rattle.sheet.specs.declared.row.Row.{Row}
 use Rattle.checker.specs.declared.grammar.Form.{Form}
 use Rattle.checker.specs.declared.grammar.Form.the-variants.{Library}
@@ -23,7 +24,7 @@ use Rattle.sheet.specs.Print.{row, orNone, idRow, class, amount, dataRows, rout
 use Rattle.roundtrip.specs.Each.{Each}
 use Rattle.roundtrip.specs.Ranges.{IsName, IsPresent, DataInRange, RouteInRange, StatementInRange, AssociationInRange, OriginInRange, UrlInRange}
 use Rattle.roundtrip.specs.Expanded.{TopKept, InnerKept, OriginKept}
-use Rattle.roundtrip.proofs.Tests.{never, and-i, and-l, and-r, or-e, or-l, tests}
+use Rattle.roundtrip.proofs.Tests.{never, and-i, or-e, or-l, tests}
 use Rattle.roundtrip.proofs.Accepts.{at, bare}
 use Rattle.roundtrip.proofs.Passes.{Asks, nothing, Keeps, GoesOn, Through, through, refused, instead, counted, stay, each}
 

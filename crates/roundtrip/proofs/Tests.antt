@@ -7,6 +7,7 @@ use Prim.Native.Nat.{ℕ}
 use native.Mathlib.Omega.{arith}
 use lib.Dec.{eqb}
 use borrow.Author.Tests.{eqb-true, leb-true, ltb-true}
+use Rattle.ast.proofs.Basics.{and-l, and-r}
 use Rattle.roundtrip.specs.Each.{Each}
 
 -- false is not true
@@ -16,16 +17,6 @@ never h = let z : _≡_ {A = ℕ} 0 1 = cc in absurd (omega arith)
 -- both hold
 pub and-i : {a b : Bool} → a ≡ true → b ≡ true → (a && b) ≡ true
 and-i h i = rw (h, i)
-
--- the first of two that both hold
-pub and-l : (a b : Bool) → (a && b) ≡ true → a ≡ true
-and-l true b h = refl
-and-l false b h = h
-
--- the second
-pub and-r : (a b : Bool) → (a && b) ≡ true → b ≡ true
-and-r true b h = h
-and-r false b h = never h
 
 -- one of two holds
 pub or-e : (a b : Bool) → (a || b) ≡ true → (a ≡ true) ⊎ (b ≡ true)

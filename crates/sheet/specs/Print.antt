@@ -6,14 +6,10 @@ use lib.ListN.{length}
 use Rattle.ast.specs.Ast.{FieldData, FieldValue, FieldBinding, Field, InterfaceDecl, Route, Statement, NodeOrigin, BodyElement, Association, ProtoInstance, Node, ProtoDecl, Url, ExternProtoDecl, Document, File}
 use Rattle.sheet.specs.declared.row.Row.{Row}
 use Rattle.sheet.specs.Rows.{none#}
+use Rattle.ast.specs.Lists.{flat}
 
 abbrev pub row : ℕ → ℕ → ℕ → ℕ → ℕ → ℕ → ℕ → ℕ → Row
 row k a b c d e f g = record { kind = k; a = a; b = b; c = c; d = d; e = e; f = f; g = g }
-
--- the rows of each of a list, in order
-abbrev pub rowsOfEach : {A : Type 0} → (A → List Row) → List A → List Row
-rowsOfEach f [] = []
-rowsOfEach f (x ∷ l) = f x ++ rowsOfEach f l
 
 abbrev pub orNone : Option ℕ → ℕ
 orNone none = none#
@@ -87,16 +83,16 @@ nodeRow t n NodeOrigin.Unknown = row 2 t (orNone n) 3 0 0 0 0
 abbrev pub nodeRows : Node → List Row
 nodeRows x =
     nodeRow (x .typeName) (x .defName) (x .origin) ∷
-    rowsOfEach fieldRows (x .fields) ++ (rowsOfEach interfaceRows (x .interface) ++ (map statementRow (x .statements) ++ (map bodyElementRow (x .bodyOrder) ++ anyInstanceRows (x .instance))))
+    flat fieldRows (x .fields) ++ (flat interfaceRows (x .interface) ++ (map statementRow (x .statements) ++ (map bodyElementRow (x .bodyOrder) ++ anyInstanceRows (x .instance))))
 
 abbrev pub protoRows : ProtoDecl → List Row
-protoRows x = row 7 (x .name) 0 0 0 0 0 0 ∷ rowsOfEach interfaceRows (x .interface) ++ map statementRow (x .body)
+protoRows x = row 7 (x .name) 0 0 0 0 0 0 ∷ flat interfaceRows (x .interface) ++ map statementRow (x .body)
 
 abbrev pub urlRow : Url → Row
 urlRow x = row 10 (x .base) (orNone (x .fragment)) 0 0 0 0 0
 
 abbrev pub externProtoRows : ExternProtoDecl → List Row
-externProtoRows x = row 8 (x .name) 0 0 0 0 0 0 ∷ rowsOfEach interfaceRows (x .interface) ++ map urlRow (x .urls)
+externProtoRows x = row 8 (x .name) 0 0 0 0 0 0 ∷ flat interfaceRows (x .interface) ++ map urlRow (x .urls)
 
 abbrev pub topRow : Row
 topRow = row 11 0 0 0 0 0 0 0
@@ -104,10 +100,10 @@ topRow = row 11 0 0 0 0 0 0 0
 unfoldable pub documentRows : Document → List Row
 documentRows x =
     row 1 (x .header) 0 0 0 0 0 0 ∷
-    rowsOfEach nodeRows (x .nodes) ++ (rowsOfEach protoRows (x .protos) ++ (rowsOfEach externProtoRows (x .externProtos) ++ (topRow ∷ map statementRow (x .statements))))
+    flat nodeRows (x .nodes) ++ (flat protoRows (x .protos) ++ (flat externProtoRows (x .externProtos) ++ (topRow ∷ map statementRow (x .statements))))
 
 abbrev pub fileRows : File → List Row
 fileRows x = row 12 (x .base) 0 0 0 0 0 0 ∷ documentRows (x .document)
 
 unfoldable pub libraryRows : List File → List Row
-libraryRows l = rowsOfEach fileRows l
+libraryRows l = flat fileRows l

@@ -5,7 +5,8 @@ use Prim.Native.Nat.{ℕ, zero, suc, _+_, _*_, _-_, _<_}
 use native.Mathlib.Omega.{arith}
 use lib.ListN.{length, getD, length-append, List·getD-append}
 use borrow.Author.Tests.{eq-eqb, ne-eqb}
-use Rattle.expansion.specs.Ids.{flat}
+use Rattle.operation.proofs.Said.{scopes-length}
+use Rattle.ast.specs.Lists.{flat}
 use Rattle.expansion.specs.Scopes.{Scope, documentOf, scopeEntry}
 use Rattle.journal.specs.Records.{tagNode, tagScope, cell}
 use Rattle.journal.specs.Logs.{logUp, only}
@@ -17,16 +18,6 @@ use Rattle.nodes.specs.Instances.{NodeIn}
 use Rattle.tables.specs.Tables.{scopeText, entryWords, Begun}
 
 -- ---- scopes
-
--- five words to a scope
-pub scope-length : (x : Scope) → length (scopeEntry x) ≡ 5
-scope-length Scope.Root = refl
-scope-length (Scope.Body p n) = refl
-scope-length (Scope.Default p k n) = refl
-
-pub scopes-length : (L : List Scope) → length (flat scopeEntry L) ≡ 5 * length L
-scopes-length [] = refl
-scopes-length (x ∷ L) = let h : length (flat scopeEntry L) ≡ 5 * length L = scopes-length L in rw (length-append (scopeEntry x) (flat scopeEntry L), scope-length x) (omega arith)
 
 -- the second word of a scope's entry is its document
 scope-document : (L : List Scope) (rest : List ℕ) (s : ℕ) → s < length L → getD (flat scopeEntry L ++ rest) (s * 5 + 1) 0 ≡ documentOf (getD L s Scope.Root)

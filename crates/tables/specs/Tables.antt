@@ -3,14 +3,12 @@ use mathlib.Core.Path.{_≡_}
 use mathlib.Core.List.{List, [], _∷_, _++_, map}
 use Prim.Native.Nat.{ℕ, _+_, _*_, _≤_}
 use lib.ListN.{length}
-use Rattle.expansion.specs.Ids.{flat}
+use Rattle.ast.specs.Lists.{flat}
 use Rattle.expansion.specs.Scopes.{scopeEntry}
-use Rattle.expansion.specs.Expand.{LedgerEntry, ledgerEntry}
+use Rattle.expansion.specs.Expand.{ledgerEntry}
+use Rattle.operation.specs.Operation.{ledgerWords}
 use Rattle.reading.specs.Reading.{ledgerRec, scopesOf, ledgerOf}
 use Rattle.nodes.specs.Instances.{NodeIn}
-
-abbrev pub ledgerWords : LedgerEntry → List ℕ
-ledgerWords x = x .scope ∷ x .document ∷ x .source ∷ []
 
 abbrev pub scopeText : List ℕ → ℕ → List ℕ
 scopeText w c = flat scopeEntry (scopesOf w c)

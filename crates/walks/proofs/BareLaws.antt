@@ -7,6 +7,7 @@ use native.Mathlib.Omega.{arith}
 use lib.ListN.{length, getD}
 use lib.Dec.{eqb}
 use borrow.Author.Tests.{eqb-true, eqb-false, le-leb, lt-leb}
+use Rattle.ast.proofs.Basics.{neither}
 use Rattle.sheet.specs.declared.row.Row.{Row}
 use Rattle.sheet.specs.declared.part.Part.the-variants.{Interfaces, Statements, BodyOrder}
 use Rattle.sheet.specs.Rows.{blank}
@@ -30,10 +31,6 @@ passed : (k : ℕ) (a b : Bool) → eqb k 3 ≡ a → eqb k 9 ≡ b → (a || b)
 passed k true b x y e = rw (eqb-true k 3 x) three
 passed k false true x y e = rw (eqb-true k 9 y) nine
 passed k false false x y e = let z : false ≡ true = e in absurd (let x : _≡_ {A = ℕ} 0 1 = cc in omega arith)
-
-neither : (a b : Bool) → (a || b) ≡ false → (a ≡ false) × (b ≡ false)
-neither true b h = let z : true ≡ false = h in absurd (let x : _≡_ {A = ℕ} 0 1 = cc in omega arith)
-neither false b h = (refl, h)
 
 module _ (R : List Row) (p : ℕ) where
   pub bare-end : length R ≤ p → Bare R p

@@ -6,7 +6,8 @@ use native.Mathlib.Omega.{arith}
 use lib.ListN.{length, getD}
 use Rattle.sheet.specs.declared.row.Row.{Row}
 use Rattle.sheet.specs.Rows.{rows, blank}
-use Rattle.sheet.specs.Print.{row, topRow, rowsOfEach, nodeRows, externProtoRows, documentRows}
+use Rattle.ast.specs.Lists.{flat}
+use Rattle.sheet.specs.Print.{row, topRow, nodeRows, externProtoRows, documentRows}
 use Rattle.walks.proofs.WalkLaws.{front-drop}
 use Rattle.reading.specs.Reading.{nodesOf, externsOf}
 use Rattle.lists.specs.declared.Kind.the-variants.{Statements}
@@ -20,7 +21,7 @@ module _ (root library w : List ℕ) (c tops : ℕ) where
   -- its first row, its nodes, its externs, the row before the statements, and those
   abbrev pub parts : List (List Row)
   parts =
-      (row 1 (getD (rows root) 0 blank .a) 0 0 0 0 0 0 ∷ []) ∷ rowsOfEach nodeRows (nodesOf w c) ∷ rowsOfEach externProtoRows (externsOf root library w c) ∷ (topRow ∷ []) ∷ listRows Statements w tops ∷ []
+      (row 1 (getD (rows root) 0 blank .a) 0 0 0 0 0 0 ∷ []) ∷ flat nodeRows (nodesOf w c) ∷ flat externProtoRows (externsOf root library w c) ∷ (topRow ∷ []) ∷ listRows Statements w tops ∷ []
 
   out-shape : {some : ℕ} → Printable w c some tops → outRows root library w c tops ≡ forwards parts
   unfolding documentRows documentIn forwards

@@ -9,7 +9,8 @@ use Rattle.sheet.specs.declared.part.Part.{Part}
 use Rattle.sheet.specs.declared.part.Part.the-variants.{Interfaces, Urls}
 use Rattle.sheet.specs.Rows.{rows, blank, front, rest}
 use Rattle.sheet.specs.Parse.{elements, interfaceOf, interfacesOf, urlOf, externProtoOf}
-use Rattle.sheet.specs.Print.{row, rowsOfEach, externProtoRows, interfaceRows, urlRow}
+use Rattle.ast.specs.Lists.{flat}
+use Rattle.sheet.specs.Print.{row, externProtoRows, interfaceRows, urlRow}
 use Rattle.walks.specs.Walk.{Stands}
 use Rattle.lookup.specs.Lookup.{sheetOf}
 use Rattle.walks.proofs.WalkLaws.{each-at, each-none, front-drop, rest-drop}
@@ -76,7 +77,7 @@ module _ (of : Part) (R : List Row) where
 
 -- ---- a declaration
 
-interfaces-rows : (L : List (List Row)) → rowsOfEach interfaceRows (map noValue (map interfaceOf L)) ≡ map (λ x. declaredRow Interfaces (front x)) L
+interfaces-rows : (L : List (List Row)) → flat interfaceRows (map noValue (map interfaceOf L)) ≡ map (λ x. declaredRow Interfaces (front x)) L
 unfolding interfaceOf
 interfaces-rows [] = refl
 interfaces-rows (x ∷ L) = rw (or-none (front x .d), interfaces-rows L)
@@ -115,10 +116,10 @@ module _ (root library w : List ℕ) where
   extern-room r p a {o} m = subst (λ (R : List Row). Room R o (p + length R)) (extern-at r a) m
 
   -- where there are none, there are no rows
-  pub externs-none : (c : ℕ) → below w tagExtern c ≡ 0 → rowsOfEach externProtoRows (externsOf root library w c) ≡ []
+  pub externs-none : (c : ℕ) → below w tagExtern c ≡ 0 → flat externProtoRows (externsOf root library w c) ≡ []
   unfolding externsOf
   externs-none c e = by (logUp externsAt c) (up-count (tagged w tagExtern) (externRec root library w) c ∙ e)
     where
-      by : (l : List ExternProtoDecl) → length l ≡ 0 → rowsOfEach externProtoRows l ≡ []
+      by : (l : List ExternProtoDecl) → length l ≡ 0 → flat externProtoRows l ≡ []
       by [] z = refl
       by (x ∷ l) z = absurd (omega arith)

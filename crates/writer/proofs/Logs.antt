@@ -7,16 +7,17 @@ use native.Mathlib.Decide.{ℕ-discrete}
 use native.Mathlib.Numerals.{add-one}
 use lib.ListN.{length, length-append}
 use borrow.Author.Tests.{eq-eqb, ne-eqb}
-use Rattle.expansion.specs.Ids.{flat}
+use Rattle.operation.proofs.Said.{words-length}
+use Rattle.ast.specs.Lists.{flat}
 use Rattle.sheet.specs.declared.row.Row.{Row}
 use Rattle.sheet.specs.Rows.{words}
-use Rattle.sheet.specs.Print.{rowsOfEach}
 use Rattle.journal.specs.Records.{cell}
 use Rattle.journal.specs.Logs.{logUp, only}
 use Rattle.journal.specs.Owned.{tagged}
 use Rattle.journal.proofs.Lists.{only-here, only-other, up-one, up-zero}
 use Rattle.lists.specs.Writing.{Pasted, Room, Wrote}
-use Rattle.lists.proofs.Writing.{words-append, words-length, paste-none, paste-after}
+use Rattle.lists.proofs.Chains.{flat-append}
+use Rattle.lists.proofs.Writing.{words-append, paste-none, paste-after}
 
 module _ {A : Type 0} (w : List ℕ) (t : ℕ) (d : ℕ → A) where
   -- the records of tag t, read by d
@@ -34,23 +35,13 @@ module _ {A : Type 0} (w : List ℕ) (t : ℕ) (d : ℕ → A) where
   of-other r e = only-other (tagged w t) d r (ne-eqb _ _ e)
 
 module _ {A : Type 0} (f : A → List ℕ) where
-  -- of two lists
-  flat-append : (a b : List A) → flat f (a ++ b) ≡ flat f a ++ flat f b
-  flat-append [] b = refl
-  flat-append (x ∷ a) b = rw (flat-append a b) (sym (append-assoc (f x) (flat f a) (flat f b)))
-
-  -- of what a list is read as
-  pub flat-map : {B : Type 0} (d : B → A) (l : List B) → flat f (map d l) ≡ flat (λ b. f (d b)) l
-  flat-map d [] = refl
-  flat-map d (b ∷ l) = rw (flat-map d l)
-
   module _ (g : ℕ → List A) where
     -- the text of the records below i
     abbrev pub upTo : ℕ → List ℕ
     upTo i = flat f (logUp g i)
 
     up-step : (i : ℕ) → upTo (i + 1) ≡ upTo i ++ flat f (g i)
-    up-step i = ap (flat f) (up-one g i) ∙ flat-append (logUp g i) (g i)
+    up-step i = ap (flat f) (up-one g i) ∙ flat-append f (logUp g i) (g i)
 
     up-length : (i : ℕ) → length (upTo (i + 1)) ≡ length (upTo i) + length (flat f (g i))
     up-length i = ap length (up-step i) ∙ length-append (upTo i) (flat f (g i))
@@ -110,14 +101,14 @@ module _ {A : Type 0} (f : A → List Row) where
   abbrev textOf : A → List ℕ
   textOf x = words (f x)
 
-  words-each : (l : List A) → words (rowsOfEach f l) ≡ flat textOf l
+  words-each : (l : List A) → words (flat f l) ≡ flat textOf l
   unfolding words
   words-each [] = refl
-  words-each (x ∷ l) = words-append (f x) (rowsOfEach f l) ∙ rw (words-each l)
+  words-each (x ∷ l) = words-append (f x) (flat f l) ∙ rw (words-each l)
 
   module _ (g : ℕ → List A) where
     abbrev pub rowsTo : ℕ → List Row
-    rowsTo i = rowsOfEach f (logUp g i)
+    rowsTo i = flat f (logUp g i)
 
     rows-length : (i : ℕ) → length (upTo textOf g i) ≡ 8 * length (rowsTo i)
     rows-length i = sym (ap length (words-each (logUp g i))) ∙ words-length (rowsTo i)

@@ -4,17 +4,19 @@ use mathlib.Core.List.{List, [], _∷_}
 use Prim.Native.Nat.{ℕ, _+_, _*_, _<_, _≤_}
 use native.Mathlib.Omega.{arith}
 use lib.ListN.{length}
+use Rattle.operation.proofs.Said.{scope-length, scopes-length}
 use Rattle.ast.specs.Ast.{Node}
-use Rattle.expansion.specs.Ids.{flat}
+use Rattle.ast.specs.Lists.{flat}
 use Rattle.expansion.specs.Scopes.{Scope, scopeEntry}
 use Rattle.expansion.specs.Expand.{ledgerEntry}
-use Rattle.sheet.specs.Print.{rowsOfEach, nodeRows}
+use Rattle.sheet.specs.Print.{nodeRows}
 use Rattle.journal.specs.Records.{tagNode, tagScope, cell}
 use Rattle.reading.specs.Reading.{nodeRec, scopeRec, ledgerRec, nodesOf, scopesOf, ledgerOf}
 use Rattle.lists.specs.Writing.{Pasted, Room, Wrote}
-use Rattle.tables.specs.Tables.{ledgerWords, scopeText, ledgerText, entryWords, TablesRoom, Begun}
-use Rattle.writer.proofs.Logs.{ofTag, of-tag, of-other, flat-map, Filling, fill-begin, fill-room, fill-more, fill-skip, fill-end, Logging, log-begin, log-room, log-more, log-skip, log-end}
-use Rattle.tables.proofs.TableRows.{scope-length, scopes-length}
+use Rattle.operation.specs.Operation.{ledgerWords}
+use Rattle.tables.specs.Tables.{scopeText, ledgerText, entryWords, TablesRoom, Begun}
+use Rattle.lists.proofs.Chains.{flat-map}
+use Rattle.writer.proofs.Logs.{ofTag, of-tag, of-other, Filling, fill-begin, fill-room, fill-more, fill-skip, fill-end, Logging, log-begin, log-room, log-more, log-skip, log-end}
 
 module _ (w : List ℕ) (c : ℕ) where
   abbrev nodesAt : ℕ → List Node
@@ -39,7 +41,7 @@ module _ (w : List ℕ) (c : ℕ) where
     pub scopes : Filling scopeEntry scopesAt s₀ s c 0 i k
 
   -- nothing stands yet
-  pub pass-begin : {start : ℕ} {o l s : List ℕ} → Room (rowsOfEach nodeRows (nodesOf w c)) o (start + length (rowsOfEach nodeRows (nodesOf w c))) → TablesRoom w c l s → Passing start o l s o l s 0 start 0 0
+  pub pass-begin : {start : ℕ} {o l s : List ℕ} → Room (flat nodeRows (nodesOf w c)) o (start + length (flat nodeRows (nodesOf w c))) → TablesRoom w c l s → Passing start o l s o l s 0 start 0 0
   unfolding nodesOf ledgerOf scopesOf
   pass-begin m x = record {
     rows = log-begin nodeRows nodesAt m;
@@ -94,7 +96,7 @@ module _ (w : List ℕ) (c : ℕ) where
 
     -- all stands
     module _ (le : c ≤ i) where
-      pub pass-rows : Wrote (rowsOfEach nodeRows (nodesOf w c)) o₀ o p start
+      pub pass-rows : Wrote (flat nodeRows (nodesOf w c)) o₀ o p start
       unfolding nodesOf
       pass-rows = log-end nodeRows nodesAt (u .rows) le
 

@@ -13,7 +13,8 @@ ghost use mathlib.Core.Path.{_≡_};
 ghost use Prim.Native.Nat.{_+_, _*_, _≤_};
 ghost use lib.ListN.{length, drop};
 ghost use Rattle.sheet.specs.Rows.{rows};
-ghost use Rattle.sheet.specs.Print.{rowsOfEach, externProtoRows};
+ghost use Rattle.ast.specs.Lists.{flat};
+ghost use Rattle.sheet.specs.Print.{externProtoRows};
 ghost use Rattle.journal.specs.Records.{tagExtern};
 ghost use Rattle.reading.specs.Reading.{externsOf, below};
 ghost use Rattle.lists.specs.Writing.{Room, Wrote};
@@ -72,8 +73,8 @@ pub fn externs<'a>(
 ) -> usize
     requires { ⌜ c * 12 ≤ length (now work) ⌝ }
     requires { ⌜ some ≡ below (now work) tagExtern c ⌝ }
-    requires { ⌜ Room (rowsOfEach externProtoRows (externsOf (now root) (now library) (now work) c)) (now out) (start + length (rowsOfEach externProtoRows (externsOf (now root) (now library) (now work) c))) ⌝ }
-    ensures { λ e. ⌜ Wrote (rowsOfEach externProtoRows (externsOf (now (root .entry)) (now (library .entry)) (now (work .entry)) c)) (now (out .entry)) (now (out .exit)) e start ⌝ }
+    requires { ⌜ Room (flat externProtoRows (externsOf (now root) (now library) (now work) c)) (now out) (start + length (flat externProtoRows (externsOf (now root) (now library) (now work) c))) ⌝ }
+    ensures { λ e. ⌜ Wrote (flat externProtoRows (externsOf (now (root .entry)) (now (library .entry)) (now (work .entry)) c)) (now (out .entry)) (now (out .exit)) e start ⌝ }
 {
     if some == 0 {
         return start;

@@ -4,7 +4,8 @@ use nodes;
 use tables;
 ghost use Prim.Native.Nat.{_+_};
 ghost use lib.ListN.{length};
-ghost use Rattle.sheet.specs.Print.{rowsOfEach, nodeRows};
+ghost use Rattle.ast.specs.Lists.{flat};
+ghost use Rattle.sheet.specs.Print.{nodeRows};
 ghost use Rattle.reading.specs.Reading.{nodesOf};
 ghost use Rattle.lists.specs.Writing.{Pasted, Room, Wrote};
 ghost use Rattle.nodes.specs.Instances.{Legible};
@@ -21,9 +22,9 @@ pub fn pass(
     scopes: &mut [u32],
 ) -> usize
     requires { ⌜ Legible (now work) c ⌝ }
-    requires { ⌜ Room (rowsOfEach nodeRows (nodesOf (now work) c)) (now out) (start + length (rowsOfEach nodeRows (nodesOf (now work) c))) ⌝ }
+    requires { ⌜ Room (flat nodeRows (nodesOf (now work) c)) (now out) (start + length (flat nodeRows (nodesOf (now work) c))) ⌝ }
     requires { ⌜ TablesRoom (now work) c (now ledger) (now scopes) ⌝ }
-    ensures { λ e. ⌜ Wrote (rowsOfEach nodeRows (nodesOf (now (work .entry)) c)) (now (out .entry)) (now (out .exit)) e start ⌝ }
+    ensures { λ e. ⌜ Wrote (flat nodeRows (nodesOf (now (work .entry)) c)) (now (out .entry)) (now (out .exit)) e start ⌝ }
     ensures { λ _. ⌜ Pasted (ledgerText (now (work .entry)) c) (now (ledger .entry)) (now (ledger .exit)) 0 ⌝ }
     ensures { λ _. ⌜ Pasted (scopeText (now (work .entry)) c) (now (scopes .entry)) (now (scopes .exit)) 0 ⌝ }
 {

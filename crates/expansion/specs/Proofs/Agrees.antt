@@ -9,7 +9,8 @@ use Rattle.steps.specs.Steps.{Action, copyId, openDefault, copies}
 use Rattle.steps.specs.Laws.{copies-map}
 use Rattle.expansion.specs.Input.{Input, protoOf, lastField}
 use Rattle.expansion.specs.Scopes.{Scope, documentOf}
-use Rattle.expansion.specs.Ids.{bindingIds, flat}
+use Rattle.ast.specs.Lists.{flat}
+use Rattle.expansion.specs.Ids.{bindingIds}
 use Rattle.expansion.specs.Reached.{declOf, plainNexts, givenIds, instanceNexts, nextsBy, nextsOf, valueActions, interfaceActions, instanceActions, actionsBy, actionsOf, nodeIn, graph}
 
 copies-append : (l k : List (Action Scope)) → copies (l ++ k) ≡ copies l ++ copies k

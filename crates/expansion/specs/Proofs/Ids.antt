@@ -5,7 +5,8 @@ use mathlib.Core.List.{List, [], _∷_, _++_, map, List·Memᴰ, List·Memᴰ·h
 use mathlib.Core.Option.{Option, none, some}
 use Prim.Native.Nat.{ℕ, _<_}
 use Rattle.ast.specs.Ast.{InterfaceDecl, Route, Statement, Association, ProtoInstance, Node, ExternProtoDecl, Document}
-use Rattle.expansion.specs.Ids.{bindingIds, flat}
+use Rattle.ast.specs.Lists.{flat}
+use Rattle.expansion.specs.Ids.{bindingIds}
 use Rattle.expansion.specs.Outputs.{endIds, routeIds, idsOfStatement, idsOfInstance, idsOfInterface, idsOfNode, idsOf}
 use Rattle.expansion.specs.Proofs.Output.{IdsBelow, EndBelow, RouteBelow, InstanceBelow, TopStatement, NodeStatement, OutputNode}
 

@@ -8,6 +8,7 @@ use Prim.Native.Nat.{ℕ, zero, suc, _+_}
 use native.Mathlib.Omega.{arith}
 use lib.ListN.{length, getElem?, length-append}
 use lib.Dec.{T, ltb, eqb, eqb→eq, eqb-refl}
+use Rattle.ast.proofs.Basics.{map-append}
 use Rattle.ast.specs.Ast.{NodeOrigin, FieldData, FieldValue, FieldBinding, Field, InterfaceDecl, Route, Statement, Association, Node, ProtoDecl, ExternProtoDecl}
 use Rattle.ast.specs.Choice.{choose, andThen}
 use Rattle.ast.specs.Lookups.{externProtoAt}
@@ -17,7 +18,8 @@ use Rattle.steps.specs.Laws.{append-run}
 use Rattle.steps.specs.Steps
 use Rattle.expansion.specs.Input.{Input, docs, protoOf, lastField}
 use Rattle.expansion.specs.Scopes.{Scope, isBody}
-use Rattle.expansion.specs.Ids.{dataIds, optionIds, bindingIds, statementIds, flat}
+use Rattle.ast.specs.Lists.{flat}
+use Rattle.expansion.specs.Ids.{dataIds, optionIds, bindingIds, statementIds}
 use Rattle.expansion.specs.State.{Entry, World, State, Result, Comp, bindR, _>>=_, _>>_, ret, mapM, foldM, lookup, start}
 use Rattle.expansion.specs.Charges.{chargeIf, charge, chargeEach, paid}
 use Rattle.expansion.specs.Values.{Values, valueOf, Env, src, Copier, copyData, value, clone}
@@ -174,11 +176,6 @@ lookup-none (e ∷ m) s i q h = at (lookup-none m s i) (List·Memᴰ·cases-cons
     at : (lookup m s i ≡ none → List·Memᴰ (s, i) (map key m) → ⊥) → (_≡_ {A = ℕ × ℕ} (s, i) (key e)) ⊎ List·Memᴰ (s, i) (map key m) → ⊥
     at k (inl x) = first (eqb (e .scope) s) (eqb (e .id) i) (rw (ap (λ (y : ℕ × ℕ). y .0) x) (eqb-refl (e .scope))) (rw (ap (λ (y : ℕ × ℕ). y .1) x) (eqb-refl (e .id))) q
     at k (inr x) = k (rest (eqb (e .scope) s && eqb (e .id) i) q) x
-
--- A map over two lists behind one another.
-map-append : {A B : Type 0} (g : A → B) (l k : List A) → map g (l ++ k) ≡ map g l ++ map g k
-map-append g [] k = refl
-map-append g (x ∷ l) k = ap (λ (r : List _). g x ∷ r) (map-append g l k)
 
 -- ---- runs: each step is a run of what it copies and opens
 

@@ -47,46 +47,46 @@ enum-told-14 : tie.Need-enum-told-14
 enum-told-14 c = search needs
 
 returns : tie.Need-returns
-returns c = cc
+returns c = rw (c .enum-told .given .1)
 
 returns-2 : tie.Need-returns-2
-returns-2 c = cc
+returns-2 c = rw (c .enum-told2 .given .1)
 
 returns-3 : tie.Need-returns-3
-returns-3 c = cc
+returns-3 c = rw (c .enum-told3 .given .1)
 
 returns-4 : tie.Need-returns-4
-returns-4 c = cc
+returns-4 c = rw (c .enum-told4 .given .1)
 
 returns-5 : tie.Need-returns-5
-returns-5 c = cc
+returns-5 c = rw (c .enum-told5 .given .1)
 
 returns-6 : tie.Need-returns-6
-returns-6 c = cc
+returns-6 c = rw (c .enum-told6 .given .1)
 
 returns-7 : tie.Need-returns-7
-returns-7 c = cc
+returns-7 c = rw (c .enum-told7 .given .1)
 
 returns-8 : tie.Need-returns-8
-returns-8 c = cc
+returns-8 c = rw (c .enum-told8 .given .1)
 
 returns-9 : tie.Need-returns-9
-returns-9 c = cc
+returns-9 c = rw (c .enum-told9 .given .1)
 
 returns-10 : tie.Need-returns-10
-returns-10 c = cc
+returns-10 c = rw (c .enum-told10 .given .1)
 
 returns-11 : tie.Need-returns-11
 returns-11 c = search needs
 
 returns-12 : tie.Need-returns-12
-returns-12 c = cc
+returns-12 c = rw (c .enum-told12 .given .1)
 
 returns-13 : tie.Need-returns-13
-returns-13 c = cc
+returns-13 c = rw (c .enum-told13 .given .1)
 
 returns-14 : tie.Need-returns-14
-returns-14 c = cc
+returns-14 c = rw (c .enum-told14 .given .1)
 
 pub passes-spec : {M : Type 1} → statement M
 passes-spec =
