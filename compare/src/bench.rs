@@ -349,15 +349,42 @@ fn goals(all: &[Measured]) {
 /// Calls the library and nothing else for so many seconds on each scene whose name has this part, for a profiler.
 pub fn spin(part: &str, seconds: u64) -> u64 {
     for bench in benches().iter().filter(|b| LINKED && b.name.contains(part)) {
-        let (call, _) = just_enough(&(bench.full)());
-        let mut slices = Slices::new(call.lent);
-        let mut times = Times::default();
-        while times.sum() < seconds as f64 {
-            times.push(slices.time(&call));
-        }
+        let times = calls(&just_enough(&(bench.full)()).0, |times| times.sum() < seconds as f64);
         eprintln!("{}: {}", bench.name, show(times.median()));
     }
     0
+}
+
+/// Scenes of the same shapes that fit the caches.
+fn small_scenes() -> [(&'static str, Scene); 6] {
+    [
+        ("plain nodes flat", large::flat(1_000)),
+        ("instances of a four-node body", large::instances(250)),
+        ("chains 512 deep", large::chains(2, 512)),
+        ("nested prototypes", large::nested(4, 256)),
+        ("doubling", large::doubling(10)),
+        ("nested roots", large::nested_roots(4, 200, 1)),
+    ]
+}
+
+/// So many calls of the library on each small scene whose name has this part: time for each node.
+pub fn small(part: &str, count: u64) -> u64 {
+    for (name, scene) in small_scenes().iter().filter(|s| LINKED && s.0.contains(part)) {
+        let (call, e) = just_enough(scene);
+        let times = calls(&call, |times| (times.0.len() as u64) < count);
+        println!("{name}: {} nodes, {:.0} ns a node", e.nodes, times.median() * 1e9 / e.nodes as f64);
+    }
+    0
+}
+
+/// Calls with slices lent once, while a condition on their times holds.
+fn calls(call: &Call, more: impl Fn(&Times) -> bool) -> Times {
+    let mut slices = Slices::new(call.lent);
+    let mut times = Times::default();
+    while more(&times) {
+        times.push(slices.time(call));
+    }
+    times
 }
 
 /// The scenes whose name has this part. The number of wrong answers.

@@ -50,7 +50,8 @@ compare frames answer CASES ANSWERS [MUTANT]
 compare replay FOLDER                      write the program `replay`'s stdin and stdout, each case checked
 compare library COUNT SEED                 the linked static library (feature `library`)
 compare bench [PART]                       times of the original, the linked library and copying; scenes whose name has PART
-compare bench spin PART SECONDS            the library's calls alone, for a profiler";
+compare bench spin PART SECONDS            the library's calls alone, for a profiler
+compare bench small PART COUNT             the same on scenes that fit the caches, so many calls: time a node";
 
 const FLAGS: [&str; 2] = ["--small", "--caps"];
 
@@ -107,6 +108,7 @@ fn command() -> Result<u64, String> {
         }
         ["bench"] => Ok(bench::run("")),
         ["bench", "spin", part, seconds] => Ok(bench::spin(part, number(seconds)?)),
+        ["bench", "small", part, count] => Ok(bench::small(part, number(count)?)),
         ["bench", part] => Ok(bench::run(part)),
         #[cfg(feature = "library")]
         ["library", count, seed] => Ok(library::run(number(count)?, number(seed)?)),
