@@ -6,8 +6,6 @@ use mathlib.Core.Option.{none, some}
 use Prim.Native.Nat.{ℕ, _+_, _-_, _≤_, _<_}
 use native.Mathlib.Omega.{arith}
 use lib.ListN.{length}
-use lib.Dec.{ltb}
-use borrow.Author.Tests.{lt-ltb}
 use Rattle.ast.specs.Choice.{choose}
 use Rattle.expansion.specs.Input.{Input}
 use Rattle.expansion.specs.State.{ok, Comp}
@@ -46,7 +44,7 @@ use Rattle.refine.proofs.Keeping.{not-of-body}
 
 -- what `openScope` does after its charge
 abbrev opening : Input → Scope → Comp ℕ
-opening I e st = pushScope (ltb (length (st .world .scopes)) (I .limits .maxRows)) e st
+opening I e = pushScope e
 
 -- there are no more scopes than charges
 pub few-scopes : {L : Limits} {w : List ℕ} {t : Counts} → Sound L w t → t .scopes ≤ t .charges
@@ -101,8 +99,7 @@ module _ {L : Limits} {w : List ℕ} {t : Counts} (so : Sound L w t) (kind docum
   unfolding pushScope
   pushed S =
       let n : length (scopesOf w c) ≡ t .scopes = scopes-length w c ∙ sym (so .scopes) in
-      rw (lt-ltb (length (scopesOf w c)) (L .rows) (omega (arith, few-scopes so)), n)
-      (ap (ok (t .scopes)) (state-scope (S .root) (S .library) calm (so .fair) put (p .holds) refl))
+      rw n (ap (ok (t .scopes)) (state-scope (S .root) (S .library) calm (so .fair) put (p .holds) refl))
 
   pub open-done : Opened L w t kind document proto index opener w′ (Done t1 (t .scopes) (t .charges))
   unfolding openScope
