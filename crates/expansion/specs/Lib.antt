@@ -16,5 +16,6 @@ pub mod Readings
 pub mod Reached
 pub mod Outputs
 pub mod Expanded
+pub mod Limits
 pub mod Bigger
 pub mod Proofs

@@ -8,6 +8,8 @@ pub mod DefaultCount
 pub mod Output
 pub mod Ids
 pub mod Rows
+pub mod Types
+pub mod Needs
 pub mod Demand
 pub mod Runs
 pub mod Room

@@ -25,11 +25,20 @@ use Rattle.expansion.specs.Instances.{pushScope, openScope, takeDefault,
 use Rattle.expansion.specs.Copy.{copyNode, mappedOr, copy}
 use Rattle.expansion.specs.Expand.{statement, rootEnv, statements}
 use Rattle.expansion.specs.Outputs.{sumOf, fieldRows, interfaceRows, instanceRows, contentRows, nodeRows, externRows}
-use Rattle.expansion.specs.Expanded.{Refusal, four, five, six, seven, eight, nine, ten}
 use Rattle.expansion.specs.Proofs.Outcome.{Outcome, refused, accepted, bindOut, mapOut}
 
+-- the numbers of the steps' refusals; where there is no place, 0 and 0
+pub data Numbered : ℕ → ℕ → ℕ → Type 0 where
+  four : (d i : ℕ) → Numbered 4 d i
+  five : (d i : ℕ) → Numbered 5 d i
+  six : (d i : ℕ) → Numbered 6 d i
+  seven : (d i : ℕ) → Numbered 7 d i
+  eight : Numbered 8 0 0
+  nine : Numbered 9 0 0
+  ten : Numbered 10 0 0
+
 abbrev Out : {A : Type 0} → (A → State → Type 0) → Result A → Type 0
-Out P m = Outcome Refusal P m
+Out P m = Outcome Numbered P m
 
 -- ---- sums
 
@@ -521,7 +530,7 @@ module _ (I : Input) where
   start-books = record { below = λ x q. absurd (List·Memᴰ·not-nil q); capped = omega arith; covers = omega arith }
 
   -- The charges of an accepted expansion pay for its nodes, externs, scopes, statements, and two rows more; a refusal is one of 4 to 10.
-  pub statements-cov : Outcome Refusal (Covered I) (statements I start)
+  pub statements-cov : Outcome Numbered (Covered I) (statements I start)
   unfolding statements
   statements-cov =
       bindOut (charge-cov 0 nobody 0 start (omega arith) (λ s r. refl) start-books) (λ a s1 h1. bindOut (charge-cov 0 nobody 1 s1 (omega arith) (λ s r. refl) (h1 .books)) (λ b s2 h2. bindOut (openScope-books nobody 2 Scope.Root s2 (λ s r. refl) (h2 .books))
