@@ -1,5 +1,5 @@
 #!/usr/bin/env python3
-"""Expand, reckoned in plain Python from the text of document 01: what a scene has to give.
+"""Expand, reckoned in plain Python from the text of documents 01 and 02: what a scene has to give.
 
 It shares nothing with the Rattle code and its definitions; the check of a sheet is the one of vectors/reading.py.
 
@@ -392,7 +392,10 @@ class Expansion:
         if equal and equal[-1].target is None:
             return self.copy_value(scope, equal[-1].value, depth)
         if equal:
-            return self.bound_value(scope, equal[-1].target)
+            value = self.bound_value(scope, equal[-1].target)
+            if value is not None:
+                return value
+        # No field of that name, or one bound by IS to something without a value.
         if interface.value is None:
             return None
         default = self.open(2, document, number, index, scope)

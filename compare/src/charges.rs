@@ -33,12 +33,12 @@ pub fn by_parts(call: &Call, answer: &Expanded) -> Result<usize, usize> {
             let node = &docs[answer.scopes[opener][1] as usize].nodes[*instance as usize];
             for interface in &proto.interfaces {
                 let given = node.fields.iter().rfind(|f| f.name == interface.name).map(|f| &f.binding);
-                let ids = match given {
+                let given = match given {
                     Some(Binding::Value(v)) => Some(v.ids().len()),
                     Some(Binding::Is(target)) => lengths[opener].get(target).copied(),
-                    None => interface.value.as_ref().map(|v| v.ids().len()),
+                    None => None,
                 };
-                if let Some(ids) = ids {
+                if let Some(ids) = given.or(interface.value.as_ref().map(|v| v.ids().len())) {
                     total += ids + 1;
                     stored.insert(interface.name, ids);
                 }

@@ -1,5 +1,6 @@
 //! Demand 3, checked on an accepted answer. What is reached is searched from the sheets and the scope list; the ledger and
-//! the node count are only held against it.
+//! the node count are only held against it. Which defaults are taken depends on the names that have a value in a scope, and
+//! so on the instance that opened it, which is told beside the scope list.
 
 use std::collections::{HashMap, HashSet};
 
@@ -16,6 +17,10 @@ pub struct Seen {
     pub loops: bool,
     /// Instances reached, over all scopes.
     pub instances: usize,
+    /// Interfaces of these whose default is taken.
+    pub defaults: usize,
+    /// Some default is taken because of an IS to nothing.
+    pub by_is: bool,
 }
 
 struct Sheets<'a> {
@@ -63,8 +68,7 @@ impl<'a> Sheets<'a> {
             }
             Some((d, p)) => {
                 for interface in &self.proto(d, p)?.interfaces {
-                    let last = node.fields.iter().rfind(|f| f.name == interface.name);
-                    if let Some(Field { binding: Binding::Value(v), .. }) = last {
+                    if let Some(Binding::Value(v)) = given(node, interface) {
                         ids.extend_from_slice(v.ids());
                     }
                 }
@@ -83,6 +87,20 @@ impl<'a> Sheets<'a> {
             }
         }
         Ok(set)
+    }
+
+    /// The names that have a value in a body scope: its instance's field gives it, or the PROTO has a default.
+    fn names(&self, opener: &Opened, entry: [u32; 5], instance: u32) -> Result<HashSet<u32>, String> {
+        let [_, document, proto, ..] = entry.map(|n| n as usize);
+        let node = self.node(opener.document, instance)?;
+        if self.prototype(opener.document, node) != Some((document, proto as u32))
+            || !opener.reached.contains(&instance)
+        {
+            return Err(format!("the instance {instance} of a body scope"));
+        }
+        let interfaces = self.proto(document, proto as u32)?.interfaces.iter();
+        let valued = interfaces.filter(|i| gives(given(node, i), &opener.names) || i.value.is_some());
+        Ok(valued.map(|i| i.name).collect())
     }
 
     /// The starts of a scope, from its entry.
@@ -104,6 +122,27 @@ impl<'a> Sheets<'a> {
     }
 }
 
+/// The last field that an instance has for an interface.
+fn given<'a>(node: &'a Node, interface: &Interface) -> Option<&'a Binding> {
+    node.fields.iter().rfind(|f| f.name == interface.name).map(|f| &f.binding)
+}
+
+/// Whether a field gives a value in a scope where these names have one.
+fn gives(field: Option<&Binding>, names: &HashSet<u32>) -> bool {
+    match field {
+        Some(Binding::Value(_)) => true,
+        Some(Binding::Is(target)) => names.contains(target),
+        None => false,
+    }
+}
+
+/// A scope as the search found it: its document, what is reached in it, and the names that have a value in it.
+struct Opened {
+    document: usize,
+    reached: HashSet<u32>,
+    names: HashSet<u32>,
+}
+
 /// Every sentence of demand 3 on one accepted answer.
 pub fn check(call: &Call, answer: &Expanded) -> Result<Seen, String> {
     let root = grammar::root(&call.root).map_err(|_| "the root doesn't fit")?;
@@ -119,7 +158,7 @@ pub fn check(call: &Call, answer: &Expanded) -> Result<Seen, String> {
             return Err("an instance is left, by its ledger source".into());
         }
     }
-    let (seen, plain) = scopes(&answer.scopes, &sheets)?;
+    let (seen, plain) = scopes(answer, &sheets)?;
     ledger(answer, plain)?;
     Ok(seen)
 }
@@ -127,46 +166,69 @@ pub fn check(call: &Call, answer: &Expanded) -> Result<Seen, String> {
 /// A plain node reached: scope, document, source id.
 type Plain = HashSet<[u32; 3]>;
 
-/// The search in every scope: the plain nodes reached, and the count of body scopes where nothing reaches itself.
-fn scopes(entries: &[[u32; 5]], sheets: &Sheets) -> Result<(Seen, Plain), String> {
-    if entries.first() != Some(&[0, 0, 0, 0, 0]) {
-        return Err("scope 0 is the root file".into());
+/// Scope entries with how often each stands in the list.
+type Entries = HashMap<[u32; 5], usize>;
+
+/// The search in every scope: the plain nodes reached, and the scopes that the instances reached open.
+fn scopes(answer: &Expanded, sheets: &Sheets) -> Result<(Seen, Plain), String> {
+    let entries = &answer.scopes;
+    if entries.first() != Some(&[0, 0, 0, 0, 0]) || entries.len() != answer.instances.len() {
+        return Err("scope 0 is the root file, and each has its instance".into());
     }
     let mut plain = Plain::new();
     let mut seen = Seen::default();
-    // Instances reached in a scope, by PROTO: scope, document, PROTO id.
-    let mut wanted: HashMap<[u32; 3], usize> = HashMap::new();
-    for (number, entry) in entries.iter().enumerate() {
+    // What the instances reached ask for: a body each, and a default scope for each default that is taken.
+    let mut wanted = Entries::new();
+    let mut list: Vec<Opened> = Vec::new();
+    for (number, (entry, instance)) in entries.iter().zip(&answer.instances).enumerate() {
         if (number > 0) != (entry[0] != 0) || entry[4] as usize >= number.max(1) || (entry[0] != 2 && entry[3] != 0) {
             return Err(format!("scope entry {number}"));
         }
         let document = entry[1] as usize;
-        for id in sheets.reached(document, sheets.starts(*entry)?)? {
-            match sheets.prototype(document, sheets.node(document, id)?) {
-                None => {
-                    plain.insert([number as u32, entry[1], id]);
-                }
-                Some((d, p)) => {
-                    seen.instances += 1;
-                    *wanted.entry([number as u32, d as u32, p]).or_default() += 1;
-                    seen.loops |= sheets.reached(document, sheets.next(document, id)?)?.contains(&id);
+        let names =
+            if entry[0] == 1 { sheets.names(&list[entry[4] as usize], *entry, *instance)? } else { HashSet::new() };
+        let scope = Opened { document, reached: sheets.reached(document, sheets.starts(*entry)?)?, names };
+        for id in &scope.reached {
+            let node = sheets.node(document, *id)?;
+            let Some((d, p)) = sheets.prototype(document, node) else {
+                plain.insert([number as u32, entry[1], *id]);
+                continue;
+            };
+            seen.instances += 1;
+            seen.loops |= sheets.reached(document, sheets.next(document, *id)?)?.contains(id);
+            *wanted.entry([1, d as u32, p, 0, number as u32]).or_default() += 1;
+            for (index, interface) in sheets.proto(d, p)?.interfaces.iter().enumerate() {
+                let field = given(node, interface);
+                if interface.value.is_some() && !gives(field, &scope.names) {
+                    seen.defaults += 1;
+                    seen.by_is |= field.is_some();
+                    *wanted.entry([2, d as u32, p, index as u32, number as u32]).or_default() += 1;
                 }
             }
         }
+        list.push(scope);
     }
-    let mut opened: HashMap<[u32; 3], usize> = HashMap::new();
-    for entry in entries.iter().filter(|e| e[0] == 1) {
-        *opened.entry([entry[4], entry[1], entry[2]]).or_default() += 1;
+    opens(entries, &wanted, &seen)?;
+    Ok((seen, plain))
+}
+
+/// Only a loop doubles a pod, or a default: the scopes opened are those that the instances reached ask for.
+fn opens(entries: &[[u32; 5]], wanted: &Entries, seen: &Seen) -> Result<(), String> {
+    let mut opened = Entries::new();
+    for entry in &entries[1..] {
+        *opened.entry(*entry).or_default() += 1;
     }
-    let bodies: usize = opened.values().sum();
-    if !seen.loops && bodies != seen.instances {
-        return Err(format!("{bodies} body scopes, {} instances reached", seen.instances));
+    for (kind, what, asked) in [(1, "body scopes", seen.instances), (2, "default scopes", seen.defaults)] {
+        let count = entries.iter().filter(|e| e[0] == kind).count();
+        if !seen.loops && count != asked {
+            return Err(format!("{count} {what}, {asked} asked for by the instances reached"));
+        }
     }
     let each = wanted.iter().all(|(k, n)| opened.get(k).is_some_and(|m| m >= n));
     if opened.len() != wanted.len() || !each {
-        return Err("the body scopes do not belong to the instances reached".into());
+        return Err("the scopes do not belong to the instances reached".into());
     }
-    Ok((seen, plain))
+    Ok(())
 }
 
 /// The node count is the sum of the plain nodes reached, and the ledger has each once.

@@ -2,14 +2,17 @@
 
 use std::collections::{HashMap, HashSet};
 
-use crate::call::{Answer, Call, Expanded};
+use crate::call::{Call, Expanded};
+use crate::mutants::Mutant;
 use crate::picks::{picks, MOST_BASES};
+use crate::reckon::{self, Reckoned};
 use crate::rows::*;
+use crate::scenes::MOST_CHARGES;
 use crate::tree::*;
 use crate::{closure, grammar};
 
 /// What must be met at least once, by name.
-const SHAPES: [&str; 35] = [
+const SHAPES: [&str; 40] = [
     "a node mentioned twice",
     "a loop through an instance's fields",
     "a default with nodes",
@@ -18,8 +21,12 @@ const SHAPES: [&str; 35] = [
     "  with roots of its own",
     "  with routes of its own",
     "an IS chain",
-    "an IS to nothing",
-    "  where a default is declared",
+    "an IS to nothing, no default declared",
+    "an IS to nothing takes a default in a body",
+    "  at the top",
+    "  in a default scope",
+    "  of an interface name declared twice, each entry's own",
+    "  and not in another scope, where the target has a value",
     "an IS outside bodies, kept",
     "a field name given twice",
     "an interface name declared twice",
@@ -45,6 +52,7 @@ const SHAPES: [&str; 35] = [
     "3 in the root",
     "3 in the library",
     "3 where a sheet ends early",
+    "9 with every D, by a default that an IS to nothing takes",
 ];
 
 /// Counts of calls by shape.
@@ -59,15 +67,18 @@ impl Default for Coverage {
 }
 
 impl Coverage {
-    /// One call and its answer.
-    pub fn note(&mut self, call: &Call, answer: &Answer) {
+    /// One call and what is reckoned of it.
+    pub fn note(&mut self, call: &Call, reckoned: &Reckoned) {
         let mut seen = HashSet::new();
-        match answer {
+        match &reckoned.answer {
             Ok(expanded) => {
                 let (Ok(root), Ok(files)) = (grammar::root(&call.root), grammar::library(&call.library)) else {
                     return;
                 };
                 Sheets::new(&root, &files).accepted(call, expanded, &mut seen);
+                if !reckoned.bound.unset.is_disjoint(&reckoned.bound.valued) {
+                    seen.insert("  and not in another scope, where the target has a value");
+                }
             }
             Err(refusal) => {
                 let [first, second] = refusal.places;
@@ -82,6 +93,9 @@ impl Coverage {
                     4..=7 => {
                         let name = format!("{} in {}", refusal.number, if first == 0 { "the root" } else { "a file" });
                         seen.extend(SHAPES.iter().find(|shape| **shape == name));
+                    }
+                    9 if reckoned.bound.takes_default() && endless_by_is(call) => {
+                        seen.insert("9 with every D, by a default that an IS to nothing takes");
                     }
                     _ => {}
                 }
@@ -101,6 +115,13 @@ impl Coverage {
         println!("{} shapes, {missing} not met", SHAPES.len());
         missing
     }
+}
+
+/// Whether the cap of D is passed too, and the call is accepted where an IS to nothing takes no default.
+fn endless_by_is(call: &Call) -> bool {
+    let deep = Call::new(call.root.clone(), call.library.clone(), call.max_nodes, 512, MOST_CHARGES);
+    let nine = matches!(reckon::expand(&deep, None), Err(r) if r.number == 9);
+    nine && reckon::expand(call, Some(Mutant::IsToNothingTakesNone)).is_ok()
 }
 
 struct Sheets<'a> {
@@ -186,7 +207,7 @@ impl<'a> Sheets<'a> {
                     seen.insert(if empty { "a default without nodes" } else { "a default with nodes" });
                 } else {
                     let node = &self.docs[answer.scopes[opener][1] as usize].nodes[*instance as usize];
-                    names = self.values(node, declared, &named[opener], answer.scopes[opener][0] == 1, seen);
+                    names = self.values(node, declared, &named[opener], answer.scopes[opener][0], seen);
                     self.body(document, declared, seen);
                 }
             }
@@ -194,9 +215,10 @@ impl<'a> Sheets<'a> {
         }
     }
 
-    /// The names that an instance has a value for.
-    fn values(&self, node: &Node, proto: &Proto, outer: &HashSet<u32>, in_body: bool, seen: &mut Seen) -> HashSet<u32> {
+    /// The names that an instance has a value for, in a scope of this kind where the outer names have one.
+    fn values(&self, node: &Node, proto: &Proto, outer: &HashSet<u32>, kind: u32, seen: &mut Seen) -> HashSet<u32> {
         let mut names = HashSet::new();
+        let has_default = |i: &&Interface| i.value.is_some();
         for (at, interface) in proto.interfaces.iter().enumerate() {
             if proto.interfaces[..at].iter().any(|i| i.name == interface.name) {
                 seen.insert("an interface name declared twice");
@@ -208,17 +230,22 @@ impl<'a> Sheets<'a> {
             }
             let has = match last.map(|f| &f.binding) {
                 Some(Binding::Value(_)) => true,
-                Some(Binding::Is(target)) => {
-                    let has = outer.contains(target);
-                    if has {
-                        seen.insert("an IS chain");
-                    } else if in_body {
-                        seen.insert("an IS to nothing");
-                        if interface.value.is_some() {
-                            seen.insert("  where a default is declared");
-                        }
+                Some(Binding::Is(target)) if outer.contains(target) => {
+                    seen.insert("an IS chain");
+                    true
+                }
+                Some(Binding::Is(_)) => {
+                    let equal = proto.interfaces.iter().filter(|i| i.name == interface.name);
+                    if equal.filter(has_default).count() > 1 {
+                        seen.insert("  of an interface name declared twice, each entry's own");
                     }
-                    has
+                    seen.insert(match (interface.value.is_some(), kind) {
+                        (false, _) => "an IS to nothing, no default declared",
+                        (true, 0) => "  at the top",
+                        (true, 1) => "an IS to nothing takes a default in a body",
+                        (true, _) => "  in a default scope",
+                    });
+                    interface.value.is_some()
                 }
                 None => interface.value.is_some(),
             };

@@ -1,4 +1,4 @@
-//! The ten flights of document 01, its example and the examples of its readings, by their words.
+//! The ten flights of document 01, its example, the examples of its readings and of wish 6, by their words.
 
 use original::ast::FieldType;
 
@@ -67,6 +67,45 @@ fn pod(start: u32) -> Vec<u32> {
     words
 }
 
+/// Wish 6: a counter whose n, 3 by default, is bound by IS to an eventIn of the outer prototype. The counter's second
+/// interface, with a default too, is given.
+fn counter() -> Vec<u32> {
+    sheet(&[
+        &[1, 5],
+        &[2, 9, NONE, 1, 1],
+        &[2, 8, NONE, 1, 0],
+        &[3, 1, 1, 3],
+        &[3, 2, 0, 0, 0, 4, 1, 6],
+        PLAIN,
+        &[3, 1, 1, 1],
+        &[7, 8],
+        &[4, 3, 4, 1, NONE, 4, 1, 3],
+        &[4, 3, 4, 2, NONE, 4, 1, 4],
+        &[5, 0, 2],
+        &[7, 9],
+        &[4, 0, 4, 3, NONE],
+        &[5, 0, 1],
+        &[11],
+        &[5, 0, 0],
+    ])
+}
+
+/// Wish 6: a PROTO whose default holds an instance of itself, bound by IS to nothing. Before, the binding ended it.
+fn default_of_itself() -> Vec<u32> {
+    sheet(&[
+        &[1, 5],
+        INSTANCE,
+        &[3, 1, 1, 1],
+        PLAIN,
+        &[7, 8],
+        &[4, 2, 14, 1, NONE, 14, 2, 1],
+        &[9, 0],
+        &[5, 0, 1],
+        &[11],
+        &[5, 0, 0],
+    ])
+}
+
 fn flights() -> Vec<Flight> {
     let free = [400, 64, MOST_CHARGES];
     let flight = |what, rows, limits, look, expected| Flight { what, rows, limits, look, expected };
@@ -83,6 +122,10 @@ fn flights() -> Vec<Flight> {
     let rootless = sheet(&[&[1, 5], INSTANCE, &[7, 8], &[11], &[5, 0, 0]]);
     let mut example = vec![1, 1, 6];
     example.extend(&one);
+    // Charges: 3 at the start, 3 scopes, 2 stored values, 2 of a plain copy, an association, a field, 2 map entries, 2 records
+    // and a statement.
+    let mut kept_start = vec![1, 4, 17];
+    kept_start.extend(sheet(&[&[1, 5], PLAIN, &[3, 1, 0, 0, 0, 4, 1, 3], &[13, 9], &[11], &[5, 0, 0]]));
     vec![
         flight("no statements", sheet(&[&[1, 5], &[11]]), free, counts, vec![0, 1, 0]),
         flight("one plain node, N = 0", one.clone(), [0, 64, MOST_CHARGES], refusal, vec![8, 0, 0]),
@@ -106,6 +149,9 @@ fn flights() -> Vec<Flight> {
         flight("7 after the body scope's charge, K = 3", rootless.clone(), [0, 1, 3], refusal, vec![10, 0, 0]),
         flight("7 after the body scope's charge, K = 4", rootless, [0, 1, 4], refusal, vec![7, 0, 0]),
         flight("an empty root", vec![], free, refusal, vec![3, 0, 0]),
+        flight("an event-driven counter keeps its start", counter(), free, whole, kept_start),
+        flight("a default that holds its own PROTO", default_of_itself(), free, refusal, vec![9, 0, 0]),
+        flight("the same at the cap of D", default_of_itself(), [400, 512, MOST_CHARGES], refusal, vec![9, 0, 0]),
     ]
 }
 
@@ -127,14 +173,15 @@ pub fn run() -> u64 {
     for f in &flights {
         let [nodes, depth, rows] = f.limits;
         let call = Call::new(f.rows.clone(), Vec::new(), nodes, depth, rows);
-        let answer = reckon::expand(&call, None);
-        let got = (f.look)(&answer);
-        let original = versus::against_original(&call, &answer).unwrap_or(Ok(()));
+        let reckoned = reckon::reckon(&call, None);
+        let got = (f.look)(&reckoned.answer);
+        let original = versus::against_original(&call, &reckoned).unwrap_or(Ok(()));
         if got != f.expected || original.is_err() {
             wrong += 1;
             println!("{}: expected {:?}, got {got:?}; {original:?}", f.what, f.expected);
         }
     }
     println!("{} flights, {wrong} wrong", flights.len());
-    wrong + spoil::run(&Call::new(pod(1), Vec::new(), 400, 64, MOST_CHARGES))
+    let call = |rows| Call::new(rows, Vec::new(), 400, 64, MOST_CHARGES);
+    wrong + spoil::run(&call(pod(1)), spoil::POD) + spoil::run(&call(counter()), spoil::COUNTER)
 }

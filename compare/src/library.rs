@@ -3,12 +3,13 @@
 
 use std::fmt;
 
-use crate::call::{Answer, Call};
+use crate::call::Call;
 use crate::coverage::Coverage;
 use crate::held::{Slices, ANSWER};
+use crate::reckon::{self, Reckoned};
 use crate::scenes::{families, large, lent, MOST_CHARGES};
 use crate::shrink::shrink;
-use crate::{flights, reckon, sweeps, versus};
+use crate::{flights, sweeps, versus};
 
 /// K of the families' calls; their scenes take less.
 const FAMILY_ROWS: u32 = 400;
@@ -23,6 +24,10 @@ struct Counts {
     calls: u64,
     refused: [u64; 12],
     original: u64,
+    /// A default is taken because of an IS to nothing: not with the original.
+    by_is: u64,
+    /// Of these, held against the original without the fields so bound.
+    absent: u64,
     differences: u64,
 }
 
@@ -31,6 +36,8 @@ impl Counts {
         let mut counts = *self;
         counts.calls -= before.calls;
         counts.original -= before.original;
+        counts.by_is -= before.by_is;
+        counts.absent -= before.absent;
         counts.differences -= before.differences;
         counts.refused.iter_mut().zip(before.refused).for_each(|(now, then)| *now -= then);
         counts
@@ -39,6 +46,8 @@ impl Counts {
     fn add(&mut self, more: &Counts) {
         self.calls += more.calls;
         self.original += more.original;
+        self.by_is += more.by_is;
+        self.absent += more.absent;
         self.differences += more.differences;
         self.refused.iter_mut().zip(more.refused).for_each(|(now, then)| *now += then);
     }
@@ -46,7 +55,9 @@ impl Counts {
 
 impl fmt::Display for Counts {
     fn fmt(&self, f: &mut fmt::Formatter<'_>) -> fmt::Result {
-        write!(f, "{} calls, {} of them with the original, accepted {}", self.calls, self.original, self.refused[0])?;
+        write!(f, "{} calls, {} of them with the original", self.calls, self.original)?;
+        write!(f, ", {} with a default because of an IS to nothing", self.by_is)?;
+        write!(f, " ({} of them with the original without it), accepted {}", self.absent, self.refused[0])?;
         let mut before = ", refused";
         for (number, count) in self.refused.iter().enumerate().skip(1).filter(|(_, c)| **c > 0) {
             write!(f, "{before} {number}: {count}")?;
@@ -65,22 +76,35 @@ struct Run {
     smallest: Option<(Call, String)>,
 }
 
-/// How the library parts from the reckoning or from the original on one call, and whether the original was asked.
-fn differs(slices: &mut Slices, call: &Call, expected: &Answer) -> (Option<String>, bool) {
-    let words = slices.differs(call, expected, ANSWER);
+/// How the library parts from the reckoning or from the original on one call, and whether the original was asked. Where a
+/// default is taken because of an IS, it is asked without the fields so bound.
+fn differs(slices: &mut Slices, call: &Call, expected: &Reckoned) -> (Option<String>, bool) {
+    let words = slices.differs(call, &expected.answer, ANSWER);
     // Where every word is the reckoning's, the original may be held against either.
-    let original = versus::against_original(call, expected);
+    let original = match versus::has_original(expected) {
+        true => versus::against_original(call, expected),
+        false if versus::stands_before(&expected.answer) => None,
+        false => versus::as_if_absent(call, expected),
+    };
     let asked = original.is_some();
     (words.or_else(|| original.and_then(|o| o.err()).map(|o| format!("the original: {o}"))), asked)
 }
 
+/// The refusal's number, 0 where the call is accepted.
+fn number(expected: &Reckoned) -> usize {
+    expected.answer.as_ref().map_or_else(|r| r.number as usize, |_| 0)
+}
+
 impl Run {
     /// One call with its answer.
-    fn note(&mut self, call: &Call, expected: &Answer) {
+    fn note(&mut self, call: &Call, expected: &Reckoned) {
         let (difference, asked) = differs(&mut self.slices, call, expected);
+        let by_is = expected.bound.takes_default() && !versus::stands_before(&expected.answer);
         self.counts.calls += 1;
-        self.counts.original += asked as u64;
-        self.counts.refused[expected.as_ref().map_or_else(|r| r.number as usize, |_| 0)] += 1;
+        self.counts.original += (asked && !by_is) as u64;
+        self.counts.by_is += by_is as u64;
+        self.counts.absent += (asked && by_is) as u64;
+        self.counts.refused[number(expected)] += 1;
         if let Some(what) = difference {
             self.found(call, what);
         }
@@ -97,7 +121,7 @@ impl Run {
     fn stage(&mut self, name: &str, calls: impl Iterator<Item = Call>, covers: bool) {
         let before = self.counts;
         for call in calls {
-            let expected = reckon::expand(&call, None);
+            let expected = reckon::reckon(&call, None);
             self.note(&call, &expected);
             if covers {
                 self.coverage.note(&call, &expected);
@@ -110,12 +134,11 @@ impl Run {
     fn answers(&mut self, calls: impl Iterator<Item = Call>) {
         let before = self.counts;
         for call in calls {
-            let expected = reckon::expand(&call, None);
+            let expected = reckon::reckon(&call, None);
             for words in (0..ANSWER).chain([ANSWER + 1, ANSWER + 9]) {
                 self.counts.calls += 1;
-                self.counts.refused
-                    [if words < ANSWER { 1 } else { expected.as_ref().map_or_else(|r| r.number as usize, |_| 0) }] += 1;
-                if let Some(what) = self.slices.differs(&call, &expected, words) {
+                self.counts.refused[if words < ANSWER { 1 } else { number(&expected) }] += 1;
+                if let Some(what) = self.slices.differs(&call, &expected.answer, words) {
                     self.found(&call, format!("with an answer of {words} words: {what}"));
                 }
             }
@@ -132,7 +155,7 @@ impl Run {
                     let mut run = Run::default();
                     for number in (first..count).step_by(THREADS as usize) {
                         let call = lent::call(seed, number, lent::USUAL);
-                        run.note(&call, &reckon::expand(&call, None));
+                        run.note(&call, &reckon::reckon(&call, None));
                     }
                     run
                 }
@@ -151,7 +174,7 @@ impl Run {
 /// A call with N and K just enough, with K one less and with N one less; the call itself where it is refused.
 fn tight(call: Call) -> Vec<Call> {
     let Ok(e) = reckon::expand(&call, None) else {
-        return vec![Call::new(call.root, call.library, call.max_nodes, call.max_depth, 3_000_000)];
+        return vec![Call::new(call.root, call.library, call.max_nodes, call.max_depth, call.max_rows.min(3_000_000))];
     };
     let with = |nodes, rows| Call::new(call.root.clone(), call.library.clone(), nodes, call.max_depth, rows);
     vec![with(e.nodes, e.charges), with(e.nodes, e.charges - 1), with(e.nodes - 1, e.charges)]
@@ -169,6 +192,11 @@ pub fn run(count: u64, seed: u64) -> u64 {
     );
     run.stage("sheets of 1,048,576 rows and one more", lent::caps().into_iter(), false);
     run.stage("families, every scene", (0..families::total()).map(|n| families::scene(n).call(FAMILY_ROWS)), true);
+    run.stage(
+        "the wishes' families, N and K just enough, one of them one less",
+        (families::of_document_01()..families::total()).flat_map(|n| tight(families::scene(n).call(FAMILY_ROWS))),
+        true,
+    );
     run.stage("random scenes", (0..count).map(|number| lent::call(seed, number, lent::USUAL)), true);
     run.stage("every K, N and D of 300 scenes", sweeps::calls(SWEPT, seed), false);
     run.stage(
@@ -182,7 +210,7 @@ pub fn run(count: u64, seed: u64) -> u64 {
     println!("what the accepted and refused scenes contained, calls:");
     let missing = run.coverage.print();
     if let Some((call, _)) = run.smallest.take() {
-        let shows = |c: &Call| differs(&mut Slices::default(), c, &reckon::expand(c, None)).0;
+        let shows = |c: &Call| differs(&mut Slices::default(), c, &reckon::reckon(c, None)).0;
         let call = if call.size() < 5000 { shrink(&call, |c| shows(c).is_some()) } else { call };
         let what = shows(&call).unwrap_or("only after other calls".into());
         let text = if call.size() < 5000 { versus::show(&call) } else { format!("  {} rows", call.size()) };

@@ -2,6 +2,7 @@
 
 mod automaton;
 mod bench;
+mod bound;
 mod call;
 mod charges;
 mod closure;
@@ -79,9 +80,10 @@ fn command() -> Result<u64, String> {
         ["sweeps", count, seed] => Ok(sweeps::run(number(count)?, number(seed)?)),
         ["case", at, seed] => {
             let call = versus::case(number(seed)?, number(at)?);
-            let original = versus::against_original(&call, &reckon::expand(&call, None));
+            let reckoned = reckon::reckon(&call, None);
+            let original = versus::against_original(&call, &reckoned);
             println!("{}", versus::show(&call));
-            println!("{:?}\nagainst the original: {original:?}", reckon::expand(&call, None));
+            println!("{:?}\nagainst the original: {original:?}", reckoned.answer);
             Ok(0)
         }
         ["replay", folder] => replay::run(folder),

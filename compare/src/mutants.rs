@@ -1,8 +1,8 @@
 //! The deliberately broken readings of document 01 that `reckon` can be switched to.
 
-use crate::call::{Answer, Call};
+use crate::call::Call;
 use crate::closure;
-use crate::reckon;
+use crate::reckon::{self, Reckoned};
 use crate::scenes::families;
 use crate::shrink::shrink;
 use crate::versus;
@@ -11,7 +11,9 @@ use crate::versus;
 pub enum Mutant {
     InstanceMappedBeforeValues,
     OneMapForAllScopes,
-    IsToNothingTakesDefault,
+    IsWithValueTakesDefault,
+    PlainFieldTakesDefault,
+    PlainInterfaceTakesDefault,
     FirstOfEqualFields,
     DefaultSharesInstanceMap,
     ExternDeclaredPerId,
@@ -44,13 +46,21 @@ pub enum Mutant {
     PayloadDefaultOpensNoScope,
     IndexAmongDefaults,
     SixInTheInstancesDocument,
+    IsToNothingTakesNone,
+    IsDefaultInInstanceScope,
+    FirstDefaultOfRepeatedName,
 }
 
 /// Mutants that the comparison with the original must notice, with what each does wrong.
 pub const ALL: &[(Mutant, &str)] = &[
     (Mutant::InstanceMappedBeforeValues, "an instance is mapped before its values, to the next output id"),
     (Mutant::OneMapForAllScopes, "one map for all scopes of a document"),
-    (Mutant::IsToNothingTakesDefault, "an IS to nothing takes the default"),
+    (Mutant::IsWithValueTakesDefault, "an IS takes the default although its target has a value"),
+    (
+        Mutant::PlainFieldTakesDefault,
+        "a plain node's field by IS to nothing takes the value of the node's own interface",
+    ),
+    (Mutant::PlainInterfaceTakesDefault, "a plain node's interface by IS to nothing keeps its own value"),
     (Mutant::FirstOfEqualFields, "the first of two equal fields is given"),
     (Mutant::DefaultSharesInstanceMap, "a default scope uses the map of the instance's scope"),
     (Mutant::ExternDeclaredPerId, "an extern is declared once per id, whatever the document"),
@@ -71,7 +81,8 @@ pub const ALL: &[(Mutant, &str)] = &[
     (Mutant::DanglingPickPassedOver, "without a fragment a dangling Proto statement is passed over"),
 ];
 
-/// Mutants of what the original doesn't show (charges, scopes, places): frames must notice them.
+/// Mutants of what the original doesn't show (charges, scopes, places, the default that an IS to nothing takes): frames must
+/// notice them.
 pub const FRAMES_ONLY: &[(Mutant, &str)] = &[
     (Mutant::IdChargedBeforeCopy, "an id is charged before its node is copied"),
     (Mutant::FieldChargedBeforeValue, "a field is charged before its value is copied"),
@@ -87,6 +98,9 @@ pub const FRAMES_ONLY: &[(Mutant, &str)] = &[
     (Mutant::PayloadDefaultOpensNoScope, "a default without nodes opens no scope"),
     (Mutant::IndexAmongDefaults, "a default scope's index counts only interfaces with a default"),
     (Mutant::SixInTheInstancesDocument, "6 gives the instance's document, not the PROTO's"),
+    (Mutant::IsToNothingTakesNone, "an IS to nothing takes no default"),
+    (Mutant::IsDefaultInInstanceScope, "the default that an IS takes is copied in the instance's own scope"),
+    (Mutant::FirstDefaultOfRepeatedName, "of a repeated interface name an IS takes the first entry's default for each"),
 ];
 
 /// The mutant of a name, as `compare mutants` prints it.
@@ -104,14 +118,14 @@ struct Notice {
     smallest: Option<Call>,
 }
 
-/// How a mutant's answer parts from the original's on an input that the true reading lets by.
-fn parts(mutant: Mutant, call: &Call, truth: &Answer) -> Option<String> {
+/// How a mutant's answer parts from the original's on an input for which that is the reference.
+fn parts(mutant: Mutant, call: &Call, truth: &Reckoned) -> Option<String> {
     let answer = reckon::expand(call, Some(mutant));
     // Where nothing changes there is nothing to notice.
-    if versus::stands_before(truth) || answer == *truth {
+    if !versus::has_original(truth) || versus::stands_before(&answer) || answer == truth.answer {
         return None;
     }
-    versus::against_original(call, &answer)?.err()
+    versus::as_original(call, &answer).err()
 }
 
 /// Every mutant over all families and `count` random cases. The number of mutants that nothing noticed.
@@ -120,8 +134,8 @@ pub fn run(count: u64, seed: u64) -> u64 {
     let mut compared = 0;
     for number in 0..families::total() + count {
         let call = versus::case(seed, number);
-        let truth = reckon::expand(&call, None);
-        if versus::stands_before(&truth) {
+        let truth = reckon::reckon(&call, None);
+        if !versus::has_original(&truth) {
             continue;
         }
         compared += 1;
@@ -140,7 +154,7 @@ pub fn run(count: u64, seed: u64) -> u64 {
     for ((mutant, wrong), notice) in ALL.iter().zip(&notices) {
         match &notice.smallest {
             Some(call) => {
-                let what = |c: &Call| parts(*mutant, c, &reckon::expand(c, None));
+                let what = |c: &Call| parts(*mutant, c, &reckon::reckon(c, None));
                 let call = shrink(call, |c| what(c).is_some());
                 println!("{mutant:?}: {wrong}");
                 println!("  noticed in {} of {compared} cases, demand 3 broken in {}", notice.cases, notice.broken);

@@ -1,7 +1,8 @@
-//! The reference: document 01's operation Expand, written from its text and its readings.
+//! The reference: document 01's operation Expand with the wishes of document 02, written from their text and their readings.
 //!
 //! `expand` gives the whole answer of a call: refusals 1 to 3 are here, the others in `steps`.
 
+use crate::bound::Bound;
 use crate::call::{refuse, Answer, Call, Expanded};
 use crate::grammar;
 use crate::mutants::Mutant;
@@ -10,8 +11,25 @@ use crate::rows::MOST_ROWS;
 use crate::steps::Steps;
 use crate::tree::{print, Doc};
 
+/// The answer of a call, and the fields bound by IS that its steps met.
+pub struct Reckoned {
+    pub answer: Answer,
+    pub bound: Bound,
+}
+
 /// The answer of a call; a mutant breaks one reading on purpose.
 pub fn expand(call: &Call, mutant: Option<Mutant>) -> Answer {
+    reckon(call, mutant).answer
+}
+
+/// The same with what was met on the way.
+pub fn reckon(call: &Call, mutant: Option<Mutant>) -> Reckoned {
+    let mut bound = Bound::default();
+    let answer = answer(call, mutant, &mut bound);
+    Reckoned { answer, bound }
+}
+
+fn answer(call: &Call, mutant: Option<Mutant>, bound: &mut Bound) -> Answer {
     let needed = Call::needed(call.max_nodes, call.max_depth, call.max_rows);
     let short = call.lent.iter().zip(needed).any(|(lent, needed)| *lent < needed);
     if call.max_nodes > 4_000_000 || call.max_depth > 512 || call.max_rows > 16_777_216 || short {
@@ -24,7 +42,9 @@ pub fn expand(call: &Call, mutant: Option<Mutant>) -> Answer {
     let files = grammar::library(&call.library).or_else(|row| refuse(3, 1, row as u32))?;
     let docs = std::iter::once(&root).chain(files.iter().map(|f| &f.doc)).collect();
     let mut steps = Steps::new(call, docs, picks(&root, &files, mutant), mutant);
-    let top = steps.run()?;
+    let top = steps.run();
+    std::mem::swap(bound, &mut steps.bound);
+    let top = top?;
     let out = Doc { header: root.header, nodes: steps.nodes, protos: Vec::new(), externs: steps.externs, top };
     Ok(Expanded {
         nodes: out.nodes.len() as u32,

@@ -2,6 +2,7 @@
 
 use std::collections::HashMap;
 
+use crate::bound::Bound;
 use crate::call::{refuse, Call, Refusal};
 use crate::mutants::Mutant;
 use crate::rows::{MARK_FIELD, MARK_STATEMENT};
@@ -49,6 +50,8 @@ pub struct Steps<'a> {
     pub externs: Vec<Extern>,
     /// Document and extern id to output extern id.
     declared: HashMap<(usize, u32), u32>,
+    /// The fields of instances bound by IS that were met.
+    pub bound: Bound,
 }
 
 impl<'a> Steps<'a> {
@@ -67,6 +70,7 @@ impl<'a> Steps<'a> {
             map: HashMap::new(),
             externs: Vec::new(),
             declared: HashMap::new(),
+            bound: Bound::default(),
         }
     }
 
@@ -274,7 +278,13 @@ impl<'a> Steps<'a> {
                 Binding::Is(target) => {
                     self.associate(scope, *target, new, field.name)?;
                     if self.in_body(scope) {
-                        self.take_value(scope, *target)?.map(Binding::Value)
+                        let own = node.interfaces.iter().find(|i| i.name == field.name).and_then(|i| i.value.as_ref());
+                        match (self.take_value(scope, *target)?, own) {
+                            (None, Some(own)) if self.is(Mutant::PlainFieldTakesDefault) => {
+                                Some(Binding::Value(self.value(scope, own, depth)?))
+                            }
+                            (value, _) => value.map(Binding::Value),
+                        }
                     } else if self.is(Mutant::IsOutsideBodyDropped) {
                         None
                     } else {
@@ -298,7 +308,12 @@ impl<'a> Steps<'a> {
                 (Some(target), _) => {
                     self.associate(scope, target, new, interface.name)?;
                     if self.in_body(scope) {
-                        (None, self.take_value(scope, target)?)
+                        match (self.take_value(scope, target)?, &interface.value) {
+                            (None, Some(own)) if self.is(Mutant::PlainInterfaceTakesDefault) => {
+                                (None, Some(self.value(scope, own, depth)?))
+                            }
+                            (value, _) => (None, value),
+                        }
                     } else {
                         (Some(target), None)
                     }
@@ -350,23 +365,35 @@ impl<'a> Steps<'a> {
         Ok(())
     }
 
-    /// The value that an instance has for the interface of this index of its PROTO.
+    /// The value that an instance has for the interface of this index of its PROTO: its field's, or the default where it has
+    /// no such field or one bound by IS to something without a value.
     fn given(&mut self, instance: &Instance<'a>, proto: &'a Proto, index: usize, depth: usize) -> Step<Option<Value>> {
         let Instance { scope, id, node, document, proto: proto_id } = *instance;
         let interface = &proto.interfaces[index];
         let mut equal = node.fields.iter().filter(|f| f.name == interface.name);
         let field = if self.is(Mutant::FirstOfEqualFields) { equal.next() } else { equal.next_back() };
-        match field.map(|f| &f.binding) {
+        let by_is = match field.map(|f| &f.binding) {
             Some(Binding::Value(value)) => return self.value(scope, value, depth).map(Some),
             Some(Binding::Is(target)) => {
                 let value = self.take_value(scope, *target)?;
-                if value.is_some() || !self.is(Mutant::IsToNothingTakesDefault) {
+                let although = self.is(Mutant::IsWithValueTakesDefault) && interface.value.is_some();
+                if (value.is_some() && !although) || self.is(Mutant::IsToNothingTakesNone) {
+                    self.bound.valued.insert((self.scopes[scope].document, id, interface.name));
                     return Ok(value);
                 }
+                true
             }
-            None => {}
+            None => false,
+        };
+        let first = self.is(Mutant::FirstDefaultOfRepeatedName) && by_is;
+        let declared = if first { proto.interfaces.iter().find(|i| i.name == interface.name) } else { Some(interface) };
+        let Some(default) = declared.and_then(|i| i.value.as_ref()) else { return Ok(None) };
+        if by_is {
+            self.bound.unset.insert((self.scopes[scope].document, id, interface.name));
+            if self.is(Mutant::IsDefaultInInstanceScope) {
+                return self.value(scope, default, depth).map(Some);
+            }
         }
-        let Some(default) = &interface.value else { return Ok(None) };
         if self.is(Mutant::PayloadDefaultOpensNoScope) && matches!(default, Value::Payload { .. }) {
             return Ok(Some(default.clone()));
         }

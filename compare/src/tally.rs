@@ -10,6 +10,10 @@ use crate::rows;
 pub struct Tally {
     pub cases: u64,
     pub compared: u64,
+    /// Calls in which a default is taken because of an IS to nothing, so that the original is no reference.
+    pub by_is: u64,
+    /// Of these, the ones held against the original without the fields so bound.
+    pub absent: u64,
     pub accepted: u64,
     pub refused: [u64; 12],
     pub loops: u64,
@@ -47,10 +51,11 @@ impl Tally {
 
 impl fmt::Display for Tally {
     fn fmt(&self, f: &mut fmt::Formatter<'_>) -> fmt::Result {
+        writeln!(f, "{} cases, {} accepted; {} compared with the original", self.cases, self.accepted, self.compared)?;
         writeln!(
             f,
-            "{} cases, {} compared with the original, {} of them accepted",
-            self.cases, self.compared, self.accepted
+            "with a default because of an IS to nothing {}, {} of them compared without the fields so bound",
+            self.by_is, self.absent
         )?;
         write!(f, "refused:")?;
         for (number, count) in self.refused.iter().enumerate().filter(|(_, c)| **c > 0) {

@@ -2,7 +2,7 @@
 
 use crate::call::{Answer, Call};
 use crate::random::Random;
-use crate::reckon;
+use crate::reckon::{self, Reckoned};
 use crate::rows::{self, rows_of};
 use crate::rust;
 use crate::scenes::{damage, families, free, large, MOST_CHARGES};
@@ -27,22 +27,32 @@ pub fn case(seed: u64, number: u64) -> Call {
 
 /// One case with every check; the difference found, if any.
 pub fn check(call: &Call, tally: &mut Tally) -> Result<(), String> {
-    let answer = reckon::expand(call, None);
-    tally.note(&answer);
+    let reckoned = reckon::reckon(call, None);
+    let answer = &reckoned.answer;
+    tally.note(answer);
     places(call)?;
-    if let Err(refusal) = &answer {
+    if let Err(refusal) = answer {
         if refusal.number == 11 {
             return Err("refusal 11".into());
         }
     }
-    if let Some(difference) = against_original(call, &answer) {
+    if let Some(difference) = against_original(call, &reckoned) {
         tally.compared += 1;
         difference?;
         round_trip(call)?;
+    } else if !stands_before(answer) {
+        tally.by_is += 1;
+        if let Some(difference) = as_if_absent(call, &reckoned) {
+            tally.absent += 1;
+            difference?;
+        }
     }
-    if let Ok(expanded) = &answer {
+    if let Ok(expanded) = answer {
         let seen = closure::check(call, expanded).map_err(|e| format!("demand 3: {e}"))?;
         tally.loops += seen.loops as u64;
+        if seen.by_is != reckoned.bound.takes_default() {
+            return Err("a default because of an IS: told by the steps or by the search, not by both".into());
+        }
         let total = charges::by_parts(call, expanded);
         if total != Ok(expanded.charges as usize) {
             return Err(format!("{} charges step by step, {total:?} by parts", expanded.charges));
@@ -83,14 +93,32 @@ pub fn stands_before(answer: &Answer) -> bool {
     matches!(answer, Err(r) if matches!(r.number, 1 | 2 | 3 | 10))
 }
 
-/// The answer held against the original's; nothing where refusals 1, 2, 3 and 10 stand before it.
-pub fn against_original(call: &Call, answer: &Answer) -> Option<Result<(), String>> {
-    if stands_before(answer) {
-        return None;
+/// Whether the original is the reference of a call: nothing stands before it, and no default is taken because of an IS.
+pub fn has_original(reckoned: &Reckoned) -> bool {
+    !stands_before(&reckoned.answer) && !reckoned.bound.takes_default()
+}
+
+/// The answer held against the original's; nothing where that is no reference.
+pub fn against_original(call: &Call, reckoned: &Reckoned) -> Option<Result<(), String>> {
+    has_original(reckoned).then(|| as_original(call, &reckoned.answer))
+}
+
+/// Where a default is taken because of an IS: the answer held against that to the same call without those fields, every word
+/// of it, and so against the original's. Nothing where such a field has a value in another scope.
+pub fn as_if_absent(call: &Call, reckoned: &Reckoned) -> Option<Result<(), String>> {
+    let without = reckoned.bound.without(call)?;
+    let truth = reckon::reckon(&without, None);
+    if truth.answer != reckoned.answer {
+        return Some(Err("another answer than without the fields bound by IS to nothing".into()));
     }
+    against_original(&without, &truth)
+}
+
+/// The answer has the original's rows, or its kind of refusal.
+pub fn as_original(call: &Call, answer: &Answer) -> Result<(), String> {
     let original = rust::expand(&call.root, &call.library, call.max_nodes, call.max_depth);
     let ours = answer.as_ref().map(|e| &e.out).map_err(|r| r.number);
-    Some(match (&original, ours) {
+    match (&original, ours) {
         (Ok(a), Ok(b)) if a == b => Ok(()),
         (Err(a), Err(b)) if *a == b => Ok(()),
         (Ok(a), Ok(b)) => {
@@ -105,7 +133,7 @@ pub fn against_original(call: &Call, answer: &Answer) -> Option<Result<(), Strin
                 show(b.map(|v| v.len()))
             ))
         }
-    })
+    }
 }
 
 /// A call as text: limits and both sheets.
@@ -158,6 +186,7 @@ pub fn large() -> u64 {
             Some(refusal) => print!("{name}: refusal {refusal}"),
             None => print!("{name}: {} nodes, {} scopes", tally.most_nodes, tally.most_scopes),
         }
+        let result = result.and(if tally.compared > 0 { Ok(()) } else { Err("not held against the original".into()) });
         println!("; {}", result.as_ref().map_or_else(String::as_str, |()| "as the original"));
         differences += result.is_err() as u64;
     }

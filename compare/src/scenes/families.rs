@@ -47,8 +47,8 @@ impl Digits {
 
 type Family = fn(&mut Digits) -> Scene;
 
-/// The families, each with its name.
-const FAMILIES: [(&str, Family); 9] = [
+/// The families, each with its name: those of document 01, then those of the wishes.
+const FAMILIES: [(&str, Family); 10] = [
     ("loops", loops),
     ("values", values),
     ("marks", marks),
@@ -58,7 +58,11 @@ const FAMILIES: [(&str, Family); 9] = [
     ("nested", nested),
     ("routes", routes),
     ("fetched", fetched),
+    ("counters", counters),
 ];
+
+/// The families of document 01.
+const OF_DOCUMENT_01: usize = 9;
 
 /// Name and size of each family.
 pub fn sizes() -> &'static [(&'static str, u64)] {
@@ -89,9 +93,15 @@ pub fn scene(mut number: u64) -> Scene {
     panic!("no such scene");
 }
 
-/// Some scene; every family is as likely as any other.
+/// The number of scenes in the families of document 01; those of the wishes' families come behind them.
+#[cfg_attr(not(feature = "library"), allow(dead_code))]
+pub fn of_document_01() -> u64 {
+    sizes()[..OF_DOCUMENT_01].iter().map(|(_, size)| size).sum()
+}
+
+/// Some scene of document 01's families, each as likely as any other. A wish's family adds cases and changes none of these.
 pub fn any(r: &mut Random) -> Scene {
-    let at = r.below(FAMILIES.len());
+    let at = r.below(OF_DOCUMENT_01);
     FAMILIES[at].1(&mut Digits { rest: r.next() % sizes()[at].1, size: 1 })
 }
 
@@ -363,4 +373,41 @@ fn fetched(d: &mut Digits) -> Scene {
     let externs = vec![Extern { name: 3, interfaces: vec![], urls }];
     let root = Doc { header: 5, nodes: list, protos: vec![], externs, top: mention(&[0]) };
     Scene { root, files: vec![File { base: 1, doc }], max_nodes: 40, max_depth: 7 }
+}
+
+/// A counter in a prototype in a prototype, each bound by IS to the one around it or to nothing: which defaults are taken, and
+/// in which scopes. A default may hold a counter again, so that only a limit ends it.
+fn counters(d: &mut Digits) -> Scene {
+    // 0 the outer instance, 1 the middle one, 2 the counter, 3 the counter's node, 4 a calf, 5 and 6 a counter in a default.
+    let bound = |d: &mut Digits| d.of(&[vec![], vec![is(1, 1)], vec![is(1, 9)], vec![given(1, nodes(&[4])), is(1, 1)]]);
+    let outer = d.of(&[vec![], vec![given(1, payload(70))], vec![is(1, 1)]]);
+    let list = vec![
+        node(50, Origin::Proto(0), outer),
+        node(51, Origin::Proto(1), bound(d)),
+        node(52, Origin::Proto(2), bound(d)),
+        plain(53, vec![is(1, 1), is(2, 2)]),
+        plain(54, vec![]),
+        node(55, Origin::Proto(2), vec![is(1, 1)]),
+        node(56, Origin::Proto(2), vec![given(1, payload(71))]),
+    ];
+    let event = Interface { access: 0, ..declared(1, None) };
+    let outer = d.of(&[event.clone(), declared(1, Some(payload(60)))]);
+    let middle = d.of(&[event, declared(1, Some(payload(61))), declared(1, Some(nodes(&[4])))]);
+    let counter = d.of(&[
+        vec![declared(1, None)],
+        vec![declared(1, Some(payload(3)))],
+        vec![declared(1, Some(nodes(&[4])))],
+        vec![declared(1, Some(nodes(&[6, 4])))],
+        vec![declared(1, Some(nodes(&[5])))],
+        vec![declared(1, Some(payload(3))), declared(1, Some(nodes(&[4])))],
+        vec![declared(1, Some(nodes(&[4]))), declared(1, None), declared(2, Some(payload(4)))],
+    ]);
+    let body: &[u32] = d.of(&[&[2][..], &[2, 4]]);
+    let protos = vec![
+        Proto { name: 10, interfaces: vec![outer], body: mention(&[1]) },
+        Proto { name: 11, interfaces: vec![middle], body: mention(body) },
+        Proto { name: 12, interfaces: counter, body: mention(&[3]) },
+    ];
+    let top: &[u32] = d.of(&[&[0][..], &[1], &[2, 0]]);
+    Scene { max_depth: d.of(&[7, 40]), ..scene_of(list, protos, mention(top)) }
 }

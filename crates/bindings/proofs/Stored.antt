@@ -9,7 +9,7 @@ use Rattle.ast.specs.Choice.{andThen, mapO}
 use Rattle.expansion.specs.State.{Comp, bindR, _>>=_, ret}
 use Rattle.expansion.specs.Values.{Values, valueOf, clone}
 use Rattle.expansion.specs.PlainCopy.{isValue}
-use Rattle.expansion.specs.Instances.{cloneOption, store}
+use Rattle.expansion.specs.Instances.{cloneOr, store}
 use Rattle.journal.specs.Records.{tagStored}
 use Rattle.reading.specs.Reading.{valueAt, valuesAt}
 use Rattle.reading.specs.Fair.{HandleAt}
@@ -38,7 +38,7 @@ module _ (L : Limits) (w : List ℕ) (t : Counts) (e : code.Env) (target name h 
   put S x = store (inputOf S L) name (valuesAt w h) x
 
   abbrev rest : Source → Option FieldValue → Comp Values
-  rest S x = cloneOption (inputOf S L) x >>= put S
+  rest S x = cloneOr (inputOf S L) (ret none) x >>= put S
 
   abbrev whole : Source → Comp Values
   whole S = rest S (andThen (envOf w e .isValues) (valueOf target))
@@ -50,7 +50,7 @@ module _ (L : Limits) (w : List ℕ) (t : Counts) (e : code.Env) (target name h 
 
   -- there is none
   none-given : (x : Option (Option FieldValue)) → andThen x (λ y. y) ≡ none → NotGiven w e target x w2 → GivenDone L w t e target name h w2 (Done t h 0)
-  unfolding cloneOption store bindR
+  unfolding cloneOr store bindR
   none-given x nil n =
       rw (n .words)
       (record {
@@ -77,7 +77,7 @@ module _ (L : Limits) (w : List ℕ) (t : Counts) (e : code.Env) (target name h 
     storable = (later-standing l2 st, record { before = later-handle l2 hd; value = gw .ids })
 
     pub given-stored : {w3 : List ℕ} {b : Answer} → Storing L w2 s2 name ty class payload h w3 b → GivenDone L w t e target name h w3 b
-    unfolding cloneOption store bindR
+    unfolding cloneOr store bindR
     given-stored {w3} {b} k = record {
       does = λ S young.
           pays ((name, valueAt w ty class payload) ∷ valuesAt w h) (λ u v p. valuesAt u v)
@@ -89,7 +89,7 @@ module _ (L : Limits) (w : List ℕ) (t : Counts) (e : code.Env) (target name h 
     }
 
   pub given-full : {n i j : ℕ} → g ≡ Given.Refused n i j → GivenDone L w t e target name h w2 (Refused n i j)
-  unfolding cloneOption
+  unfolding cloneOr
   given-full {n} {i} {j} o =
       let gr : GivenRefused L w t e target w2 n i j = rw o at (gv .case) in
       record {

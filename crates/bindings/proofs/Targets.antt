@@ -2,17 +2,18 @@
 use mathlib.Core.Path.{_≡_, refl, sym, ap, _∙_}
 use mathlib.Core.Bool.{Bool, true, false, not}
 use mathlib.Core.List.{List}
-use mathlib.Core.Option.{none, some}
+use mathlib.Core.Option.{Option, none, some}
 use Prim.Native.Nat.{ℕ, _+_, _*_, _≤_, _<_}
 use native.Mathlib.Omega.{arith}
 use lib.ListN.{length}
 use lib.Dec.{eqb}
 use borrow.Author.Tests.{eqb-true, ne-eqb, not-true, not-false}
 use Rattle.ast.specs.Ast.{FieldData, FieldValue}
-use Rattle.ast.specs.Choice.{choose}
+use Rattle.ast.specs.Choice.{choose, andThen, mapO}
 use Rattle.expansion.specs.State.{ok}
-use Rattle.expansion.specs.Values.{clone}
+use Rattle.expansion.specs.Values.{Values, valueOf, clone}
 use Rattle.expansion.specs.PlainCopy.{isValue}
+use Rattle.expansion.specs.Reached.{isSome}
 use Rattle.journal.specs.declared.Found.{Found}
 use Rattle.journal.specs.declared.Found.the-variants.{At, Nothing}
 use Rattle.journal.specs.Records.{tagId, tagStored, cell}
@@ -32,7 +33,7 @@ use Rattle.refine.specs.Sound.{Source, inputOf, Standing, EnvAt, envOf}
 use Rattle.refine.specs.Does.{at, Does}
 use Rattle.refine.specs.Contract.{Valued, Cloned}
 use Rattle.refine.proofs.Later.{later-handle}
-use Rattle.bindings.specs.Contract.{Classed, NotGiven, GivenValue, GivenRefused}
+use Rattle.bindings.specs.Contract.{Classed, NotGiven, GivenValue, GivenRefused, HasValue}
 use Rattle.bindings.proofs.Steps.{anySource, done-later}
 
 -- the class of a value
@@ -63,6 +64,17 @@ stored-value w c r ty x g class e f e5 e6 e7 s =
     by false q = refl
 
 module _ (L : Limits) (w : List ℕ) (t : Counts) (e : code.Env) (target : ℕ) where
+  -- whether there is one, from what it is
+  has-from : (x : Option (Option FieldValue)) → isValue (envOf w e) target ≡ x → HasValue w e target (isSome (andThen x (λ y. y)))
+  has-from x q = record { same = ap isSome (by (envOf w e .isValues) ∙ ap (λ (o : Option (Option FieldValue)). andThen o (λ y. y)) q) }
+    where
+      by : (o : Option Values) → andThen o (valueOf target) ≡ andThen (mapO (valueOf target) o) (λ y. y)
+      by none = refl
+      by (some vs) = refl
+
+  pub has-outside : not (e .body) ≡ true → HasValue w e target false
+  has-outside n = has-from none (rw (not-true (e .body) n))
+
   -- outside a body
   pub outside : not (e .body) ≡ true → NotGiven w e target none w
   outside n = record { words = refl; value = rw (not-true (e .body) n) }
@@ -75,6 +87,12 @@ module _ (L : Limits) (w : List ℕ) (t : Counts) (e : code.Env) (target : ℕ) 
       -- in a body: no value
       pub without : f ≡ Nothing → NotGiven w e target (some none) w
       without n = record { words = refl; value = rw body (ap some (v .same ∙ rw n)) }
+
+      pub has-without : f ≡ Nothing → HasValue w e target false
+      has-without n = has-from (some none) (without n .value)
+
+      pub has-at : (r : ℕ) → f ≡ At r → HasValue w e target true
+      has-at r here = has-from (some (some (valueRec w r))) (rw body (ap some (v .same ∙ rw here)))
 
       -- a value
       module _ (r : ℕ) (here : f ≡ At r) where

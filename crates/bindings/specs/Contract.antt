@@ -1,5 +1,6 @@
 -- What the steps about IS bindings and instances ask and give.
 use mathlib.Core.Path.{_≡_}
+use mathlib.Core.Bool.{Bool}
 use mathlib.Core.List.{List, [], _∷_, _++_}
 use mathlib.Core.Option.{Option, none, some}
 use Prim.Native.Nat.{ℕ, _≤_, _<_}
@@ -8,11 +9,12 @@ use Rattle.ast.specs.Ast.{FieldValue, FieldBinding, Field, InterfaceDecl}
 use Rattle.ast.specs.Choice.{andThen}
 use Rattle.sheet.specs.declared.row.Row.{Row}
 use Rattle.sheet.specs.Parse.{optional}
-use Rattle.expansion.specs.State.{_>>=_, _>>_}
+use Rattle.expansion.specs.State.{_>>=_, _>>_, ret}
 use Rattle.expansion.specs.Charges.{charge}
 use Rattle.expansion.specs.Values.{Copier, valueOf, clone}
 use Rattle.expansion.specs.PlainCopy.{associate, isValue, withValue, copyField, interfaceWith, copyInterface, somes}
-use Rattle.expansion.specs.Instances.{cloneOption, store, recordInstance}
+use Rattle.expansion.specs.Reached.{isSome}
+use Rattle.expansion.specs.Instances.{cloneOr, store, recordInstance}
 use Rattle.journal.specs.declared.Record.{Record}
 use Rattle.journal.specs.Records.{tagId, tagField, tagInterface, tagStored, tagRoute, cell}
 use Rattle.reading.specs.Reading.{valueAt, fieldsAt, interfacesAt, valuesAt, bodyOf}
@@ -66,6 +68,10 @@ GivenCase L w t e target w′ (Given.Refused n i j) = GivenRefused L w t e targe
 pub record Giving (L : Limits) (w : List ℕ) (t : Counts) (e : code.Env) (target : ℕ) (w′ : List ℕ) (g : Given) : Type 0 where
   pub case : GivenCase L w t e target w′ g
 
+-- whether it is a value
+pub record HasValue (w : List ℕ) (e : code.Env) (target : ℕ) (r : Bool) : Type 0 where
+  pub same : isSome (andThen (envOf w e .isValues) (valueOf target)) ≡ r
+
 -- ---- a field with an IS
 -- the field of a row that has one
 abbrev pub isFieldOf : Row → Field
@@ -111,7 +117,7 @@ pub record InterfaceDone (L : Limits) (w : List ℕ) (t : Counts) (e : code.Env)
 
 -- ---- the value of an IS target, stored behind those of h
 pub record GivenDone (L : Limits) (w : List ℕ) (t : Counts) (e : code.Env) (target name h : ℕ) (w′ : List ℕ) (a : Answer) : Type 0 where
-  pub does : (S : Source) (young : ℕ) → Does S L young (λ u v p. valuesAt u v) (cloneOption (inputOf S L) (andThen (envOf w e .isValues) (valueOf target)) >>= store (inputOf S L) name (valuesAt w h)) w t w′ a
+  pub does : (S : Source) (young : ℕ) → Does S L young (λ u v p. valuesAt u v) (cloneOr (inputOf S L) (ret none) (andThen (envOf w e .isValues) (valueOf target)) >>= store (inputOf S L) name (valuesAt w h)) w t w′ a
   pub done : IfDone (λ t′ v p. HandleAt w′ (t′ .charges) tagStored v) a
 
 -- ---- routes

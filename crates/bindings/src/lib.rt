@@ -17,7 +17,7 @@ ghost use Rattle.journal.specs.Records.{tagField, tagInterface, tagStored};
 ghost use Rattle.reading.specs.Fair.{HandleAt, NodeAt};
 ghost use Rattle.refine.specs.Sound.{Standing, EnvAt};
 ghost use Rattle.refine.specs.Contract.{Keepable, Kept};
-ghost use Rattle.bindings.specs.Contract.{Classed, interfaceRecord, Associated, Giving, FieldDone, InterfaceDone, GivenDone, Remappable, Remapped, Recordable, Recorded};
+ghost use Rattle.bindings.specs.Contract.{Classed, interfaceRecord, Associated, Giving, HasValue, FieldDone, InterfaceDone, GivenDone, Remappable, Remapped, Recordable, Recorded};
 
 const NONE: u32 = 4294967295;
 
@@ -285,6 +285,21 @@ pub fn is_interface(
             second,
         },
     }
+}
+
+// Whether an IS target has a value in a scope.
+pub fn has_value(work: &[u32], lim: Limits, st: Counts, env: Env, target: u32) -> bool
+    requires { ⌜ Standing lim (now work) st ⌝ }
+    requires { ⌜ EnvAt (now work) (st .charges) env ⌝ }
+    ensures { λ r. ⌜ HasValue (now (work .entry)) env target r ⌝ }
+{
+    if !env.body {
+        return false;
+    }
+    let Found::At(_) = refine::value_of(work, lim, st, env.values, target) else {
+        return false;
+    };
+    true
 }
 
 // The value that an IS target has in the instance's scope, stored under an interface's name.

@@ -1,6 +1,6 @@
 -- `given`: the last field of the name, what its IS has, or the default in a scope of its own; then what is stored.
 use mathlib.Core.Path.{_≡_, refl, sym, ap, subst, _∙_}
-use mathlib.Core.Bool.{false}
+use mathlib.Core.Bool.{true, false}
 use mathlib.Core.List.{List, [], _∷_}
 use mathlib.Core.Option.{Option, none, some}
 use Prim.Native.Nat.{ℕ}
@@ -25,8 +25,9 @@ use Rattle.expansion.specs.State.{State, Result, refusal, ok, Comp, bindR, _>>=
 use Rattle.expansion.specs.Charges.{charge, paid}
 use Rattle.expansion.specs.Values as values
 use Rattle.expansion.specs.Values.{Values, Env, value, src}
-use Rattle.expansion.specs.Instances.{openScope, takeDefault, cloneOption, interfaceValue, store}
+use Rattle.expansion.specs.Instances.{openScope, takeDefault, cloneOr, interfaceValue, store}
 use Rattle.expansion.specs.Copy.{copy}
+use Rattle.expansion.specs.Reached.{isSome}
 use Rattle.journal.specs.Records.{tagStored}
 use Rattle.reading.specs.Reading.{valuesAt}
 use Rattle.reading.specs.Fair.{HandleAt}
@@ -43,7 +44,7 @@ use Rattle.refine.proofs.Later.{later-standing, later-handle}
 use Rattle.refine.proofs.Opening.{open-env, env-open}
 use Rattle.parts.specs.Contract.{sourceOf, rowsOf, nodeIn}
 use Rattle.parts.proofs.Lending.{lent-later}
-use Rattle.bindings.specs.Contract.{GivenDone}
+use Rattle.bindings.specs.Contract.{HasValue, GivenDone}
 use Rattle.cycle.specs.Contract.{Here, AtRow, Yields, Is, Value, Stored, pickOf, givenBy, Given, Valued}
 use Rattle.cycle.proofs.Run.{Run, begin, turn, end, go, halt, through, went, gave, leaf, yields-young, yields-as}
 use Rattle.cycle.proofs.Keeps.{charged, stored-yields, charging, keeping-stop}
@@ -81,6 +82,22 @@ module _ {root library dir w : List ℕ} {L : Limits} {t : Counts} {e : code.Env
       stored-kept k =
           charging (here .standing .sound) (put name (valuesAt w h)) y {K = StoredAt w′ name (r .e) (r .f) v h} q (stored-yields (t .scopes) k)
           (λ t″ v″ p″ x. record { handle = x .handle; all = sym (x .list ∙ rw (values-fixed (went y q .kept) h (hl .low), gave y q .value, is-front)) })
+
+-- ---- what an IS target has
+module _ {w : List ℕ} {e : code.Env} {target : ℕ} where
+  some-is : HasValue w e target true → (v : FieldValue) × (andThen (envOf w e .isValues) (values.valueOf target) ≡ some v)
+  some-is h = by (andThen (envOf w e .isValues) (values.valueOf target)) refl (h .same)
+    where
+      by : (o : Option FieldValue) → andThen (envOf w e .isValues) (values.valueOf target) ≡ o → isSome o ≡ true → (v : FieldValue) × (andThen (envOf w e .isValues) (values.valueOf target) ≡ some v)
+      by none q z = absurd (let y : _≡_ {A = ℕ} 0 1 = cc in omega arith)
+      by (some v) q z = (v, q)
+
+  none-is : HasValue w e target false → andThen (envOf w e .isValues) (values.valueOf target) ≡ none
+  none-is h = by (andThen (envOf w e .isValues) (values.valueOf target)) (h .same)
+    where
+      by : (o : Option FieldValue) → isSome o ≡ false → o ≡ none
+      by none z = refl
+      by (some v) z = absurd (let y : _≡_ {A = ℕ} 0 1 = cc in omega arith)
 
 -- ---- `given`
 -- the Env of a default's scope
@@ -121,12 +138,12 @@ module _ (root library dir w : List ℕ) (L : Limits) (t : Counts) (e : code.Env
     unfolding fieldOf
     has-value b = rw (is-row, ne-eqb (r .b) 1 b)
 
-    pub given-is : r .b ≡ 1 → {w′ : List ℕ} {a : Answer} → GivenDone L w t e (r .c) (d .c) h w′ a → Given root library dir w L t e row slot proto q k h depth w′ a
-    unfolding interfaceValue
-    given-is b {w′} {a} g =
-        yields-as {n = λ I. cloneOption I (andThen (envOf w e .isValues) (values.valueOf (r .c))) >>= store I (d .c) (valuesAt w h)}
+    pub given-is : r .b ≡ 1 → HasValue w e (r .c) true → {w′ : List ℕ} {a : Answer} → GivenDone L w t e (r .c) (d .c) h w′ a → Given root library dir w L t e row slot proto q k h depth w′ a
+    unfolding interfaceValue cloneOr
+    given-is b has {w′} {a} g =
+        yields-as {n = λ I. cloneOr I (ret none) (andThen (envOf w e .isValues) (values.valueOf (r .c))) >>= store I (d .c) (valuesAt w h)}
         (leaf {P = Stored} [] (λ D. g .does (sourceOf root library D) (t .scopes)) (by a (g .done))) m
-        (λ D. sym (by-rows (inputOf (sourceOf root library D) L) (at (sourceOf root library D) w t) ∙ rw (eq, is-bound b)))
+        (λ D. sym (by-rows (inputOf (sourceOf root library D) L) (at (sourceOf root library D) w t) ∙ rw (eq, is-bound b, some-is has .1)))
       where
         by : (a : Answer) → IfDone (λ t′ v p. HandleAt w′ (t′ .charges) tagStored v) a → IfDone (λ t′ v p. Stored w′ t′ v p (valuesAt w′ v)) a
         by (Done t′ v p) z = record { handle = z; all = refl }
@@ -151,25 +168,36 @@ module _ (root library dir w : List ℕ) (L : Limits) (t : Counts) (e : code.Env
         pub given-kept : {w″ : List ℕ} {o : Answer} → Storing L w′ s (d .c) (r .e) (r .f) v h w″ o → Given root library dir w L t e row slot proto q k h depth w″ o
         given-kept kp = as-given b (stored-kept f depth (d .c) h here r ir y hl z kp)
 
-  -- no field, and no default
-  pub given-none : x ≡ Nothing → d .f ≡ 0 → HandleAt w (t .charges) tagStored h → Given root library dir w L t e row slot proto q k h depth w (Done t h 0)
-  unfolding interfaceValue takeDefault store bindR
-  given-none eq z hl =
+  -- no field gives a value: none is there, or its IS finds none
+  pub data Ungiven : Type 0 where
+    absent : x ≡ Nothing → Ungiven
+    unset : {f : ℕ} → x ≡ At f → (r : Row) → r ≡ getD F f blank → r .b ≡ 1 → HasValue w e (r .c) false → Ungiven
+
+  -- Then the default is taken, if there is one.
+  ungiven-default : Ungiven → (I : Input) (default : Option FieldValue) (st : State) → interfaceValue I (copy I depth) (envOf w e) scope default (mapO (λ l. fieldOf l .binding) (rowsAt F x)) st ≡ takeDefault I (copy I depth) scope default st
+  unfolding interfaceValue cloneOr
+  ungiven-default (absent eq) I default st = rw eq
+  ungiven-default (unset eq r ir b has) I default st = rw (eq, is-bound eq r ir b, none-is has)
+
+  -- no field gives a value, and no default
+  pub given-none : Ungiven → d .f ≡ 0 → HandleAt w (t .charges) tagStored h → Given root library dir w L t e row slot proto q k h depth w (Done t h 0)
+  unfolding takeDefault store bindR
+  given-none u z hl =
       end
-      (turn (begin (t .scopes) m (here .standing .sound)) (λ I. ret (valuesAt w h)) (λ D. by-rows (inputOf (sourceOf root library D) L) (at (sourceOf root library D) w t) ∙ rw (eq, eq-eqb (d .f) 0 z)))
+      (turn (begin (t .scopes) m (here .standing .sound)) (λ I. ret (valuesAt w h)) (λ D. by-rows (inputOf (sourceOf root library D) L) (at (sourceOf root library D) w t) ∙ rw (ungiven-default u, eq-eqb (d .f) 0 z)))
       (record { handle = hl; all = refl })
 
-  -- no field: the default, in its scope
-  module _ (eq : x ≡ Nothing) (z : d .f ≡ 0 → ⊥) where
+  -- no field gives a value: the default, in its scope
+  module _ (u : Ungiven) (z : d .f ≡ 0 → ⊥) where
     -- the default, copied in the scope n
     abbrev inScope : ℕ → Input → Comp Values
     inScope n = charged (λ I. value I (copy I depth (record { scope = n; entry = scope; isValues = none })) (valueOf (drop q Q))) (put (d .c) (valuesAt w h))
 
     opens : Run root library L (t .scopes) m w t (λ I. openScope I scope >>= (λ n. inScope n I)) w t
-    unfolding interfaceValue takeDefault bindR
+    unfolding takeDefault bindR
     opens =
         turn (begin (t .scopes) m (here .standing .sound)) (λ I. openScope I scope >>= (λ n. inScope n I))
-        (λ D. by-rows (inputOf (sourceOf root library D) L) (at (sourceOf root library D) w t) ∙ rw (eq, ne-eqb (d .f) 0 z) (by (inputOf (sourceOf root library D) L) (openScope (inputOf (sourceOf root library D) L) scope (at (sourceOf root library D) w t))))
+        (λ D. by-rows (inputOf (sourceOf root library D) L) (at (sourceOf root library D) w t) ∙ rw (ungiven-default u, ne-eqb (d .f) 0 z) (by (inputOf (sourceOf root library D) L) (openScope (inputOf (sourceOf root library D) L) scope (at (sourceOf root library D) w t))))
       where
         by : (I : Input) (o : Result ℕ) → bindR {B = Values} (bindR {B = Option FieldValue} o (λ n. value I (copy I depth (record { scope = n; entry = scope; isValues = none })) (valueOf (drop q Q)) >>= (λ v. ret (some v)))) (store I (d .c) (valuesAt w h)) ≡ bindR {B = Values} o (λ n. inScope n I)
         by I (refusal c i j) = refl

@@ -701,7 +701,7 @@ fn values<'a>(
     }
 }
 
-// The value of one interface: the last field of its name, what that IS has, or the default.
+// The value of one interface: the last field of its name, what that IS has, or, where neither gives a value, the default.
 fn given<'a>(
     root: &'a [u32],
     library: &'a [u32],
@@ -728,19 +728,21 @@ fn given<'a>(
     let d = row_of(root, library, dir, slot, q);
     if let Found::At(f) = source::last_field(root, library, dir, work, env.slot, row, d.c) {
         let r = row_of(root, library, dir, env.slot, f);
-        if r.b == 1 {
+        if r.b != 1 {
+            let a = value(root, library, dir, work, lim, st, env, f, depth);
+            let Answer::Done {
+                st: s,
+                value: v,
+                place: _,
+            } = a
+            else {
+                return a;
+            };
+            return refine::store(work, lim, s, d.c, r.e, r.f, v, h);
+        }
+        if bindings::has_value(work, lim, st, env, r.c) {
             return bindings::is_given(work, lim, st, env, r.c, d.c, h);
         }
-        let a = value(root, library, dir, work, lim, st, env, f, depth);
-        let Answer::Done {
-            st: s,
-            value: v,
-            place: _,
-        } = a
-        else {
-            return a;
-        };
-        return refine::store(work, lim, s, d.c, r.e, r.f, v, h);
     }
     if d.f == 0 {
         return Answer::Done {

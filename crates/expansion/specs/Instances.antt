@@ -39,19 +39,21 @@ takeDefault I f e (some v) = do
   v′ ← value I (f (record { scope = n; entry = e; isValues = none })) v
   ret (some v′)
 
-unfoldable pub cloneOption : Input → Option FieldValue → Comp (Option FieldValue)
-cloneOption I none = ret none
-cloneOption I (some v) = do
+-- the value that an IS target has, cloned; where it has none, what comes instead
+unfoldable pub cloneOr : Input → Comp (Option FieldValue) → Option FieldValue → Comp (Option FieldValue)
+cloneOr I instead none = instead
+cloneOr I instead (some v) = do
   v′ ← clone I v
   ret (some v′)
 
--- "the last field of that name copied in the instance's scope, or the value its IS target has there (possibly none, then no default)"
+-- "the last field of that name copied in the instance's scope, or the value its IS target has there"
+-- Document 02, wish 6: "an instance's field bound by IS to something without a value now takes the inner prototype's default, in a default scope, as if no field of that name were there"
 -- e: the scope of the default, if it is taken
 unfoldable pub interfaceValue : Input → (Env → Copier) → Env → Scope → Option FieldValue → Option FieldBinding → Comp (Option FieldValue)
 interfaceValue I f env e default (some (FieldBinding.Value v)) = do
   v′ ← value I (f env) v
   ret (some v′)
-interfaceValue I f env e default (some (FieldBinding.Is target)) = cloneOption I (andThen (env .isValues) (valueOf target))
+interfaceValue I f env e default (some (FieldBinding.Is target)) = cloneOr I (takeDefault I f e default) (andThen (env .isValues) (valueOf target))
 interfaceValue I f env e default none = takeDefault I f e default
 
 -- "A repeated name overwrites only with a value."; charged: "a stored interface value"

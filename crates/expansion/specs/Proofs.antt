@@ -1,7 +1,10 @@
 -- The proofs; no definition rests on a module below.
 pub mod Outcome
+pub mod Names
 pub mod Walk
 pub mod Agrees
+pub mod Defaults
+pub mod DefaultCount
 pub mod Output
 pub mod Ids
 pub mod Rows

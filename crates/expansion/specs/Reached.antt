@@ -1,18 +1,29 @@
 -- Reached (document 01, Modules: Reached), and the order of the steps, as a graph of scopes.
--- All of it is taken from the documents and a scope's entry; nothing is taken from the ledger.
+-- All of it is taken from the documents and what is known of a scope when it opens; nothing is taken from the ledger.
+use mathlib.Core.Bool.{Bool, true, false, _||_}
 use mathlib.Core.List.{List, [], _∷_, _++_, map}
 use mathlib.Core.Option.{Option, none, some}
 use Prim.Native.Nat.{ℕ, suc}
 use lib.ListN.{getElem?}
 use Rattle.ast.specs.Ast.{FieldValue, FieldBinding, Field, InterfaceDecl, Node, ProtoDecl}
-use Rattle.ast.specs.Choice.{andThen}
+use Rattle.ast.specs.Choice.{choose, andThen}
 use Rattle.ast.specs.Lookups.{nodeAt, protoAt}
-use Rattle.picks.specs.Picks.{Pick}
+use Rattle.picks.specs.Picks.{Pick, member}
 use Rattle.steps.specs.Steps.{Kind, noNode, plainNode, instanceNode, Action, copyId, openDefault, Graph}
 use Rattle.expansion.specs.Input.{Input, docs, protoOf, lastField}
 use Rattle.expansion.specs.Scopes.{Scope, documentOf, isBody}
 use Rattle.ast.specs.Lists.{flat}
 use Rattle.expansion.specs.Ids.{optionIds, bindingIds, statementIds}
+
+-- ---- scopes
+
+-- what is known of a scope when it opens: its entry, and the names that have a value in it, which an IS there finds
+pub record Known : Type 0 where
+  pub entry : Scope
+  pub names : List ℕ
+
+abbrev pub entryOf : Known → Scope
+entryOf s = s .entry
 
 -- ---- starts
 
@@ -32,16 +43,6 @@ abbrev pub starts : Input → Scope → List ℕ
 starts I Scope.Root = flat statementIds (I .root .statements)
 starts I (Scope.Body p n) = bodyIds (declOf I p)
 starts I (Scope.Default p k n) = defaultIds k (declOf I p)
-
--- ---- plain nodes and instances
-
-abbrev pub kindBy : Option Pick → Kind Scope
-kindBy none = plainNode
-kindBy (some p) = instanceNode (Scope.Body p)
-
-abbrev pub kindOf : Input → ℕ → Option Node → Kind Scope
-kindOf I d none = noNode
-kindOf I d (some node) = kindBy (protoOf I d (node .origin))
 
 -- ---- closure
 
@@ -72,45 +73,85 @@ abbrev pub nextsOf : Input → ℕ → Option Node → List ℕ
 nextsOf I d none = []
 nextsOf I d (some node) = nextsBy I node (protoOf I d (node .origin))
 
+-- ---- values: names are those that have a value in the instance's scope
+
+-- whether an instance's field gives a value: a value does, an IS where its target has one there
+abbrev pub gives : List ℕ → Option FieldBinding → Bool
+gives names none = false
+gives names (some (FieldBinding.Value v)) = true
+gives names (some (FieldBinding.Is target)) = member target names
+
+abbrev pub isSome : Option FieldValue → Bool
+isSome none = false
+isSome (some v) = true
+
+-- the name of an interface that has a value in the body: its field gives one, or there is a default
+abbrev pub nameIfValued : List ℕ → List Field → InterfaceDecl → List ℕ
+nameIfValued names fields d = choose (gives names (lastField (d .name) fields) || isSome (d .value)) (d .name ∷ []) []
+
+abbrev pub bodyNames : List ℕ → List Field → Option ProtoDecl → List ℕ
+bodyNames names fields none = []
+bodyNames names fields (some p) = flat (nameIfValued names fields) (p .interface)
+
+-- the scopes that an instance opens, for its own scope's number; in a default scope no name has a value
+abbrev pub bodyScope : Pick → List ℕ → ℕ → Known
+bodyScope p names n = record { entry = Scope.Body p n; names = names }
+
+abbrev pub defaultScope : Pick → ℕ → ℕ → Known
+defaultScope p k n = record { entry = Scope.Default p k n; names = [] }
+
+-- ---- plain nodes and instances
+
+abbrev pub kindBy : Input → List ℕ → Node → Option Pick → Kind Known
+kindBy I names node none = plainNode
+kindBy I names node (some p) = instanceNode (bodyScope p (bodyNames names (node .fields) (declOf I p)))
+
+abbrev pub kindOf : Input → Known → Option Node → Kind Known
+kindOf I s none = noNode
+kindOf I s (some node) = kindBy I (s .names) node (protoOf I (documentOf (s .entry)) (node .origin))
+
 -- ---- the order of the steps: an instance's values, "in interface order", copy ids or open a default's scope
 
-abbrev pub defaultAction : (ℕ → Scope) → Option FieldValue → List (Action Scope)
+abbrev pub defaultAction : (ℕ → Known) → Option FieldValue → List (Action Known)
 defaultAction e none = []
 defaultAction e (some v) = openDefault e ∷ []
 
-abbrev pub valueActions : (ℕ → Scope) → Option FieldValue → Option FieldBinding → List (Action Scope)
-valueActions e default none = defaultAction e default
-valueActions e default (some b) = map copyId (bindingIds b)
+-- A default scope is opened exactly where no field gives a value and there is a default; where a field does, its ids are copied.
+abbrev pub valueActions : Bool → (ℕ → Known) → Option FieldValue → Option FieldBinding → List (Action Known)
+valueActions true e default given = map copyId (givenIds given)
+valueActions false e default given = defaultAction e default
 
 -- k is the first interface's index
-abbrev pub interfaceActions : Pick → List Field → ℕ → List InterfaceDecl → List (Action Scope)
-interfaceActions p fields k [] = []
-interfaceActions p fields k (d ∷ l) = valueActions (Scope.Default p k) (d .value) (lastField (d .name) fields) ++ interfaceActions p fields (suc k) l
+abbrev pub interfaceActions : List ℕ → Pick → List Field → ℕ → List InterfaceDecl → List (Action Known)
+interfaceActions names p fields k [] = []
+interfaceActions names p fields k (d ∷ l) =
+    valueActions (gives names (lastField (d .name) fields)) (defaultScope p k) (d .value) (lastField (d .name) fields) ++ interfaceActions names p fields (suc k) l
 
-abbrev pub instanceActions : Pick → List Field → Option ProtoDecl → List (Action Scope)
-instanceActions p fields none = []
-instanceActions p fields (some decl) = interfaceActions p fields 0 (decl .interface)
+abbrev pub instanceActions : List ℕ → Pick → List Field → Option ProtoDecl → List (Action Known)
+instanceActions names p fields none = []
+instanceActions names p fields (some decl) = interfaceActions names p fields 0 (decl .interface)
 
-abbrev pub actionsBy : Input → Node → Option Pick → List (Action Scope)
-actionsBy I node none = map copyId (plainNexts node)
-actionsBy I node (some p) = instanceActions p (node .fields) (declOf I p)
+abbrev pub actionsBy : Input → List ℕ → Node → Option Pick → List (Action Known)
+actionsBy I names node none = map copyId (plainNexts node)
+actionsBy I names node (some p) = instanceActions names p (node .fields) (declOf I p)
 
-abbrev pub actionsOf : Input → ℕ → Option Node → List (Action Scope)
-actionsOf I d none = []
-actionsOf I d (some node) = actionsBy I node (protoOf I d (node .origin))
+abbrev pub actionsOf : Input → Known → Option Node → List (Action Known)
+actionsOf I s none = []
+actionsOf I s (some node) = actionsBy I (s .names) node (protoOf I (documentOf (s .entry)) (node .origin))
 
 -- ---- the graph
 
 abbrev pub nodeIn : Input → Scope → ℕ → Option Node
 nodeIn I e i = nodeAt (docs I) (documentOf e) i
 
+-- At the top no name has a value. Where the steps lead is a matter of the entry alone; the names rule which defaults are taken.
 abbrev pub graph : Input → Graph
 graph I = record {
-  Scope = Scope;
-  root = Scope.Root;
-  isBody = isBody;
-  starts = starts I;
-  kind = λ e i. kindOf I (documentOf e) (nodeIn I e i);
-  nexts = λ e i. nextsOf I (documentOf e) (nodeIn I e i);
-  actions = λ e i. actionsOf I (documentOf e) (nodeIn I e i);
+  Scope = Known;
+  root = record { entry = Scope.Root; names = [] };
+  isBody = λ s. isBody (s .entry);
+  starts = λ s. starts I (s .entry);
+  kind = λ s i. kindOf I s (nodeIn I (s .entry) i);
+  nexts = λ s i. nextsOf I (documentOf (s .entry)) (nodeIn I (s .entry) i);
+  actions = λ s i. actionsOf I s (nodeIn I (s .entry) i);
 }

@@ -4,9 +4,10 @@ use mathlib.Core.Path.{_≡_, refl}
 use mathlib.Core.List.{List, [], _∷_, map}
 use mathlib.Core.Option.{Option, none, some}
 use Prim.Native.Nat.{ℕ}
-use Rattle.ast.specs.Ast.{NodeOrigin, BodyElement, FieldBinding, Field, InterfaceDecl, Statement, ProtoInstance, Node}
+use Rattle.ast.specs.Ast.{NodeOrigin, BodyElement, FieldValue, FieldBinding, Field, InterfaceDecl, Statement, ProtoInstance, Node}
+use Rattle.steps.specs.Lists.{countIf}
 use Rattle.expansion.specs.Input.{Input}
-use Rattle.expansion.specs.Scopes.{scopeEntry}
+use Rattle.expansion.specs.Scopes.{isDefault, scopeEntry}
 use Rattle.expansion.specs.Expand.{expand}
 use Rattle.expansion.specs.Scenes.{ids, number, field, fieldIs, interface, interfaceIs, route, node, leaf, group, plain, instanceOf, proto, document, limits, usual, scene, scattered, counts, seen, computed}
 
@@ -290,14 +291,6 @@ last-of-two : outputFields (instanceWith (field 1 (number 4) ∷ field 1 (number
 unfolding computed
 last-of-two = refl
 
--- PROTO 0's root is an instance of PROTO 1 whose field 1 is IS 7, a name that PROTO 0 gives no value: PROTO 1's default for 1 is not taken, and the field that is IS 1 is dropped
-abbrev unset : Input
-unset = scene usual (instanceOf 0 [] ∷ instanceOf 1 (fieldIs 1 7 ∷ []) ∷ plain (fieldIs 2 1 ∷ []) [] [] [] ∷ []) (proto (interface 7 none ∷ []) (Statement.Node 1 ∷ []) ∷ proto (interface 1 (some (number 5)) ∷ []) (Statement.Node 2 ∷ []) ∷ []) (Statement.Node 0 ∷ [])
-
-is-to-nothing : (counts (expand unset) ≡ (0 ∷ 1 ∷ 3 ∷ 2 ∷ 13 ∷ [])) × (outputFields unset ≡ some ([] ∷ []))
-unfolding computed
-is-to-nothing = (refl, refl)
-
 -- a node of a default that the body holds too is copied in each of the two scopes
 own-maps : counts (expand (scene usual (instanceOf 0 [] ∷ leaf ∷ []) (proto (interface 1 (some (ids (1 ∷ []))) ∷ []) (Statement.Node 1 ∷ []) ∷ []) (Statement.Node 0 ∷ []))) ≡ (0 ∷ 2 ∷ 3 ∷ 1 ∷ 14 ∷ [])
 unfolding computed
@@ -310,3 +303,60 @@ def-name : seen (λ e. map (λ x. x .defName) (e .document .nodes)) (expand (sce
     ≡ some (some 31 ∷ some 32 ∷ [])
 unfolding computed
 def-name = refl
+
+-- ---- document 02, wish 6: "an instance's field bound by IS to something without a value now takes the inner prototype's default, in a default scope, as if no field of that name were there"
+
+-- PROTO 0's interface 7 is an eventIn, here also with a value; its root is an instance of PROTO 1 whose field 1 is IS 7. PROTO 1's interface 1 is an exposedField with the number 3; its root's field 2 is IS 1.
+abbrev counter : List Field → Option FieldValue → Input
+counter fs v = scene usual (instanceOf 0 fs ∷ instanceOf 1 (fieldIs 1 7 ∷ []) ∷ plain (fieldIs 2 1 ∷ []) [] [] [] ∷ [])
+    (proto (record { access = 0; fieldType = 4; name = 7; value = v; is = none } ∷ []) (Statement.Node 1 ∷ []) ∷ proto (record { access = 3; fieldType = 4; name = 1; value = some (number 3); is = none } ∷ []) (Statement.Node 2 ∷ []) ∷ []) (Statement.Node 0 ∷ [])
+
+-- "A counter driven by an event keeps its start.": its default scope is opened by the outer body's scope, 1
+is-to-nothing : (counts (expand (counter [] none)) ≡ (0 ∷ 1 ∷ 4 ∷ 2 ∷ 16 ∷ []))
+    × (outputFields (counter [] none) ≡ some ((field 2 (number 3) ∷ []) ∷ []))
+    × (seen (λ e. map scopeEntry (e .scopes)) (expand (counter [] none)) ≡ some ((0 ∷ 0 ∷ 0 ∷ 0 ∷ 0 ∷ []) ∷ (1 ∷ 0 ∷ 0 ∷ 0 ∷ 0 ∷ []) ∷ (2 ∷ 0 ∷ 1 ∷ 0 ∷ 1 ∷ []) ∷ (1 ∷ 0 ∷ 1 ∷ 0 ∷ 1 ∷ []) ∷ []))
+unfolding computed
+is-to-nothing = (refl, refl, refl)
+
+-- where the target has a value, by a field or by a default, the inner default is not taken
+is-to-value : (counts (expand (counter (field 7 (number 5) ∷ []) none)) ≡ (0 ∷ 1 ∷ 3 ∷ 2 ∷ 16 ∷ []))
+    × (outputFields (counter (field 7 (number 5) ∷ []) none) ≡ some ((field 2 (number 5) ∷ []) ∷ []))
+    × (counts (expand (counter [] (some (number 5)))) ≡ (0 ∷ 1 ∷ 4 ∷ 2 ∷ 17 ∷ []))
+    × (outputFields (counter [] (some (number 5))) ≡ some ((field 2 (number 5) ∷ []) ∷ []))
+unfolding computed
+is-to-value = (refl, refl, refl, refl)
+
+-- "The double-count guarantee covers the new default scopes as well."
+abbrev defaultScopes : Input → Option ℕ
+defaultScopes I = seen (λ e. countIf isDefault (e .scopes)) (expand I)
+
+-- one for each default taken: the counter's; none, as a field gives its target a value; the outer PROTO's; both of a repeated name
+default-scopes : (defaultScopes (counter [] none) ≡ some 1)
+    × (defaultScopes (counter (field 7 (number 5) ∷ []) none) ≡ some 0)
+    × (defaultScopes (counter [] (some (number 5))) ≡ some 1)
+    × (defaultScopes (instanceWith (fieldIs 1 9 ∷ []) (interface 1 (some (number 5)) ∷ interface 1 (some (number 6)) ∷ [])) ≡ some 2)
+unfolding computed
+default-scopes = (refl, refl, refl, refl)
+
+-- one instance whose field 1 holds node 1, that takes the default of interface 2
+abbrev oneDefault : Node → Input
+oneDefault held = scene usual (instanceOf 0 (field 1 (ids (1 ∷ [])) ∷ []) ∷ held ∷ leaf ∷ []) (proto (interface 1 none ∷ interface 2 (some (number 3)) ∷ []) (Statement.Node 2 ∷ []) ∷ []) (Statement.Node 0 ∷ Statement.Node 0 ∷ [])
+
+-- mentioned twice, it opens one default scope; two, where it reaches itself
+only-a-loop-doubles : (defaultScopes (oneDefault leaf) ≡ some 1) × (defaultScopes (oneDefault (group (0 ∷ []))) ≡ some 2)
+unfolding computed
+only-a-loop-doubles = (refl, refl)
+
+-- at the top nothing has a value; of a repeated interface name each entry's own default counts
+abbrev thrice : List InterfaceDecl
+thrice = interface 1 (some (number 5)) ∷ interface 1 (some (number 6)) ∷ interface 1 none ∷ []
+
+is-at-top : (expand (instanceWith (fieldIs 1 9 ∷ []) thrice) ≡ expand (instanceWith [] thrice)) × (counts (expand (instanceWith (fieldIs 1 9 ∷ []) thrice)) ≡ (0 ∷ 1 ∷ 4 ∷ 1 ∷ 15 ∷ []))
+unfolding computed
+is-at-top = (refl, refl)
+
+-- nor in a default scope: PROTO 0's default for 7 is an instance of PROTO 1 whose field 1 is IS 7
+is-in-default : counts (expand (scene usual (instanceOf 0 [] ∷ instanceOf 1 (fieldIs 1 7 ∷ []) ∷ plain (fieldIs 2 1 ∷ []) [] [] [] ∷ leaf ∷ []) (proto (interface 7 (some (ids (1 ∷ []))) ∷ []) (Statement.Node 3 ∷ []) ∷ proto (interface 1 (some (number 3)) ∷ []) (Statement.Node 2 ∷ []) ∷ []) (Statement.Node 0 ∷ [])))
+    ≡ (0 ∷ 2 ∷ 5 ∷ 2 ∷ 21 ∷ [])
+unfolding computed
+is-in-default = refl

@@ -1,20 +1,20 @@
 -- Small scenes for worked examples, and an answer in numbers.
-use mathlib.Core.Bool.{Bool, true, false}
 use mathlib.Core.List.{List, [], _∷_}
 use mathlib.Core.Option.{Option, none, some}
-use Prim.Native.Nat.{ℕ, _+_}
+use Prim.Native.Nat.{ℕ}
 use Rattle.ast.specs.Ast.{NodeOrigin, BodyElement, FieldData, FieldValue, FieldBinding, Field, InterfaceDecl, Route, Statement, Node, ProtoDecl, ExternProtoDecl, Url, Document}
 use Rattle.ast.specs.Lookups.{nodeAt, protoAt, externProtoAt}
 use Rattle.file.specs.PickIn.{topProtos, firstNamed, pickIn}
 use Rattle.picks.specs.Picks.{firstFile, pickUrl, member, remember, pickUrls, picksFrom, picks}
+use Rattle.steps.specs.Lists.{countIf}
 use Rattle.expansion.specs.Input.{Limits, Input, pickOf, protoOf, lastField}
-use Rattle.expansion.specs.Scopes.{Scope, isBody}
+use Rattle.expansion.specs.Scopes.{isBody}
 use Rattle.expansion.specs.State.{bindR, mapM, foldM, lookup}
 use Rattle.expansion.specs.Charges.{chargeIf, charge, chargeEach, paid}
 use Rattle.expansion.specs.Values.{valueOf, copyData, value, clone}
 use Rattle.expansion.specs.Externs.{lookupExtern, declare, externProto}
 use Rattle.expansion.specs.PlainCopy.{reserveIf, reserve, copyOrigin, associate, isField, copyBinding, copyField, isInterface, copyTarget, copyInterface, copyRoute, copyExtern, copyStatement, somes, keptOrder, contents, copyPlain}
-use Rattle.expansion.specs.Instances.{pushScope, openScope, takeDefault, cloneOption, interfaceValue, store, values, place, bodyStatement, rootOf, associationsOf, recordInstance, instantiate}
+use Rattle.expansion.specs.Instances.{pushScope, openScope, takeDefault, cloneOr, interfaceValue, store, values, place, bodyStatement, rootOf, associationsOf, recordInstance, instantiate}
 use Rattle.expansion.specs.Copy.{copyNode, mappedOr, copy}
 use Rattle.expansion.specs.Expand.{statement, statements, Expansion, Answer, answer, expand}
 
@@ -85,18 +85,10 @@ scene l ns ps s = record { root = document ns ps [] s; library = []; limits = l 
 
 -- ---- an answer in numbers
 
-abbrev bodyCount : Bool → ℕ
-bodyCount true = 1
-bodyCount false = 0
-
-abbrev bodyScopes : List Scope → ℕ
-bodyScopes [] = 0
-bodyScopes (e ∷ l) = bodyCount (isBody e) + bodyScopes l
-
 -- refused: the number and the two places; accepted: 0, nodes, scopes, body scopes, charges
 abbrev pub counts : Answer → List ℕ
 counts (Answer.Refused c d i) = c ∷ d ∷ i ∷ []
-counts (Answer.Expanded e) = 0 ∷ e .nodeCount ∷ e .scopeCount ∷ bodyScopes (e .scopes) ∷ e .charges ∷ []
+counts (Answer.Expanded e) = 0 ∷ e .nodeCount ∷ e .scopeCount ∷ countIf isBody (e .scopes) ∷ e .charges ∷ []
 
 -- what is seen of an accepted expansion
 abbrev pub seen : {A : Type 0} → (Expansion → A) → Answer → Option A
@@ -105,5 +97,5 @@ seen g (Answer.Expanded e) = some (g e)
 
 -- a proof that unfolds this computes the definition
 unfoldable pub computed : Input → Answer
-unfolding nodeAt protoAt externProtoAt firstFile topProtos firstNamed pickIn pickUrl member remember pickUrls picksFrom picks pickOf protoOf lastField bindR mapM foldM lookup chargeIf charge chargeEach paid valueOf copyData value clone lookupExtern declare externProto reserveIf reserve copyOrigin associate isField copyBinding copyField isInterface copyTarget copyInterface copyRoute copyExtern copyStatement somes keptOrder contents copyPlain pushScope openScope takeDefault cloneOption interfaceValue store values place bodyStatement rootOf associationsOf recordInstance instantiate copyNode mappedOr copy statement statements answer expand
+unfolding nodeAt protoAt externProtoAt firstFile topProtos firstNamed pickIn pickUrl member remember pickUrls picksFrom picks pickOf protoOf lastField bindR mapM foldM lookup chargeIf charge chargeEach paid valueOf copyData value clone lookupExtern declare externProto reserveIf reserve copyOrigin associate isField copyBinding copyField isInterface copyTarget copyInterface copyRoute copyExtern copyStatement somes keptOrder contents copyPlain pushScope openScope takeDefault cloneOr interfaceValue store values place bodyStatement rootOf associationsOf recordInstance instantiate copyNode mappedOr copy statement statements answer expand
 computed I = expand I

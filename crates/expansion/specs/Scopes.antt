@@ -22,6 +22,11 @@ isBody Scope.Root = false
 isBody (Scope.Body p n) = true
 isBody (Scope.Default p k n) = false
 
+abbrev pub isDefault : Scope → Bool
+isDefault Scope.Root = false
+isDefault (Scope.Body p n) = false
+isDefault (Scope.Default p k n) = true
+
 -- "Its entry: kind (0 root, 1 body, 2 default), document, PROTO id, interface index from 0 (defaults only), opening scope; otherwise 0."
 abbrev pub scopeEntry : Scope → List ℕ
 scopeEntry Scope.Root = 0 ∷ 0 ∷ 0 ∷ 0 ∷ 0 ∷ []

@@ -103,10 +103,12 @@ pub record Accepted (c : Call) (r : After) : Type 0 where
   -- Demand 3, sentence by sentence, with the lines of `Expanded` that say it of these words:
   -- "No PROTO and no instance, as document 01 defines them, is left in its output.": noProto, noInstance.
   -- "Every node id of the output is below the node count, and that count is at most the node limit.": ids, nodeCount, nodeLimit.
-  -- "the scope list has one entry for each scope that these steps open, and no other": steps, scopes, scopeCount.
+  -- "the scope list has one entry for each scope that these steps open, and no other": steps, opens, scopes, scopeCount.
+  -- Document 02, wish 6, "an instance's field bound by IS to something without a value now takes the inner prototype's default, in a default scope": defaults.
   -- "The node count = the sum, over all these scopes, of the plain nodes reached in each, by document 01's closure.": nodesReached.
   -- "The ledger has, for each of these scopes and each plain node reached in it, exactly one entry with that scope, document and source id, and no other entry.": ledgerOnce, ledger, ledgerSize.
   -- "And only a loop doubles a pod: whenever no instance reached in any of these scopes reaches itself, the body scopes opened = the sum, over all these scopes, of the instances reached in each.": pods.
+  -- Document 02, wish 6, "The double-count guarantee covers the new default scopes as well.": defaultCount.
   pub expanded : Expanded (input c) (said r)
   -- "The output is exactly what document 01's steps give"
   pub steps : expand (input c) ≡ Answer.Expanded (said r)

@@ -21,7 +21,7 @@ use Rattle.expansion.specs.Charges.{oneMore, chargeIf, charge, chargeEach, paid
 use Rattle.expansion.specs.Values.{Values, valueOf, Env, src, Copier, copyData, value, clone}
 use Rattle.expansion.specs.Externs.{lookupExtern, noValue, pushExtern, declare, externProto}
 use Rattle.expansion.specs.PlainCopy.{blank, reserveIf, reserve, copyOrigin, associate, isValue, isField, copyBinding, copyField, isInterface, copyTarget, copyInterface, remapRoute, copyRoute, copyExtern, copyStatement, somes, keptOrder, contents, copyPlain}
-use Rattle.expansion.specs.Instances.{pushScope, openScope, takeDefault, cloneOption, interfaceValue, store, values, Body, place, bodyStatement, rootOf, associationsOf, nestedRoots, nestedRoutes, withInstance, update, recordInstance, instantiate}
+use Rattle.expansion.specs.Instances.{pushScope, openScope, takeDefault, cloneOr, interfaceValue, store, values, Body, place, bodyStatement, rootOf, associationsOf, nestedRoots, nestedRoutes, withInstance, update, recordInstance, instantiate}
 use Rattle.expansion.specs.Copy.{copyNode, mappedOr, copy}
 use Rattle.expansion.specs.Expand.{statement, rootEnv, statements, output}
 use Rattle.expansion.specs.Proofs.Outcome.{Outcome, refused, accepted, Any, bindOut, mapOut, atOk}
@@ -396,15 +396,15 @@ module _ (I : Input) (given : InputInRange I) where
   takeDefault-good f hf e none h = good-ret tt
   takeDefault-good f hf e (some v) h = good-bind (openScope-good e) (λ n p. good-bind (value-good (f (record { scope = n; entry = e; isValues = none })) (hf (record { scope = n; entry = e; isValues = none }) tt) v (h .tag)) (λ v′ q. good-ret q))
 
-  cloneOption-good : (o : Option FieldValue) → DefaultInRange o → Good I DefaultInRange (cloneOption I o)
-  unfolding cloneOption
-  cloneOption-good none h = good-ret tt
-  cloneOption-good (some v) h = good-bind (clone-good v h) (λ v′ p. good-ret p)
+  cloneOr-good : {instead : Comp (Option FieldValue)} → Good I DefaultInRange instead → (o : Option FieldValue) → DefaultInRange o → Good I DefaultInRange (cloneOr I instead o)
+  unfolding cloneOr
+  cloneOr-good hd none h = hd
+  cloneOr-good hd (some v) h = good-bind (clone-good v h) (λ v′ p. good-ret p)
 
   interfaceValue-good : (f : Env → Copier) → Goods f → (env : Env) → EnvOk env → (e : Scope) (default : Option FieldValue) → DefaultInRange default → (b : Option FieldBinding) → Opt BindingInRange b → Good I DefaultInRange (interfaceValue I f env e default b)
   unfolding interfaceValue
   interfaceValue-good f hf env he e default hd (some (FieldBinding.Value v)) h = good-bind (value-good (f env) (hf env he) v (h .tag)) (λ v′ p. good-ret p)
-  interfaceValue-good f hf env he e default hd (some (FieldBinding.Is t)) h = cloneOption-good (andThen (env .isValues) (valueOf t)) (given-ok t env he)
+  interfaceValue-good f hf env he e default hd (some (FieldBinding.Is t)) h = cloneOr-good (takeDefault-good f hf e default hd) (andThen (env .isValues) (valueOf t)) (given-ok t env he)
   interfaceValue-good f hf env he e default hd none h = takeDefault-good f hf e default hd
 
   store-good : (name : ℕ) (vs : Values) → ValuesInRange vs → (v : Option FieldValue) → DefaultInRange v → Good I ValuesInRange (store I name vs v)

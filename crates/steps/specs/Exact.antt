@@ -1,17 +1,17 @@
 -- What holds of the world after a whole run, from the root's scope open and nothing mapped.
 use mathlib.Core.Path.{_≡_, refl, ap, sym, subst}
 use mathlib.Core.Logic.{_⊎_, inl, inr, _↔_}
-use mathlib.Core.List.{List, [], _∷_, _++_, map, List·Memᴰ, List·Memᴰ·head, List·Memᴰ·tail, List·Memᴰ·cases-cons, List·Memᴰ·append-cases, Memᴰ·append-left, List·Memᴰ·not-nil}
+use mathlib.Core.List.{List, [], _∷_, map, List·Memᴰ, List·Memᴰ·head, List·Memᴰ·tail, List·Memᴰ·cases-cons, List·Memᴰ·append-cases, Memᴰ·append-left, List·Memᴰ·not-nil}
 use mathlib.Core.Bool.{true, false}
-use Prim.Native.Nat.{ℕ, zero, suc, _+_, _<_}
+use Prim.Native.Nat.{ℕ, zero, suc, _<_}
 use native.Mathlib.Nat.{le-trans}
 use native.Mathlib.Omega.{arith}
 use lib.ListN.{length, length-append}
-use Rattle.steps.specs.Lists.{Nodup}
-use Rattle.steps.specs.ListLaws.{nodup-append, fiber, fiber-in, fiber-out, fiber-nodup, fiber-sum}
+use Rattle.steps.specs.Lists.{Nodup, oneIf}
+use Rattle.steps.specs.ListLaws.{nodup-append, count-append, fiber, fiber-in, fiber-out, fiber-nodup, fiber-sum}
 use Rattle.steps.specs.Steps.{copyId, copies, Graph, Plain, Instance, Reached, start, step, ReachedIn, World, addMapped, addPlain, addDefault, addBody, firstWorld, Mapped, Listed, Opener, count, Task, Run, mappedStep, plainStep, instanceStep, noAction, thenCopy, thenDefault, WholeRun}
 use Rattle.steps.specs.Laws.{copies-map}
-use Rattle.steps.specs.Sums.{oneIf, Total, bodies, NoLoop, Exact}
+use Rattle.steps.specs.Sums.{Sum, Total, bodies, NoLoop, Exact}
 use Rattle.steps.specs.Gain.{entryAt, Extends, OpenAs, Complete, Opened, Source, ownScope, openedScope, Copied, numberOf, entryOf, idsOf, copied, extends-trans, extends-open, open-up, open-new}
 
 module _ (G : Graph) (agrees : (e : G .Scope) (j : ℕ) → copies (G .actions e j) ≡ G .nexts e j) where
@@ -19,11 +19,6 @@ module _ (G : Graph) (agrees : (e : G .Scope) (j : ℕ) → copies (G .actions e
   World′ = World (G .Scope)
 
   -- ---- bookkeeping
-
-  -- A scope at the end counts if it is a body's.
-  bodies-append : (l : List (G .Scope)) (e : G .Scope) → bodies G (l ++ (e ∷ [])) ≡ bodies G l + oneIf (G .isBody e)
-  bodies-append [] e = omega arith
-  bodies-append (x ∷ l) e = omega (arith, bodies-append l e)
 
   -- the books: no ledger entry twice, each of a plain node that is mapped; openers are of open scopes, one to a body scope
   record Inv (w : World′) : Type 0 where
@@ -63,7 +58,7 @@ module _ (G : Graph) (agrees : (e : G .Scope) (j : ℕ) → copies (G .actions e
     once = v .once;
     source = λ s j h. let q = v .source s j h in let x = extends-open G w (addDefault b w) b refl in (le-trans (q .0) (x .grow), q .1, rw (x .same s (q .0)) (q .2));
     below = λ s j h. omega (arith, v .below s j h, length-append (w .scopes) (b ∷ []));
-    pods = omega (arith, bodies-append (w .scopes) b, ap oneIf tb, v .pods);
+    pods = omega (arith, count-append (G .isBody) (w .scopes) (b ∷ []), ap oneIf tb, v .pods);
   }
 
   -- A body scope keeps the books.
@@ -72,7 +67,7 @@ module _ (G : Graph) (agrees : (e : G .Scope) (j : ℕ) → copies (G .actions e
     once = v .once;
     source = λ s j h. let q = v .source s j h in let x = extends-open G w (addBody n id b w) b refl in (le-trans (q .0) (x .grow), q .1, rw (x .same s (q .0)) (q .2));
     below = λ s j h. at s j (List·Memᴰ·cases-cons h);
-    pods = omega (arith, bodies-append (w .scopes) b, ap oneIf tb, v .pods);
+    pods = omega (arith, count-append (G .isBody) (w .scopes) (b ∷ []), ap oneIf tb, v .pods);
   }
     where
       at : (s j : ℕ) → (_≡_ {A = ℕ × ℕ} (s, j) (n, id)) ⊎ Opener w s j → s < count (addBody n id b w)
@@ -231,7 +226,7 @@ module _ (G : Graph) (agrees : (e : G .Scope) (j : ℕ) → copies (G .actions e
     starts-mapped (suc s) i lt m = s₀ .gain .fresh (suc s) (omega arith) lt i m
 
     -- What is reached is mapped.
-    reached-mapped : (s : ℕ) → s < count w → {j : ℕ} → ReachedIn G (entryAt G w s) j → Mapped w s j
+    pub reached-mapped : (s : ℕ) → s < count w → {j : ℕ} → ReachedIn G (entryAt G w s) j → Mapped w s j
     reached-mapped s lt (start m) = starts-mapped s _ lt m
     reached-mapped s lt (step {i} {j} q m) = (done s i (reached-mapped s lt q)) .nexts j m
 
@@ -246,25 +241,33 @@ module _ (G : Graph) (agrees : (e : G .Scope) (j : ℕ) → copies (G .actions e
     )
 
     -- The instances that opened a body are those reached.
-    openers : (s j : ℕ) → Opener w s j ↔ ((s < count w) × Instance G (entryAt G w s) j × ReachedIn G (entryAt G w s) j)
+    pub openers : (s j : ℕ) → Opener w s j ↔ ((s < count w) × Instance G (entryAt G w s) j × ReachedIn G (entryAt G w s) j)
     openers s j = (λ h. at (s₀ .gain .newOpener s j h), λ q. (done s j (reached-mapped s (q .0) (q .2))) .opener (q .1))
       where
         at : Opener (firstWorld (G .root)) s j ⊎ (Source G 0 (G .root) (G .starts (G .root)) (firstWorld (G .root)) w s j × Opened G w s j) → (s < count w) × Instance G (entryAt G w s) j × ReachedIn G (entryAt G w s) j
         at (inl x) = absurd (List·Memᴰ·not-nil x)
         at (inr x) = let y = mapped-reached s j (x .1 .mapped) in (y .0, x .1 .isInstance, y .1)
 
-    -- A list of pairs, none twice, that holds what P says of each scope, is as long as the total.
-    totals : (P : G .Scope → ℕ → Type 0) (l : List (ℕ × ℕ)) → Nodup l → ((s j : ℕ) → List·Memᴰ (s, j) l ↔ ((s < count w) × P (entryAt G w s) j × ReachedIn G (entryAt G w s) j)) → Total G P (w .scopes) (length l)
-    totals P l d ex = record {
+    -- A list of pairs, none twice, that holds what Q says of each scope, is as long as the sum.
+    pub sums : {A : Type 0} (Q : G .Scope → A → Type 0) (l : List (ℕ × A)) → Nodup l → ((s : ℕ) (x : A) → List·Memᴰ (s, x) l ↔ ((s < count w) × Q (entryAt G w s) x)) → Sum G Q (w .scopes) (length l)
+    sums Q l d ex = record {
       each = λ s. length (fiber s l);
       counts = λ s lt. record {
         list = fiber s l;
         once = fiber-nodup s l d;
-        exact = λ j. (λ m. let q = ex s j .0 (fiber-out s j l m) in (q .1, q .2), λ q. fiber-in s j l (ex s j .1 (lt, q .0, q .1)));
+        exact = λ x. (λ m. (ex s x .0 (fiber-out s x l m)) .1, λ q. fiber-in s x l (ex s x .1 (lt, q)));
         size = refl;
       };
       total = fiber-sum (count w) l (λ x m. (ex (x .0) (x .1) .0 m) .0);
     }
+
+    -- No instance opened two.
+    pub openers-once : NoLoop G (w .scopes) → Nodup (w .openers)
+    openers-once nl = nodup-openers r at0 inv0 nl (λ i m. start (rw copies-map at m)) (λ j h. absurd (List·Memᴰ·not-nil h)) tt
+
+    -- The number of the ids with P reached in each scope, by a list of them.
+    totals : (P : G .Scope → ℕ → Type 0) (l : List (ℕ × ℕ)) → Nodup l → ((s j : ℕ) → List·Memᴰ (s, j) l ↔ ((s < count w) × P (entryAt G w s) j × ReachedIn G (entryAt G w s) j)) → Total G P (w .scopes) (length l)
+    totals P l d ex = sums (λ e j. P e j × ReachedIn G e j) l d (λ s j. (λ m. let q = ex s j .0 m in (q .0, (q .1, q .2)), λ q. ex s j .1 (q .0, q .1 .0, q .1 .1)))
 
     -- Ledger, sums and pods of a whole run.
     pub exact : Exact G w
@@ -272,5 +275,5 @@ module _ (G : Graph) (agrees : (e : G .Scope) (j : ℕ) → copies (G .actions e
       once = last .once;
       ledger = ledgered;
       nodes = totals (Plain G) (w .ledger) (last .once) ledgered;
-      pods = λ nl. rw (last .pods) (totals (Instance G) (w .openers) (nodup-openers r at0 inv0 nl (λ i m. start (rw copies-map at m)) (λ j h. absurd (List·Memᴰ·not-nil h)) tt) openers);
+      pods = λ nl. rw (last .pods) (totals (Instance G) (w .openers) (openers-once nl) openers);
     }

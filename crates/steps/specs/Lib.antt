@@ -6,3 +6,4 @@ pub mod Laws
 pub mod Unique
 pub mod Gain
 pub mod Exact
+pub mod Defaults

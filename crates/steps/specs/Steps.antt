@@ -39,6 +39,12 @@ copies [] = []
 copies (copyId i ∷ l) = i ∷ copies l
 copies (openDefault b ∷ l) = copies l
 
+-- the default scopes that actions open, for the node's scope's number
+abbrev pub defaults : {S : Type 0} → List (Action S) → List (ℕ → S)
+defaults [] = []
+defaults (copyId i ∷ l) = defaults l
+defaults (openDefault b ∷ l) = b ∷ defaults l
+
 -- ---- reached
 
 -- the least set that holds the ids of ss and is closed under the steps of the scope e

@@ -6,7 +6,7 @@ use native.Mathlib.Omega.{arith}
 use native.Mathlib.Nat.{le-antisymm}
 use lib.ListN.{length}
 use Rattle.steps.specs.ListLaws.{nodup-length, sum-same}
-use Rattle.steps.specs.Sums.{Count, Total}
+use Rattle.steps.specs.Sums.{Count, Sum}
 use Rattle.steps.specs.Steps.{Kind, plainNode, instanceNode, Action, copyId, openDefault, Graph, Plain, World, addMapped, addPlain, addDefault, addBody, count, Mapped, Task, one, all, Run, mappedStep, plainStep, instanceStep, noAction, thenCopy, thenDefault}
 
 plain-not-instance : {S : Type 0} {k : Kind S} {b : ℕ → S} → k ≡ plainNode → k ≡ instanceNode b → ⊥
@@ -72,12 +72,11 @@ run-unique noAction = nothing-ends
 run-unique (thenCopy a b) = copy-ends (run-unique a) (run-unique b)
 run-unique (thenDefault b tb x y) = default-ends (run-unique x) (run-unique y)
 
-module _ (G : Graph) where
-  -- The number of ids reached in a scope is one.
-  pub count-unique : {P : G .Scope → ℕ → Type 0} {e : G .Scope} {k l : ℕ} → Count G P e k → Count G P e l → k ≡ l
-  count-unique a b =
-      sym (a .size) ∙ le-antisymm (nodup-length _ _ (a .once) (λ x m. b .exact x .1 (a .exact x .0 m))) (nodup-length _ _ (b .once) (λ x m. a .exact x .1 (b .exact x .0 m))) ∙ b .size
+-- The number of the things with Q is one.
+pub count-unique : {A : Type 0} {Q : A → Type 0} {k l : ℕ} → Count Q k → Count Q l → k ≡ l
+count-unique a b =
+    sym (a .size) ∙ le-antisymm (nodup-length _ _ (a .once) (λ x m. b .exact x .1 (a .exact x .0 m))) (nodup-length _ _ (b .once) (λ x m. a .exact x .1 (b .exact x .0 m))) ∙ b .size
 
-  -- The sum over the scopes is one.
-  pub total-unique : {P : G .Scope → ℕ → Type 0} {scopes : List (G .Scope)} {n m : ℕ} → Total G P scopes n → Total G P scopes m → n ≡ m
-  total-unique {scopes = scopes} a b = a .total ∙ sum-same (length scopes) (a .each) (b .each) (λ s h. count-unique (a .counts s h) (b .counts s h)) ∙ sym (b .total)
+-- The sum over the scopes is one.
+pub sum-unique : (G : Graph) {A : Type 0} {Q : G .Scope → A → Type 0} {scopes : List (G .Scope)} {n m : ℕ} → Sum G Q scopes n → Sum G Q scopes m → n ≡ m
+sum-unique G {scopes = scopes} a b = a .total ∙ sum-same (length scopes) (a .each) (b .each) (λ s h. count-unique (a .counts s h) (b .counts s h)) ∙ sym (b .total)

@@ -51,17 +51,18 @@ use Rattle.expander.proofs.+body+copy+field+fields+given+instantiate+in
 use Rattle.expander.proofs.values.Reads as values
 use Rattle.expander.proofs.values.Kinds as values-kinds
 use Rattle.expander.proofs.+body+copy+field+fields+given+instantiate+interface+interfaces+plain+statement+value+values.Lts-values as values-lts
+use Rattle.bindings.proofs.has_value.Reads as has-value-reads
 use Rattle.bindings.proofs.is_field.Reads as is-field-reads
 use Rattle.bindings.proofs.is_given.Reads as is-given-reads
 use Rattle.bindings.proofs.is_interface.Reads as is-interface-reads
 use Rattle.bindings.proofs.record_instance.Reads as record-instance-reads
+use Rattle.directory.proofs.number.Reads as number-reads
 use Rattle.expander.proofs.add_field.Reads as add-field-reads
 use Rattle.expander.proofs.bare.Reads as bare-reads
 use Rattle.expander.proofs.kept.Reads as kept-reads
 use Rattle.expander.proofs.next.Reads as next-reads
 use Rattle.expander.proofs.origin.Reads as origin-reads
 use Rattle.expander.proofs.row_of.Reads as row-of-reads
-use Rattle.words.proofs.wide.Reads as wide-reads
 use Rattle.journal.proofs.word.Reads as word-reads
 use Rattle.parts.proofs.extern_proto.Reads as extern-proto-reads
 use Rattle.parts.proofs.order.Reads as order-reads
@@ -74,11 +75,11 @@ use Rattle.refine.proofs.open.Reads as open-reads
 use Rattle.refine.proofs.own.Reads as own-reads
 use Rattle.refine.proofs.reserve.Reads as reserve-reads
 use Rattle.refine.proofs.store.Reads as store-reads
-use Rattle.directory.proofs.number.Reads as number-reads
 use Rattle.source.proofs.last_field.Reads as last-field-reads
 use Rattle.source.proofs.node.Reads as node-reads
 use Rattle.source.proofs.proto.Reads as proto-reads
 use Rattle.source.proofs.target.Reads as target-reads
+use Rattle.words.proofs.wide.Reads as wide-reads
 use Rattle.expander.proofs.+body+copy+field+fields+given+instantiate+interface+interfaces+plain+statement+value+values.{statement}
 use Rattle.expander.proofs.+body+copy+field+fields+given+instantiate+interface+interfaces+plain+statement+value+values.Tie.{close}
 use Rattle.expander.proofs.+body+copy+field+fields+given+instantiate+interface+interfaces+plain+statement+value+values.Proof.Setup.{μ-body, μ-copy, μ-field, μ-fields, μ-given, μ-instantiate, μ-interface, μ-interfaces, μ-plain, μ-statement, μ-value, μ-values, body-at, body-below, copy-at, copy-below, field-at, field-below, fields-at, fields-below, given-at, given-below, instantiate-at, instantiate-below, interface-at, interface-below, interfaces-at, interfaces-below, plain-at, plain-below, statement-at, statement-below, value-at, value-below, values-at, values-below, body-cs, copy-cs, field-cs, fields-cs, given-cs, instantiate-cs, interface-cs, interfaces-cs, plain-cs, statement-cs, value-cs, values-cs}
@@ -86,7 +87,7 @@ use Rattle.expander.proofs.+body+copy+field+fields+given+instantiate+in
 use Rattle.expander.proofs.+body+copy+field+fields+given+instantiate+interface+interfaces+plain+statement+value+values.Proof.Copy.{copy-look-requires, copy-enum-known-r, copy-word-requires, copy-word-requires-2, copy-same-length, copy-returns, copy-enum-told, copy-node-requires, copy-enum-known-row, copy-enum-told-2, copy-number-requires, copy-same-length-2, copy-returns-2, copy-same-length-3, copy-returns-3, copy-row-of-requires, copy-target-requires, copy-enum-known-x, copy-enum-told-3, copy-sub-plain, copy-plain-requires, copy-same-length-4, copy-returns-4, copy-sub-instantiate, copy-instantiate-requires, copy-same-length-5, copy-returns-5}
 use Rattle.expander.proofs.+body+copy+field+fields+given+instantiate+interface+interfaces+plain+statement+value+values.Proof.Field.{field-row-of-requires, field-is-field-requires, field-same-length, field-returns, field-add-field-requires, field-same-length-2, field-returns-2, field-add-next, field-next-requires, field-enum-told, field-enum-told-2, field-add-field-requires-2, field-same-length-3, field-returns-3, field-value-requires, field-enum-known-a, field-enum-told-3, field-same-length-4, field-returns-4, field-add-field-requires-3, field-same-length-5, field-returns-5}
 use Rattle.expander.proofs.+body+copy+field+fields+given+instantiate+interface+interfaces+plain+statement+value+values.Proof.Fields.{fields-Inv-loop, fields-μ-loop, fields-add-at, fields-loop-holds, fields-next-requires, fields-enum-known-q, fields-enum-told, fields-same-length, fields-returns, fields-add-at-2, fields-field-requires, fields-enum-known-a, fields-enum-told-2, fields-same-length-2, fields-returns-2, fields-loop-less, fields-loop-again}
-use Rattle.expander.proofs.+body+copy+field+fields+given+instantiate+interface+interfaces+plain+statement+value+values.Proof.Given.{given-row-of-requires, given-last-field-requires, given-enum-known-f, given-row-of-requires-2, given-is-given-requires, given-same-length, given-returns, given-value-requires, given-enum-known-a, given-enum-told, given-same-length-2, given-returns-2, given-store-requires, given-same-length-3, given-returns-3, given-enum-told-2, given-same-length-4, given-returns-4, given-number-requires, given-open-requires, given-enum-known-a-2, given-enum-told-3, given-same-length-5, given-returns-5, given-wide-requires, given-value-requires-2, given-enum-known-b, given-enum-told-4, given-same-length-6, given-returns-6, given-store-requires-2, given-same-length-7, given-returns-7}
+use Rattle.expander.proofs.+body+copy+field+fields+given+instantiate+interface+interfaces+plain+statement+value+values.Proof.Given.{given-row-of-requires, given-last-field-requires, given-enum-known-f, given-row-of-requires-2, given-value-requires, given-enum-known-a, given-enum-told, given-same-length, given-returns, given-store-requires, given-same-length-2, given-returns-2, given-has-value-requires, given-is-given-requires, given-same-length-3, given-returns-3, given-enum-told-2, given-same-length-4, given-returns-4, given-number-requires, given-open-requires, given-enum-known-a-2, given-enum-told-3, given-same-length-5, given-returns-5, given-wide-requires, given-value-requires-2, given-enum-known-b, given-enum-told-4, given-same-length-6, given-returns-6, given-store-requires-2, given-same-length-7, given-returns-7}
 use Rattle.expander.proofs.+body+copy+field+fields+given+instantiate+interface+interfaces+plain+statement+value+values.Proof.Instantiate.{instantiate-number-requires, instantiate-proto-requires, instantiate-enum-known-decl, instantiate-enum-told, instantiate-same-length, instantiate-returns, instantiate-values-requires, instantiate-enum-known-a, instantiate-enum-told-2, instantiate-same-length-2, instantiate-returns-2, instantiate-open-requires, instantiate-enum-known-a-2, instantiate-enum-told-3, instantiate-same-length-3, instantiate-returns-3, instantiate-wide-requires, instantiate-body-requires, instantiate-enum-known-a-3, instantiate-enum-told-4, instantiate-same-length-4, instantiate-returns-4, instantiate-same-length-5, instantiate-returns-5, instantiate-row-of-requires, instantiate-row-of-requires-2, instantiate-record-instance-requires, instantiate-same-length-6, instantiate-returns-6}
 use Rattle.expander.proofs.+body+copy+field+fields+given+instantiate+interface+interfaces+plain+statement+value+values.Proof.Interface.{interface-row-of-requires, interface-is-interface-requires, interface-same-length, interface-returns, interface-value-requires, interface-enum-known-a, interface-enum-told, interface-same-length-2, interface-returns-2, interface-keep-requires, interface-same-length-3, interface-returns-3}
 use Rattle.expander.proofs.+body+copy+field+fields+given+instantiate+interface+interfaces+plain+statement+value+values.Proof.Interfaces.{interfaces-Inv-loop, interfaces-μ-loop, interfaces-add-at, interfaces-loop-holds, interfaces-next-requires, interfaces-enum-known-q, interfaces-enum-told, interfaces-same-length, interfaces-returns, interfaces-add-at-2, interfaces-interface-requires, interfaces-enum-known-a, interfaces-enum-told-2, interfaces-same-length-2, interfaces-returns-2, interfaces-loop-less, interfaces-loop-again}
@@ -207,15 +208,16 @@ pub +body+copy+field+fields+given+instantiate+interface+interfaces+plain+stateme
     (given-last-field-requires t)
     (given-enum-known-f t)
     (given-row-of-requires-2 t)
-    (given-is-given-requires t)
-    (given-same-length t)
-    (given-returns t)
     (given-value-requires t)
     (given-enum-known-a t)
     (given-enum-told t)
+    (given-same-length t)
+    (given-returns t)
+    (given-store-requires t)
     (given-same-length-2 t)
     (given-returns-2 t)
-    (given-store-requires t)
+    (given-has-value-requires t)
+    (given-is-given-requires t)
     (given-same-length-3 t)
     (given-returns-3 t)
     (given-enum-told-2 t)

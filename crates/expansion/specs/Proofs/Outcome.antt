@@ -29,6 +29,16 @@ module _ {R : ℕ → ℕ → ℕ → Type 0} where
   ofRefusal : {A : Type 0} {P : A → State → Type 0} {c d i : ℕ} → Outcome R P (refusal c d i) → R c d i
   ofRefusal (refused r) = r
 
+  -- Two things hold of an answer.
+  pub both : {A : Type 0} {Q P : A → State → Type 0} (m : Result A) → Outcome R Q m → Outcome R P m → Outcome R (λ a s. Q a s × P a s) m
+  both (refusal c d i) (refused r) k = refused r
+  both (ok a s) h k = accepted (ofOk h, ofOk k)
+
+  -- What holds of an answer for each x.
+  pub each : {A B : Type 0} {P : B → A → State → Type 0} (m : Result A) → B → ((x : B) → Outcome R (P x) m) → Outcome R (λ a s. (x : B) → P x a s) m
+  each (refusal c d i) x h = refused (ofRefusal (h x))
+  each (ok a s) x h = accepted (λ y. ofOk (h y))
+
   -- What holds of a result that is an answer, or a refusal.
   pub atOk : {A : Type 0} {P : A → State → Type 0} {m : Result A} {a : A} {s : State} → Outcome R P m → m ≡ ok a s → P a s
   atOk h e = ofOk (rw e at h)

@@ -21,7 +21,7 @@ use Rattle.expansion.specs.Charges.{chargeIf, charge, chargeEach, paid}
 use Rattle.expansion.specs.Values.{Values, valueOf, Env, src, Copier, copyData, value, clone}
 use Rattle.expansion.specs.Externs.{lookupExtern, noValue, pushExtern, declare, externProto}
 use Rattle.expansion.specs.PlainCopy.{blank, addNode, reserveIf, reserve, copyOrigin, associate, isValue, isField, copyBinding, copyField, isInterface, copyTarget, copyInterface, remapRoute, copyRoute, copyExtern, copyStatement, somes, keptOrder, contents, copyPlain}
-use Rattle.expansion.specs.Instances.{pushScope, openScope, takeDefault, cloneOption, interfaceValue, store, values, Body, place, bodyStatement, rootOf, associationsOf, nestedRoots, nestedRoutes, withInstance, update, recordInstance, instantiate}
+use Rattle.expansion.specs.Instances.{pushScope, openScope, takeDefault, cloneOr, interfaceValue, store, values, Body, place, bodyStatement, rootOf, associationsOf, nestedRoots, nestedRoutes, withInstance, update, recordInstance, instantiate}
 use Rattle.expansion.specs.Copy.{copyNode, mappedOr, copy}
 use Rattle.expansion.specs.Expand.{statement, rootEnv, statements}
 use Rattle.expansion.specs.Expanded.{ClassZero}
@@ -571,15 +571,15 @@ module _ (I : Input) where
       good-bind (openScope-good m e) (λ k n1 h1 p1. good-bind (value-good (f (record { scope = k; entry = e; isValues = none })) n1 (λ i n q. hf (record { scope = k; entry = e; isValues = none }) n tt i) n1 (le-refl _) v)
       (λ v′ n2 h2 p2. good-ret (λ n q. value-up n2 n v′ q p2)))
 
-  cloneOption-good : (m : ℕ) (o : Option FieldValue) → Opt ValueOk m o → Good I m (Opt ValueOk) (cloneOption I o)
-  unfolding cloneOption
-  cloneOption-good m none h = good-ret (λ n q. tt)
-  cloneOption-good m (some v) h = good-bind (clone-good m v h) (λ v′ n1 h1 p1. good-ret (λ n q. value-up n1 n v′ q p1))
+  cloneOr-good : (m : ℕ) {instead : Comp (Option FieldValue)} → Good I m (Opt ValueOk) instead → (o : Option FieldValue) → Opt ValueOk m o → Good I m (Opt ValueOk) (cloneOr I instead o)
+  unfolding cloneOr
+  cloneOr-good m hd none h = hd
+  cloneOr-good m hd (some v) h = good-bind (clone-good m v h) (λ v′ n1 h1 p1. good-ret (λ n q. value-up n1 n v′ q p1))
 
   interfaceValue-good : (f : Env → Copier) → Goods f → (env : Env) (m : ℕ) → EnvOk m env → (e : Scope) (default : Option FieldValue) (given : Option FieldBinding) → Good I m (Opt ValueOk) (interfaceValue I f env e default given)
   unfolding interfaceValue
   interfaceValue-good f hf env m he e default (some (FieldBinding.Value v)) = good-bind (value-good (f env) m (λ i n q. hf env n (env-up m n env q he) i) m (le-refl _) v) (λ v′ n1 h1 p1. good-ret (λ n q. value-up n1 n v′ q p1))
-  interfaceValue-good f hf env m he e default (some (FieldBinding.Is t)) = cloneOption-good m (andThen (env .isValues) (valueOf t)) (given-ok m t env he)
+  interfaceValue-good f hf env m he e default (some (FieldBinding.Is t)) = cloneOr-good m (takeDefault-good f hf m e default) (andThen (env .isValues) (valueOf t)) (given-ok m t env he)
   interfaceValue-good f hf env m he e default none = takeDefault-good f hf m e default
 
   store-good : (m name : ℕ) (vs : Values) (v : Option FieldValue) → ValuesOk m vs → Opt ValueOk m v → Good I m ValuesOk (store I name vs v)

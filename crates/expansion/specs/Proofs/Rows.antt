@@ -21,7 +21,7 @@ use Rattle.expansion.specs.Charges.{oneMore, chargeIf, charge, chargeEac
 use Rattle.expansion.specs.Values.{Values, valueOf, Env, src, Copier, copyData, value, clone}
 use Rattle.expansion.specs.Externs.{lookupExtern, noValue, pushExtern, declare, externProto}
 use Rattle.expansion.specs.PlainCopy.{blank, addNode, reserveIf, reserve, copyOrigin, pushAssociation, associate, isValue, isField, copyBinding, copyField, isInterface, copyTarget, copyInterface, remapRoute, copyRoute, copyExtern, copyStatement, somes, keptOrder, contents, copyPlain}
-use Rattle.expansion.specs.Instances.{pushScope, openScope, takeDefault, cloneOption, interfaceValue, store, values, Body, addEntry, place, bodyStatement, rootOf, associationsOf, nestedRoots, nestedRoutes, withInstance, update, recordInstance, instantiate}
+use Rattle.expansion.specs.Instances.{pushScope, openScope, takeDefault, cloneOr, interfaceValue, store, values, Body, addEntry, place, bodyStatement, rootOf, associationsOf, nestedRoots, nestedRoutes, withInstance, update, recordInstance, instantiate}
 use Rattle.expansion.specs.Copy.{copyNode, mappedOr, copy}
 use Rattle.expansion.specs.Expand.{statement, rootEnv, statements}
 use Rattle.expansion.specs.Outputs.{sumOf, fieldRows, interfaceRows, instanceRows, contentRows, nodeRows, externRows}
@@ -381,15 +381,15 @@ module _ (I : Input) where
       denv : ℕ → Env
       denv m = record { scope = m; entry = e; isValues = none }
 
-  cloneOption-cov : (n : ℕ) (ω : ℕ → Bool) (k : ℕ) (o : Option FieldValue) → Cov I n ω k (cloneOption I o) (λ x. k)
-  unfolding cloneOption
-  cloneOption-cov n ω k none = cov-ret n ω none (le-refl _)
-  cloneOption-cov n ω k (some v) = cov-bind n ω (clone-cov n ω k v) (λ v′. cov-ret n ω (some v′) (omega arith))
+  cloneOr-cov : (n : ℕ) (ω : ℕ → Bool) (k : ℕ) {instead : Comp (Option FieldValue)} → Cov I n ω k instead (λ x. k) → (o : Option FieldValue) → Cov I n ω k (cloneOr I instead o) (λ x. k)
+  unfolding cloneOr
+  cloneOr-cov n ω k hd none = hd
+  cloneOr-cov n ω k hd (some v) = cov-bind n ω (clone-cov n ω k v) (λ v′. cov-ret n ω (some v′) (omega arith))
 
   interfaceValue-cov : (f : Env → Copier) → Paying f → (n : ℕ) (ω : ℕ → Bool) (env : Env) → env .scope < n → (k : ℕ) (e : Scope) (default : Option FieldValue) (given : Option FieldBinding) → Cov I n ω k (interfaceValue I f env e default given) (λ x. k)
   unfolding interfaceValue
   interfaceValue-cov f hf n ω env lt k e default (some (FieldBinding.Value v)) = cov-bind n ω (value-cov n ω (f env) (hf env n ω lt) k v) (λ v′. cov-ret n ω (some v′) (omega arith))
-  interfaceValue-cov f hf n ω env lt k e default (some (FieldBinding.Is t)) = cloneOption-cov n ω k (andThen (env .isValues) (valueOf t))
+  interfaceValue-cov f hf n ω env lt k e default (some (FieldBinding.Is t)) = cloneOr-cov n ω k (takeDefault-cov f hf n ω k e default) (andThen (env .isValues) (valueOf t))
   interfaceValue-cov f hf n ω env lt k e default none = takeDefault-cov f hf n ω k e default
 
   store-cov : (n : ℕ) (ω : ℕ → Bool) (k name : ℕ) (vs : Values) (v : Option FieldValue) → Cov I n ω k (store I name vs v) (λ x. k)

@@ -38,17 +38,18 @@ use Rattle.expander.proofs.+body+copy+field+fields+given+instantiate+in
 use Rattle.expander.proofs.values.Reads as values
 use Rattle.expander.proofs.values.Kinds as values-kinds
 use Rattle.expander.proofs.+body+copy+field+fields+given+instantiate+interface+interfaces+plain+statement+value+values.Lts-values as values-lts
+use Rattle.bindings.proofs.has_value.Reads as has-value-reads
 use Rattle.bindings.proofs.is_field.Reads as is-field-reads
 use Rattle.bindings.proofs.is_given.Reads as is-given-reads
 use Rattle.bindings.proofs.is_interface.Reads as is-interface-reads
 use Rattle.bindings.proofs.record_instance.Reads as record-instance-reads
+use Rattle.directory.proofs.number.Reads as number-reads
 use Rattle.expander.proofs.add_field.Reads as add-field-reads
 use Rattle.expander.proofs.bare.Reads as bare-reads
 use Rattle.expander.proofs.kept.Reads as kept-reads
 use Rattle.expander.proofs.next.Reads as next-reads
 use Rattle.expander.proofs.origin.Reads as origin-reads
 use Rattle.expander.proofs.row_of.Reads as row-of-reads
-use Rattle.words.proofs.wide.Reads as wide-reads
 use Rattle.journal.proofs.word.Reads as word-reads
 use Rattle.parts.proofs.extern_proto.Reads as extern-proto-reads
 use Rattle.parts.proofs.order.Reads as order-reads
@@ -61,16 +62,17 @@ use Rattle.refine.proofs.open.Reads as open-reads
 use Rattle.refine.proofs.own.Reads as own-reads
 use Rattle.refine.proofs.reserve.Reads as reserve-reads
 use Rattle.refine.proofs.store.Reads as store-reads
-use Rattle.directory.proofs.number.Reads as number-reads
 use Rattle.source.proofs.last_field.Reads as last-field-reads
 use Rattle.source.proofs.node.Reads as node-reads
 use Rattle.source.proofs.proto.Reads as proto-reads
 use Rattle.source.proofs.target.Reads as target-reads
+use Rattle.words.proofs.wide.Reads as wide-reads
 use Rattle.expander.proofs.+body+copy+field+fields+given+instantiate+interface+interfaces+plain+statement+value+values.Proof.Setup.{μ-body, μ-copy, μ-field, μ-fields, μ-given, μ-instantiate, μ-interface, μ-interfaces, μ-plain, μ-statement, μ-value, μ-values, body-at, body-below, copy-at, copy-below, field-at, field-below, fields-at, fields-below, given-at, given-below, instantiate-at, instantiate-below, interface-at, interface-below, interfaces-at, interfaces-below, plain-at, plain-below, statement-at, statement-below, value-at, value-below, values-at, values-below, body-cs, copy-cs, field-cs, fields-cs, given-cs, instantiate-cs, interface-cs, interfaces-cs, plain-cs, statement-cs, value-cs, values-cs}
 use Prim.Native.Nat.{_+_, _*_, _-_}
 use lib.ListN.{length}
+use mathlib.Core.Logic.{⊎-elim}
 use Rattle.source.proofs.SourcedLaws.{slot-within}
-use Rattle.cycle.proofs.GivenLaws.{given-row, given-is, given-stop, given-ready, given-kept, given-none, default-stop, default-here, default-value-stop, default-ready, default-kept}
+use Rattle.cycle.proofs.GivenLaws.{given-row, given-is, given-stop, given-ready, given-kept, absent, unset, given-none, default-stop, default-here, default-value-stop, default-ready, default-kept}
 use native.Mathlib.Omega.{arith}
 use borrow.Author.Needs.{needs}
 
@@ -86,15 +88,6 @@ given-enum-known-f t c = search needs
 pub given-row-of-requires-2 : (t : ℕ) → given-lts.Need-row-of-requires-2 (given-cs t) (given-at t) given.Post
 given-row-of-requires-2 t c κs = slot-within (c .before .before .before .before .before .before .before .before .before .before .pre .1 .0 .lent .sourced) (c .before .before .before .before .before .before .before .before .before .before .pre .1 .0 .slot)
 
-pub given-is-given-requires : (t : ℕ) → given-lts.Need-is-given-requires (given-cs t) (given-at t) given.Post
-given-is-given-requires t c κs = (c .before .before .before .before .before .before .before .before .before .before .before .before .before .before .pre .1 .0 .standing, (c .before .before .before .before .before .before .before .before .before .before .before .before .before .before .pre .1 .0 .env, c .before .before .before .before .before .before .before .before .before .before .before .before .before .before .pre .1 .1 .1 .1 .1))
-
-pub given-same-length : (t : ℕ) → given-lts.Need-same-length (given-cs t) (given-at t) given.Post
-given-same-length t c = search needs
-
-pub given-returns : (t : ℕ) → given-lts.Need-returns (given-cs t) (given-at t) given.Post
-given-returns t c = given-is _ _ _ _ _ _ _ _ _ _ _ _ _ _ (c .before .before .before .before .before .before .before .before .before .before .before .before .before .before .before .before .before .pre .1 .0) _ (c .before .before .before .before .before .before .before .before .before .before .before .before .row-of .ensures) (c .before .before .before .before .before .before .before .before .before .before .last-field .ensures) (c .before .before .before .before .before .before .before .before .f .given .1) _ (c .before .before .before .before .before .before .row-of2 .ensures) (c .before .before .before .before .if1 .taken) (c .before .before .is-given .ensures)
-
 pub given-value-requires : (t : ℕ) → given-lts.Need-value-requires (given-cs t) (given-at t) given.Post
 given-value-requires t c κs = (omega (arith, c .before .before .before .before .before .before .before .before .before .before .before .before .before .before .pre .0), (c .before .before .before .before .before .before .before .before .before .before .before .before .before .before .pre .1 .0, given-row _ _ _ _ _ _ _ _ _ (c .before .before .before .before .before .before .before .before .before .before .before .before .before .before .args .proto) _ (c .before .before .before .before .before .before .before .before .before .before .before .before .before .before .args .k) (c .before .before .before .before .before .before .before .before .before .before .before .before .before .before .args .h) (c .before .before .before .before .before .before .before .before .before .before .before .before .before .before .args .depth) (c .before .before .before .before .before .before .before .before .before .before .before .before .before .before .pre .1 .0) _ (c .before .before .before .before .before .before .before .before .before .row-of .ensures) (c .before .before .before .before .before .before .before .last-field .ensures) (c .before .before .before .before .before .f .given .1) _ (c .before .before .before .row-of2 .ensures)))
 
@@ -104,20 +97,32 @@ given-enum-known-a t c = search needs
 pub given-enum-told : (t : ℕ) → given-lts.Need-enum-told (given-cs t) (given-at t) given.Post
 given-enum-told t c = search needs
 
+pub given-same-length : (t : ℕ) → given-lts.Need-same-length (given-cs t) (given-at t) given.Post
+given-same-length t c = search needs
+
+pub given-returns : (t : ℕ) → given-lts.Need-returns (given-cs t) (given-at t) given.Post
+given-returns t c = given-stop _ _ _ _ _ _ _ _ _ _ _ _ _ _ (c .before .before .before .before .before .before .before .before .before .before .before .before .before .before .before .before .before .before .before .pre .1 .0) _ (c .before .before .before .before .before .before .before .before .before .before .before .before .before .before .row-of .ensures) (c .before .before .before .before .before .before .before .before .before .before .before .before .last-field .ensures) (c .before .before .before .before .before .before .before .before .before .before .f .given .1) _ (c .before .before .before .before .before .before .before .before .row-of2 .ensures) (c .before .before .before .before .before .before .if1 .taken) (c .before .before .before .before .value .ensures) (c .enum-told .given .1)
+
+pub given-store-requires : (t : ℕ) → given-lts.Need-store-requires (given-cs t) (given-at t) given.Post
+given-store-requires t c κs = given-ready _ _ _ _ _ _ _ _ _ (c .before .before .before .before .before .before .before .before .before .before .before .before .before .before .before .before .before .before .before .before .before .args .proto) _ (c .before .before .before .before .before .before .before .before .before .before .before .before .before .before .before .before .before .before .before .before .before .args .k) _ _ (c .before .before .before .before .before .before .before .before .before .before .before .before .before .before .before .before .before .before .before .before .before .pre .1 .0) _ (c .before .before .before .before .before .before .before .before .before .before .before .before .before .before .before .before .row-of .ensures) (c .before .before .before .before .before .before .before .before .before .before .before .before .before .before .last-field .ensures) (c .before .before .before .before .before .before .before .before .before .before .before .before .f .given .1) _ (c .before .before .before .before .before .before .before .before .before .before .row-of2 .ensures) (c .before .before .before .before .before .before .before .before .if1 .taken) (c .before .before .before .before .before .before .value .ensures) (c .before .before .before .before .before .before .before .before .before .before .before .before .before .before .before .before .before .before .before .before .before .pre .1 .1 .1 .1 .1) (c .before .before .a .given .1)
+
 pub given-same-length-2 : (t : ℕ) → given-lts.Need-same-length-2 (given-cs t) (given-at t) given.Post
 given-same-length-2 t c = search needs
 
 pub given-returns-2 : (t : ℕ) → given-lts.Need-returns-2 (given-cs t) (given-at t) given.Post
-given-returns-2 t c = given-stop _ _ _ _ _ _ _ _ _ _ _ _ _ _ (c .before .before .before .before .before .before .before .before .before .before .before .before .before .before .before .before .before .before .before .pre .1 .0) _ (c .before .before .before .before .before .before .before .before .before .before .before .before .before .before .row-of .ensures) (c .before .before .before .before .before .before .before .before .before .before .before .before .last-field .ensures) (c .before .before .before .before .before .before .before .before .before .before .f .given .1) _ (c .before .before .before .before .before .before .before .before .row-of2 .ensures) (c .before .before .before .before .before .before .if1 .left) (c .before .before .before .before .value .ensures) (c .enum-told .given .1)
+given-returns-2 t c = given-kept _ _ _ _ _ _ _ _ _ _ _ _ _ _ (c .before .before .before .before .before .before .before .before .before .before .before .before .before .before .before .before .before .before .before .before .before .before .before .before .pre .1 .0) _ (c .before .before .before .before .before .before .before .before .before .before .before .before .before .before .before .before .before .before .before .row-of .ensures) (c .before .before .before .before .before .before .before .before .before .before .before .before .before .before .before .before .before .last-field .ensures) (c .before .before .before .before .before .before .before .before .before .before .before .before .before .before .before .f .given .1) _ (c .before .before .before .before .before .before .before .before .before .before .before .before .before .row-of2 .ensures) (c .before .before .before .before .before .before .before .before .before .before .before .if1 .taken) (c .before .before .before .before .before .before .before .before .before .value .ensures) (c .before .before .before .before .before .before .before .before .before .before .before .before .before .before .before .before .before .before .before .before .before .before .before .before .pre .1 .1 .1 .1 .1) (c .before .before .before .before .before .a .given .1) (c .before .before .store .ensures)
 
-pub given-store-requires : (t : ℕ) → given-lts.Need-store-requires (given-cs t) (given-at t) given.Post
-given-store-requires t c κs = given-ready _ _ _ _ _ _ _ _ _ (c .before .before .before .before .before .before .before .before .before .before .before .before .before .before .before .before .before .before .before .before .before .args .proto) _ (c .before .before .before .before .before .before .before .before .before .before .before .before .before .before .before .before .before .before .before .before .before .args .k) _ _ (c .before .before .before .before .before .before .before .before .before .before .before .before .before .before .before .before .before .before .before .before .before .pre .1 .0) _ (c .before .before .before .before .before .before .before .before .before .before .before .before .before .before .before .before .row-of .ensures) (c .before .before .before .before .before .before .before .before .before .before .before .before .before .before .last-field .ensures) (c .before .before .before .before .before .before .before .before .before .before .before .before .f .given .1) _ (c .before .before .before .before .before .before .before .before .before .before .row-of2 .ensures) (c .before .before .before .before .before .before .before .before .if1 .left) (c .before .before .before .before .before .before .value .ensures) (c .before .before .before .before .before .before .before .before .before .before .before .before .before .before .before .before .before .before .before .before .before .pre .1 .1 .1 .1 .1) (c .before .before .a .given .1)
+pub given-has-value-requires : (t : ℕ) → given-lts.Need-has-value-requires (given-cs t) (given-at t) given.Post
+given-has-value-requires t c κs = (c .before .before .before .before .before .before .before .before .before .before .before .before .before .before .pre .1 .0 .standing, c .before .before .before .before .before .before .before .before .before .before .before .before .before .before .pre .1 .0 .env)
+
+pub given-is-given-requires : (t : ℕ) → given-lts.Need-is-given-requires (given-cs t) (given-at t) given.Post
+given-is-given-requires t c κs = (c .before .before .before .before .before .before .before .before .before .before .before .before .before .before .before .before .before .pre .1 .0 .standing, (c .before .before .before .before .before .before .before .before .before .before .before .before .before .before .before .before .before .pre .1 .0 .env, c .before .before .before .before .before .before .before .before .before .before .before .before .before .before .before .before .before .pre .1 .1 .1 .1 .1))
 
 pub given-same-length-3 : (t : ℕ) → given-lts.Need-same-length-3 (given-cs t) (given-at t) given.Post
 given-same-length-3 t c = search needs
 
 pub given-returns-3 : (t : ℕ) → given-lts.Need-returns-3 (given-cs t) (given-at t) given.Post
-given-returns-3 t c = given-kept _ _ _ _ _ _ _ _ _ _ _ _ _ _ (c .before .before .before .before .before .before .before .before .before .before .before .before .before .before .before .before .before .before .before .before .before .before .before .before .pre .1 .0) _ (c .before .before .before .before .before .before .before .before .before .before .before .before .before .before .before .before .before .before .before .row-of .ensures) (c .before .before .before .before .before .before .before .before .before .before .before .before .before .before .before .before .before .last-field .ensures) (c .before .before .before .before .before .before .before .before .before .before .before .before .before .before .before .f .given .1) _ (c .before .before .before .before .before .before .before .before .before .before .before .before .before .row-of2 .ensures) (c .before .before .before .before .before .before .before .before .before .before .before .if1 .left) (c .before .before .before .before .before .before .before .before .before .value .ensures) (c .before .before .before .before .before .before .before .before .before .before .before .before .before .before .before .before .before .before .before .before .before .before .before .before .pre .1 .1 .1 .1 .1) (c .before .before .before .before .before .a .given .1) (c .before .before .store .ensures)
+given-returns-3 t c = given-is _ _ _ _ _ _ _ _ _ _ _ _ _ _ (c .before .before .before .before .before .before .before .before .before .before .before .before .before .before .before .before .before .before .before .before .pre .1 .0) _ (c .before .before .before .before .before .before .before .before .before .before .before .before .before .before .before .row-of .ensures) (c .before .before .before .before .before .before .before .before .before .before .before .before .before .last-field .ensures) (c .before .before .before .before .before .before .before .before .before .before .before .f .given .1) _ (c .before .before .before .before .before .before .before .before .before .row-of2 .ensures) (omega arith) (rw (c .before .before .before .before .if2 .taken) at (c .before .before .before .before .before .has-value .ensures)) (c .before .before .is-given .ensures)
 
 pub given-enum-told-2 : (t : ℕ) → given-lts.Need-enum-told-2 (given-cs t) (given-at t) given.Post
 given-enum-told-2 t c = search needs
@@ -126,13 +131,13 @@ pub given-same-length-4 : (t : ℕ) → given-lts.Need-same-length-4 (given-cs t
 given-same-length-4 t c = search needs
 
 pub given-returns-4 : (t : ℕ) → given-lts.Need-returns-4 (given-cs t) (given-at t) given.Post
-given-returns-4 t c = given-none _ _ _ _ _ _ _ _ _ _ _ _ _ _ (c .before .before .before .before .before .before .before .before .before .before .before .pre .1 .0) _ (c .before .before .before .before .before .before .row-of .ensures) (c .before .before .before .before .last-field .ensures) (c .before .before .enum-told2 .given .1) (c .if2 .taken) (c .before .before .before .before .before .before .before .before .before .before .before .pre .1 .1 .1 .1 .1)
+given-returns-4 t c = given-none _ _ _ _ _ _ _ _ _ _ _ _ _ _ (c .before .before .before .before .before .before .before .before .before .before .pre .1 .0) _ (c .before .before .before .before .before .row-of .ensures) (c .before .before .before .last-field .ensures) (⊎-elim (λ z. unset (z .1 .given .1) _ (z .3 .ensures) (omega (arith, z .5 .left)) (rw (z .8 .left) at (z .7 .ensures))) (λ z. absent (z .1 .given .1)) (c .before .before .match .came)) (c .if3 .taken) (c .before .before .before .before .before .before .before .before .before .before .pre .1 .1 .1 .1 .1)
 
 pub given-number-requires : (t : ℕ) → given-lts.Need-number-requires (given-cs t) (given-at t) given.Post
-given-number-requires t c κs = slot-within (c .before .before .before .before .before .before .before .before .before .before .before .before .pre .1 .0 .lent .sourced) (c .before .before .before .before .before .before .before .before .before .before .before .before .pre .1 .1 .1 .0)
+given-number-requires t c κs = slot-within (c .before .before .before .before .before .before .before .before .before .before .before .pre .1 .0 .lent .sourced) (c .before .before .before .before .before .before .before .before .before .before .before .pre .1 .1 .1 .0)
 
 pub given-open-requires : (t : ℕ) → given-lts.Need-open-requires (given-cs t) (given-at t) given.Post
-given-open-requires t c κs = c .before .before .before .before .before .before .before .before .before .before .before .before .before .pre .1 .0 .standing
+given-open-requires t c κs = c .before .before .before .before .before .before .before .before .before .before .before .before .pre .1 .0 .standing
 
 pub given-enum-known-a-2 : (t : ℕ) → given-lts.Need-enum-known-a-2 (given-cs t) (given-at t) given.Post
 given-enum-known-a-2 t c = search needs
@@ -144,13 +149,13 @@ pub given-same-length-5 : (t : ℕ) → given-lts.Need-same-length-5 (given-cs t
 given-same-length-5 t c = search needs
 
 pub given-returns-5 : (t : ℕ) → given-lts.Need-returns-5 (given-cs t) (given-at t) given.Post
-given-returns-5 t c = default-stop _ _ _ _ _ _ _ _ _ _ _ _ _ _ (c .before .before .before .before .before .before .before .before .before .before .before .before .before .before .before .before .before .before .pre .1 .0) _ (c .before .before .before .before .before .before .before .before .before .before .before .before .before .row-of .ensures) (c .before .before .before .before .before .before .before .before .before .before .before .last-field .ensures) (c .before .before .before .before .before .before .before .before .before .enum-told2 .given .1) (c .before .before .before .before .before .before .before .if2 .left) (c .before .before .before .before .before .number .ensures) (c .before .before .before .before .«open» .ensures) (c .enum-told3 .given .1)
+given-returns-5 t c = default-stop _ _ _ _ _ _ _ _ _ _ _ _ _ _ (c .before .before .before .before .before .before .before .before .before .before .before .before .before .before .before .before .before .pre .1 .0) _ (c .before .before .before .before .before .before .before .before .before .before .before .before .row-of .ensures) (c .before .before .before .before .before .before .before .before .before .before .last-field .ensures) (⊎-elim (λ z. unset (z .1 .given .1) _ (z .3 .ensures) (omega (arith, z .5 .left)) (rw (z .8 .left) at (z .7 .ensures))) (λ z. absent (z .1 .given .1)) (c .before .before .before .before .before .before .before .before .before .match .came)) (c .before .before .before .before .before .before .before .if3 .left) (c .before .before .before .before .before .number .ensures) (c .before .before .before .before .«open» .ensures) (c .enum-told3 .given .1)
 
 pub given-wide-requires : (t : ℕ) → given-lts.Need-wide-requires (given-cs t) (given-at t) given.Post
 given-wide-requires t c κs = search needs
 
 pub given-value-requires-2 : (t : ℕ) → given-lts.Need-value-requires-2 (given-cs t) (given-at t) given.Post
-given-value-requires-2 t c κs = (omega (arith, c .before .before .before .before .before .before .before .before .before .before .before .before .before .before .before .before .before .before .before .before .before .pre .0), (default-here _ _ _ _ _ _ _ _ _ _ _ _ (c .before .before .before .before .before .before .before .before .before .before .before .before .before .before .before .before .before .before .before .before .before .args .h) (c .before .before .before .before .before .before .before .before .before .before .before .before .before .before .before .before .before .before .before .before .before .args .depth) (c .before .before .before .before .before .before .before .before .before .before .before .before .before .before .before .before .before .before .before .before .before .pre .1 .0) _ (c .before .before .before .before .before .before .before .before .before .before .before .before .before .before .before .before .row-of .ensures) (c .before .before .before .before .before .before .before .before .before .before .before .before .before .before .last-field .ensures) (c .before .before .before .before .before .before .before .before .before .before .before .before .enum-told2 .given .1) (c .before .before .before .before .before .before .before .before .before .before .if2 .left) (c .before .before .before .before .before .before .before .before .number .ensures) (c .before .before .before .before .before .before .before .«open» .ensures) (c .before .before .before .a2 .given .1) (c .before .wide .ensures .same) (c .before .before .before .before .before .before .before .before .before .before .before .before .before .before .before .before .before .before .before .before .before .pre .1 .1 .1 .0), c .before .before .before .before .before .before .before .before .before .before .before .before .before .before .before .before .before .before .before .before .before .pre .1 .1 .1 .1 .0))
+given-value-requires-2 t c κs = (omega (arith, c .before .before .before .before .before .before .before .before .before .before .before .before .before .before .before .before .before .before .before .before .pre .0), (default-here _ _ _ _ _ _ _ _ _ _ _ _ (c .before .before .before .before .before .before .before .before .before .before .before .before .before .before .before .before .before .before .before .before .args .h) (c .before .before .before .before .before .before .before .before .before .before .before .before .before .before .before .before .before .before .before .before .args .depth) (c .before .before .before .before .before .before .before .before .before .before .before .before .before .before .before .before .before .before .before .before .pre .1 .0) _ (c .before .before .before .before .before .before .before .before .before .before .before .before .before .before .before .row-of .ensures) (c .before .before .before .before .before .before .before .before .before .before .before .before .before .last-field .ensures) (⊎-elim (λ z. unset (z .1 .given .1) _ (z .3 .ensures) (omega (arith, z .5 .left)) (rw (z .8 .left) at (z .7 .ensures))) (λ z. absent (z .1 .given .1)) (c .before .before .before .before .before .before .before .before .before .before .before .before .match .came)) (c .before .before .before .before .before .before .before .before .before .before .if3 .left) (c .before .before .before .before .before .before .before .before .number .ensures) (c .before .before .before .before .before .before .before .«open» .ensures) (c .before .before .before .a2 .given .1) (c .before .wide .ensures .same) (c .before .before .before .before .before .before .before .before .before .before .before .before .before .before .before .before .before .before .before .before .pre .1 .1 .1 .0), c .before .before .before .before .before .before .before .before .before .before .before .before .before .before .before .before .before .before .before .before .pre .1 .1 .1 .1 .0))
 
 pub given-enum-known-b : (t : ℕ) → given-lts.Need-enum-known-b (given-cs t) (given-at t) given.Post
 given-enum-known-b t c = search needs
@@ -162,13 +167,13 @@ pub given-same-length-6 : (t : ℕ) → given-lts.Need-same-length-6 (given-cs t
 given-same-length-6 t c = search needs
 
 pub given-returns-6 : (t : ℕ) → given-lts.Need-returns-6 (given-cs t) (given-at t) given.Post
-given-returns-6 t c = default-value-stop _ _ _ _ _ _ _ _ _ _ _ _ _ _ (c .before .before .before .before .before .before .before .before .before .before .before .before .before .before .before .before .before .before .before .before .before .before .before .before .before .before .pre .1 .0) _ (c .before .before .before .before .before .before .before .before .before .before .before .before .before .before .before .before .before .before .before .before .before .row-of .ensures) (c .before .before .before .before .before .before .before .before .before .before .before .before .before .before .before .before .before .before .before .last-field .ensures) (c .before .before .before .before .before .before .before .before .before .before .before .before .before .before .before .before .before .enum-told2 .given .1) (c .before .before .before .before .before .before .before .before .before .before .before .before .before .before .before .if2 .left) (c .before .before .before .before .before .before .before .before .before .before .before .before .before .number .ensures) (c .before .before .before .before .before .before .before .before .before .before .before .before .«open» .ensures) (c .before .before .before .before .before .before .before .before .a2 .given .1) (c .before .before .before .before .before .before .wide .ensures .same) (c .before .before .before .before .before .before .before .before .before .before .before .before .before .before .before .before .before .before .before .before .before .before .before .before .before .before .pre .1 .1 .1 .0) (c .before .before .before .before .value2 .ensures) (c .enum-told4 .given .1)
+given-returns-6 t c = default-value-stop _ _ _ _ _ _ _ _ _ _ _ _ _ _ (c .before .before .before .before .before .before .before .before .before .before .before .before .before .before .before .before .before .before .before .before .before .before .before .before .before .pre .1 .0) _ (c .before .before .before .before .before .before .before .before .before .before .before .before .before .before .before .before .before .before .before .before .row-of .ensures) (c .before .before .before .before .before .before .before .before .before .before .before .before .before .before .before .before .before .before .last-field .ensures) (⊎-elim (λ z. unset (z .1 .given .1) _ (z .3 .ensures) (omega (arith, z .5 .left)) (rw (z .8 .left) at (z .7 .ensures))) (λ z. absent (z .1 .given .1)) (c .before .before .before .before .before .before .before .before .before .before .before .before .before .before .before .before .before .match .came)) (c .before .before .before .before .before .before .before .before .before .before .before .before .before .before .before .if3 .left) (c .before .before .before .before .before .before .before .before .before .before .before .before .before .number .ensures) (c .before .before .before .before .before .before .before .before .before .before .before .before .«open» .ensures) (c .before .before .before .before .before .before .before .before .a2 .given .1) (c .before .before .before .before .before .before .wide .ensures .same) (c .before .before .before .before .before .before .before .before .before .before .before .before .before .before .before .before .before .before .before .before .before .before .before .before .before .pre .1 .1 .1 .0) (c .before .before .before .before .value2 .ensures) (c .enum-told4 .given .1)
 
 pub given-store-requires-2 : (t : ℕ) → given-lts.Need-store-requires-2 (given-cs t) (given-at t) given.Post
-given-store-requires-2 t c κs = default-ready _ _ _ _ _ _ _ _ _ _ _ _ _ _ (c .before .before .before .before .before .before .before .before .before .before .before .before .before .before .before .before .before .before .before .before .before .before .before .before .before .before .before .before .pre .1 .0) _ (c .before .before .before .before .before .before .before .before .before .before .before .before .before .before .before .before .before .before .before .before .before .before .before .row-of .ensures) (c .before .before .before .before .before .before .before .before .before .before .before .before .before .before .before .before .before .before .before .before .before .last-field .ensures) (c .before .before .before .before .before .before .before .before .before .before .before .before .before .before .before .before .before .before .before .enum-told2 .given .1) (c .before .before .before .before .before .before .before .before .before .before .before .before .before .before .before .before .before .if2 .left) (c .before .before .before .before .before .before .before .before .before .before .before .before .before .before .before .number .ensures) (c .before .before .before .before .before .before .before .before .before .before .before .before .before .before .«open» .ensures) (c .before .before .before .before .before .before .before .before .before .before .a2 .given .1) (c .before .before .before .before .before .before .before .before .wide .ensures .same) (c .before .before .before .before .before .before .before .before .before .before .before .before .before .before .before .before .before .before .before .before .before .before .before .before .before .before .before .before .pre .1 .1 .1 .0) (c .before .before .before .before .before .before .value2 .ensures) (c .before .before .before .before .before .before .before .before .before .before .before .before .before .before .before .before .before .before .before .before .before .before .before .before .before .before .before .before .pre .1 .1 .1 .1 .1) (c .before .before .b .given .1)
+given-store-requires-2 t c κs = default-ready _ _ _ _ _ _ _ _ _ _ _ _ _ _ (c .before .before .before .before .before .before .before .before .before .before .before .before .before .before .before .before .before .before .before .before .before .before .before .before .before .before .before .pre .1 .0) _ (c .before .before .before .before .before .before .before .before .before .before .before .before .before .before .before .before .before .before .before .before .before .before .row-of .ensures) (c .before .before .before .before .before .before .before .before .before .before .before .before .before .before .before .before .before .before .before .before .last-field .ensures) (⊎-elim (λ z. unset (z .1 .given .1) _ (z .3 .ensures) (omega (arith, z .5 .left)) (rw (z .8 .left) at (z .7 .ensures))) (λ z. absent (z .1 .given .1)) (c .before .before .before .before .before .before .before .before .before .before .before .before .before .before .before .before .before .before .before .match .came)) (c .before .before .before .before .before .before .before .before .before .before .before .before .before .before .before .before .before .if3 .left) (c .before .before .before .before .before .before .before .before .before .before .before .before .before .before .before .number .ensures) (c .before .before .before .before .before .before .before .before .before .before .before .before .before .before .«open» .ensures) (c .before .before .before .before .before .before .before .before .before .before .a2 .given .1) (c .before .before .before .before .before .before .before .before .wide .ensures .same) (c .before .before .before .before .before .before .before .before .before .before .before .before .before .before .before .before .before .before .before .before .before .before .before .before .before .before .before .pre .1 .1 .1 .0) (c .before .before .before .before .before .before .value2 .ensures) (c .before .before .before .before .before .before .before .before .before .before .before .before .before .before .before .before .before .before .before .before .before .before .before .before .before .before .before .pre .1 .1 .1 .1 .1) (c .before .before .b .given .1)
 
 pub given-same-length-7 : (t : ℕ) → given-lts.Need-same-length-7 (given-cs t) (given-at t) given.Post
 given-same-length-7 t c = search needs
 
 pub given-returns-7 : (t : ℕ) → given-lts.Need-returns-7 (given-cs t) (given-at t) given.Post
-given-returns-7 t c = default-kept _ _ _ _ _ _ _ _ _ _ _ _ _ _ (c .before .before .before .before .before .before .before .before .before .before .before .before .before .before .before .before .before .before .before .before .before .before .before .before .before .before .before .before .before .before .before .pre .1 .0) _ (c .before .before .before .before .before .before .before .before .before .before .before .before .before .before .before .before .before .before .before .before .before .before .before .before .before .before .row-of .ensures) (c .before .before .before .before .before .before .before .before .before .before .before .before .before .before .before .before .before .before .before .before .before .before .before .before .last-field .ensures) (c .before .before .before .before .before .before .before .before .before .before .before .before .before .before .before .before .before .before .before .before .before .before .enum-told2 .given .1) (c .before .before .before .before .before .before .before .before .before .before .before .before .before .before .before .before .before .before .before .before .if2 .left) (c .before .before .before .before .before .before .before .before .before .before .before .before .before .before .before .before .before .before .number .ensures) (c .before .before .before .before .before .before .before .before .before .before .before .before .before .before .before .before .before .«open» .ensures) (c .before .before .before .before .before .before .before .before .before .before .before .before .before .a2 .given .1) (c .before .before .before .before .before .before .before .before .before .before .before .wide .ensures .same) (c .before .before .before .before .before .before .before .before .before .before .before .before .before .before .before .before .before .before .before .before .before .before .before .before .before .before .before .before .before .before .before .pre .1 .1 .1 .0) (c .before .before .before .before .before .before .before .before .before .value2 .ensures) (c .before .before .before .before .before .before .before .before .before .before .before .before .before .before .before .before .before .before .before .before .before .before .before .before .before .before .before .before .before .before .before .pre .1 .1 .1 .1 .1) (c .before .before .before .before .before .b .given .1) (c .before .before .store2 .ensures)
+given-returns-7 t c = default-kept _ _ _ _ _ _ _ _ _ _ _ _ _ _ (c .before .before .before .before .before .before .before .before .before .before .before .before .before .before .before .before .before .before .before .before .before .before .before .before .before .before .before .before .before .before .pre .1 .0) _ (c .before .before .before .before .before .before .before .before .before .before .before .before .before .before .before .before .before .before .before .before .before .before .before .before .before .row-of .ensures) (c .before .before .before .before .before .before .before .before .before .before .before .before .before .before .before .before .before .before .before .before .before .before .before .last-field .ensures) (⊎-elim (λ z. unset (z .1 .given .1) _ (z .3 .ensures) (omega (arith, z .5 .left)) (rw (z .8 .left) at (z .7 .ensures))) (λ z. absent (z .1 .given .1)) (c .before .before .before .before .before .before .before .before .before .before .before .before .before .before .before .before .before .before .before .before .before .before .match .came)) (c .before .before .before .before .before .before .before .before .before .before .before .before .before .before .before .before .before .before .before .before .if3 .left) (c .before .before .before .before .before .before .before .before .before .before .before .before .before .before .before .before .before .before .number .ensures) (c .before .before .before .before .before .before .before .before .before .before .before .before .before .before .before .before .before .«open» .ensures) (c .before .before .before .before .before .before .before .before .before .before .before .before .before .a2 .given .1) (c .before .before .before .before .before .before .before .before .before .before .before .wide .ensures .same) (c .before .before .before .before .before .before .before .before .before .before .before .before .before .before .before .before .before .before .before .before .before .before .before .before .before .before .before .before .before .before .pre .1 .1 .1 .0) (c .before .before .before .before .before .before .before .before .before .value2 .ensures) (c .before .before .before .before .before .before .before .before .before .before .before .before .before .before .before .before .before .before .before .before .before .before .before .before .before .before .before .before .before .before .pre .1 .1 .1 .1 .1) (c .before .before .before .before .before .b .given .1) (c .before .before .store2 .ensures)

@@ -38,17 +38,18 @@ use Rattle.expander.proofs.+body+copy+field+fields+given+instantiate+in
 use Rattle.expander.proofs.values.Reads as values
 use Rattle.expander.proofs.values.Kinds as values-kinds
 use Rattle.expander.proofs.+body+copy+field+fields+given+instantiate+interface+interfaces+plain+statement+value+values.Lts-values as values-lts
+use Rattle.bindings.proofs.has_value.Reads as has-value-reads
 use Rattle.bindings.proofs.is_field.Reads as is-field-reads
 use Rattle.bindings.proofs.is_given.Reads as is-given-reads
 use Rattle.bindings.proofs.is_interface.Reads as is-interface-reads
 use Rattle.bindings.proofs.record_instance.Reads as record-instance-reads
+use Rattle.directory.proofs.number.Reads as number-reads
 use Rattle.expander.proofs.add_field.Reads as add-field-reads
 use Rattle.expander.proofs.bare.Reads as bare-reads
 use Rattle.expander.proofs.kept.Reads as kept-reads
 use Rattle.expander.proofs.next.Reads as next-reads
 use Rattle.expander.proofs.origin.Reads as origin-reads
 use Rattle.expander.proofs.row_of.Reads as row-of-reads
-use Rattle.words.proofs.wide.Reads as wide-reads
 use Rattle.journal.proofs.word.Reads as word-reads
 use Rattle.parts.proofs.extern_proto.Reads as extern-proto-reads
 use Rattle.parts.proofs.order.Reads as order-reads
@@ -61,11 +62,11 @@ use Rattle.refine.proofs.open.Reads as open-reads
 use Rattle.refine.proofs.own.Reads as own-reads
 use Rattle.refine.proofs.reserve.Reads as reserve-reads
 use Rattle.refine.proofs.store.Reads as store-reads
-use Rattle.directory.proofs.number.Reads as number-reads
 use Rattle.source.proofs.last_field.Reads as last-field-reads
 use Rattle.source.proofs.node.Reads as node-reads
 use Rattle.source.proofs.proto.Reads as proto-reads
 use Rattle.source.proofs.target.Reads as target-reads
+use Rattle.words.proofs.wide.Reads as wide-reads
 use Prim.Native.Nat.{_+_, _*_, _-_}
 use lib.ListN.{length}
 
@@ -190,7 +191,7 @@ abbrev pub fields-cs : ℕ → fields-lts.Claims
 fields-cs t = (next-reads.Asked, next-reads.Learnt, field-below t, field.Post)
 
 abbrev pub given-cs : ℕ → given-lts.Claims
-given-cs t = (row-of-reads.Asked, row-of-reads.Learnt, last-field-reads.Asked, last-field-reads.Learnt, is-given-reads.Asked, is-given-reads.Learnt, value-below t, value.Post, store-reads.Asked, store-reads.Learnt, number-reads.Asked, number-reads.Learnt, open-reads.Asked, open-reads.Learnt, wide-reads.Asked, wide-reads.Learnt)
+given-cs t = (row-of-reads.Asked, row-of-reads.Learnt, last-field-reads.Asked, last-field-reads.Learnt, value-below t, value.Post, store-reads.Asked, store-reads.Learnt, has-value-reads.Asked, has-value-reads.Learnt, is-given-reads.Asked, is-given-reads.Learnt, number-reads.Asked, number-reads.Learnt, open-reads.Asked, open-reads.Learnt, wide-reads.Asked, wide-reads.Learnt)
 
 abbrev pub instantiate-cs : ℕ → instantiate-lts.Claims
 instantiate-cs t = (number-reads.Asked, number-reads.Learnt, proto-reads.Asked, proto-reads.Learnt, values-below t, values.Post, open-reads.Asked, open-reads.Learnt, wide-reads.Asked, wide-reads.Learnt, body-below t, body.Post, row-of-reads.Asked, row-of-reads.Learnt, record-instance-reads.Asked, record-instance-reads.Learnt)
