@@ -51,14 +51,10 @@ impl Tally {
 
 impl fmt::Display for Tally {
     fn fmt(&self, f: &mut fmt::Formatter<'_>) -> fmt::Result {
+        writeln!(f, "{} cases, {} accepted; {} compared with the original", self.cases, self.accepted, self.compared)?;
         writeln!(
             f,
-            "{} cases, {} compared with the original, {} of them accepted",
-            self.cases, self.compared, self.accepted
-        )?;
-        writeln!(
-            f,
-            "{} more with a default because of an IS to nothing, {} of them compared without the fields so bound",
+            "with a default because of an IS to nothing {}, {} of them compared without the fields so bound",
             self.by_is, self.absent
         )?;
         write!(f, "refused:")?;

@@ -186,6 +186,7 @@ pub fn large() -> u64 {
             Some(refusal) => print!("{name}: refusal {refusal}"),
             None => print!("{name}: {} nodes, {} scopes", tally.most_nodes, tally.most_scopes),
         }
+        let result = result.and(if tally.compared > 0 { Ok(()) } else { Err("not held against the original".into()) });
         println!("; {}", result.as_ref().map_or_else(String::as_str, |()| "as the original"));
         differences += result.is_err() as u64;
     }
