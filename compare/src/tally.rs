@@ -15,7 +15,7 @@ pub struct Tally {
     /// Of these, the ones held against the original without the fields so bound.
     pub absent: u64,
     pub accepted: u64,
-    pub refused: [u64; 12],
+    pub refused: [u64; 11],
     pub loops: u64,
     pub bodies: u64,
     pub defaults: u64,
@@ -51,14 +51,10 @@ impl Tally {
 
 impl fmt::Display for Tally {
     fn fmt(&self, f: &mut fmt::Formatter<'_>) -> fmt::Result {
+        writeln!(f, "{} cases, {} accepted; {} compared with the original", self.cases, self.accepted, self.compared)?;
         writeln!(
             f,
-            "{} cases, {} compared with the original, {} of them accepted",
-            self.cases, self.compared, self.accepted
-        )?;
-        writeln!(
-            f,
-            "{} more with a default because of an IS to nothing, {} of them compared without the fields so bound",
+            "with a default because of an IS to nothing {}, {} of them compared without the fields so bound",
             self.by_is, self.absent
         )?;
         write!(f, "refused:")?;

@@ -31,11 +31,6 @@ pub fn check(call: &Call, tally: &mut Tally) -> Result<(), String> {
     let answer = &reckoned.answer;
     tally.note(answer);
     places(call)?;
-    if let Err(refusal) = answer {
-        if refusal.number == 11 {
-            return Err("refusal 11".into());
-        }
-    }
     if let Some(difference) = against_original(call, &reckoned) {
         tally.compared += 1;
         difference?;
@@ -186,6 +181,7 @@ pub fn large() -> u64 {
             Some(refusal) => print!("{name}: refusal {refusal}"),
             None => print!("{name}: {} nodes, {} scopes", tally.most_nodes, tally.most_scopes),
         }
+        let result = result.and(if tally.compared > 0 { Ok(()) } else { Err("not held against the original".into()) });
         println!("; {}", result.as_ref().map_or_else(String::as_str, |()| "as the original"));
         differences += result.is_err() as u64;
     }
