@@ -8,6 +8,7 @@ use Prim.Native.Nat.{ℕ, _≤_, _<_}
 use lib.ListN.{length, getElem?}
 use Rattle.ast.specs.Ast.{NodeOrigin, InterfaceDecl, Statement, Node, ProtoDecl, ExternProtoDecl, Document}
 use Rattle.ast.specs.Choice.{mapO}
+use Rattle.ast.specs.Expanded.{IsExpanded}
 use Rattle.ast.specs.Lookups.{nodeAt, protoAt, externProtoAt}
 use Rattle.picks.specs.Picks.{Pick}
 use Rattle.steps.specs.Lists.{Nodup, countIf}
@@ -20,28 +21,12 @@ use Rattle.expansion.specs.Expand.{LedgerEntry, Expansion, Answer, expan
 use Rattle.expansion.specs.Reached.{Known, entryOf, declOf, gives, isSome, nodeIn, graph}
 use Rattle.expansion.specs.Outputs.{idsOf, rows}
 
--- "An expanded document is a root sheet without kind 7, Proto statements or origin Proto"
+-- "A PROTO is left in an output by a kind 7 row or a Proto statement, an instance by a node of origin Proto ..": none is.
 pub record NoProto (d : Document) : Type 0 where
   pub protos : d .protos ≡ []
   pub statements : (p : ℕ) → List·Memᴰ (Statement.Proto p) (d .statements) → ⊥
   pub nodeStatements : (x : Node) → List·Memᴰ x (d .nodes) → (p : ℕ) → List·Memᴰ (Statement.Proto p) (x .statements) → ⊥
   pub origins : (x : Node) → List·Memᴰ x (d .nodes) → (p : ℕ) → x .origin ≡ NodeOrigin.Proto p → ⊥
-
-abbrev pub RouteOrExtern : Statement → Type 0
-RouteOrExtern (Statement.Node i) = ⊥
-RouteOrExtern (Statement.Proto p) = ⊥
-RouteOrExtern (Statement.ExternProto x) = Unit {0}
-RouteOrExtern (Statement.Route r) = Unit {0}
-RouteOrExtern (Statement.Other p) = ⊥
-
-abbrev pub ClassZero : InterfaceDecl → Type 0
-ClassZero d = (target : ℕ) → d .is ≡ some target → d .value ≡ none
-
--- "whose nodes hold only Route and ExternProto statements and whose interfaces with an IS have class 0"; "An extern is row 8, interfaces of class 0, urls."
-pub record Form (d : Document) : Type 0 where
-  pub statements : (x : Node) → List·Memᴰ x (d .nodes) → (s : Statement) → List·Memᴰ s (x .statements) → RouteOrExtern s
-  pub interface : (x : Node) → List·Memᴰ x (d .nodes) → (i : InterfaceDecl) → List·Memᴰ i (x .interface) → ClassZero i
-  pub externs : (x : ExternProtoDecl) → List·Memᴰ x (d .externProtos) → (i : InterfaceDecl) → List·Memᴰ i (x .interface) → i .value ≡ none
 
 -- what is known of scope number s of a world
 abbrev pub scopeAt : Input → World Known → ℕ → Known
@@ -100,7 +85,9 @@ pub record Expanded (I : Input) (e : Expansion) : Type 0 where
   pub rowsPaid : rows (e .document) ≤ e .charges
   pub scopesPaid : e .scopeCount ≤ e .charges
   pub chargeLimit : e .charges ≤ I .limits .maxRows
-  pub form : Form (e .document)
+  pub form : IsExpanded (e .document)
+  -- "An extern is row 8, interfaces of class 0, urls."
+  pub externs : (x : ExternProtoDecl) → List·Memᴰ x (e .document .externProtos) → (i : InterfaceDecl) → List·Memᴰ i (x .interface) → i .value ≡ none
 
 -- ---- refusals
 

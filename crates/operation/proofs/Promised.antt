@@ -23,8 +23,8 @@ use Rattle.expansion.specs.Proofs.Demand.{demand-3, refusals, faultless}
 use Rattle.output.specs.Input.{InputInRange}
 use Rattle.output.proofs.Output.{row-count, rows-fit, rows-say}
 use Rattle.operation.specs.Operation.{Call, After, overCaps, tooShort, wrongLength, refuseIf, refuseBad, input, outcome, over, ledgerWords, after, expandWords}
-use Rattle.operation.specs.Promises.{Words, Room, Sheets, WellFormed, Refused, Answered, one, two, threeRoot, threeLibrary, fourToTen, accepted, outRows, ledgerSaid, scopesSaid, said, Accepted, Promises}
-use Rattle.operation.proofs.Targets.{root-targets, library-targets}
+use Rattle.operation.specs.Promises.{Room, Sheets, WellFormed, Refused, Answered, one, two, threeRoot, threeLibrary, fourToTen, accepted, outRows, ledgerSaid, scopesSaid, said, Accepted, Promises}
+use Rattle.operation.proofs.Targets.{Words, root-targets, library-targets}
 use Rattle.operation.proofs.Said.{words-length, ledger-length, scopes-length, rows-said, ledger-said, scopes-said}
 use Rattle.operation.proofs.Cases.{from-four}
 use Rattle.operation.proofs.Tests.{yes-no, room-if, room-then, sheets-if, sheets-then}

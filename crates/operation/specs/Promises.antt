@@ -16,10 +16,6 @@ use Rattle.expansion.specs.Expand.{LedgerEntry, Expansion, Answer, expand}
 use Rattle.expansion.specs.Expanded.{Expanded, Refusal}
 use Rattle.operation.specs.Operation.{Call, After, input}
 
--- "A row is eight u32 numbers.": each word is one
-abbrev pub Words : List ℕ → Type 0
-Words l = (i : ℕ) → getD l i 0 < 4294967296
-
 -- ---- demand 1: "Refused, with a number from document 01 and the output, ledger and scope list unchanged"
 
 -- no "short buffers", no "limits over their caps"
@@ -112,7 +108,7 @@ pub record Accepted (c : Call) (r : After) : Type 0 where
   pub expanded : Expanded (input c) (said r)
   -- "The output is exactly what document 01's steps give"
   pub steps : expand (input c) ≡ Answer.Expanded (said r)
-  -- "An expanded document is a root sheet without kind 7, Proto statements or origin Proto, whose nodes hold only Route and ExternProto statements and whose interfaces with an IS have class 0."
+  -- the rows written are those of an expanded document (checker's Grammar; of what they say, `form` of `Expanded`)
   pub fits : checked form.Expanded (outRows r) ≡ Fits
   -- of a scope's entry, what its kind doesn't use is 0
   pub scopeWords : take (5 * r .answer .scopes) (r .scopes) ≡ flat scopeEntry (said r .scopes)

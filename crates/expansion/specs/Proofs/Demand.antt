@@ -10,6 +10,9 @@ use lib.ListN.{length, getD, length-map, List·getD-map}
 use Rattle.ast.specs.Ast.{Statement, Node, ProtoDecl}
 use Rattle.ast.specs.Lists.{flat}
 use Rattle.ast.specs.Choice.{mapO}
+use Rattle.ast.specs.Each.{Each}
+use Rattle.ast.specs.Expanded.{TopKept, InnerKept, InterfaceKept, NodeKept}
+use Rattle.ast.proofs.Basics.{each-mem, map-map}
 use Rattle.ast.specs.Lookups.{nodeAt, protoAt, externProtoAt}
 use Rattle.picks.specs.Picks.{Pick}
 use Rattle.steps.specs.ListLaws.{nodup-map}
@@ -28,35 +31,45 @@ use Rattle.expansion.specs.Ids.{statementIds}
 use Rattle.expansion.specs.State.{World, State, Result, refusal, ok, start}
 use Rattle.expansion.specs.Expand.{statements, LedgerEntry, ledgerEntry, Expansion, Answer, expansion, answer, expand}
 use Rattle.expansion.specs.Reached.{Known, entryOf, bodyIds, declOf, bodyNames, bodyScope, kindBy, kindOf, defaultScope, graph}
-use Rattle.expansion.specs.Expanded.{RouteOrExtern, scopeAt, TakesDefault, Expanded, Met, documentIn, PlainAt, InstanceAt, fourOrigin, fourStatement, fourBody, six, seven, eight, Needs, Refusal, atTop, nowhere, tooDeep, atNode, tooMany}
+use Rattle.expansion.specs.Expanded.{scopeAt, TakesDefault, Expanded, Met, documentIn, PlainAt, InstanceAt, fourOrigin, fourStatement, fourBody, six, seven, eight, Needs, Refusal, atTop, nowhere, tooDeep, atNode, tooMany}
 use Rattle.expansion.specs.Proofs.Outcome.{atOk, atRefusal}
 use Rattle.expansion.specs.Proofs.Walk.{see, Fair, Whole, whole-run, Halt, noRow, because, statements-run}
 use Rattle.expansion.specs.Proofs.Agrees.{agrees}
 use Rattle.expansion.specs.Proofs.Defaults.{defaults-exact}
 use Rattle.expansion.specs.Proofs.DefaultCount.{default-count}
-use Rattle.expansion.specs.Proofs.Output.{NodeStatement, Output, output}
+use Rattle.expansion.specs.Proofs.Output.{TopStatement, NodeStatement, OutputNode, Output, output}
 use Rattle.expansion.specs.Proofs.Ids.{ids-below}
 use Rattle.expansion.specs.Proofs.Rows.{Covered, statements-cov}
 use Rattle.expansion.specs.Proofs.Types.{types-listed}
 use Rattle.expansion.specs.Proofs.Needs.{rows-needed}
-
--- A map after a map.
-map-map : {A B C : Type 0} (f : B → C) (g : A → B) (l : List A) → map f (map g l) ≡ map (λ x. f (g x)) l
-map-map f g [] = refl
-map-map f g (x ∷ l) = ap (λ (r : List _). f (g x) ∷ r) (map-map f g l)
 
 -- A list of pairs, put together from their parts.
 map-pairs : (l : List (ℕ × ℕ)) → map (λ x. (x .0, x .1)) l ≡ l
 map-pairs [] = refl
 map-pairs (x ∷ l) = ap (λ (r : List (ℕ × ℕ)). x ∷ r) (map-pairs l)
 
--- A statement of an output node is a Route or an ExternProto.
-routeOrExtern : (n : ℕ) (s : Statement) → NodeStatement n s → RouteOrExtern s
-routeOrExtern n (Statement.Node i) h = h
-routeOrExtern n (Statement.Proto p) h = h
-routeOrExtern n (Statement.ExternProto x) h = tt
-routeOrExtern n (Statement.Route r) h = tt
-routeOrExtern n (Statement.Other p) h = h
+-- Statements and nodes of an output are those of an expanded document.
+top-kept : (n : ℕ) (s : Statement) → TopStatement n s → TopKept s
+top-kept n (Statement.Node i) h = tt
+top-kept n (Statement.Proto p) h = h
+top-kept n (Statement.ExternProto x) h = tt
+top-kept n (Statement.Route r) h = tt
+top-kept n (Statement.Other p) h = tt
+
+inner-kept : (n : ℕ) (s : Statement) → NodeStatement n s → InnerKept s
+inner-kept n (Statement.Node i) h = h
+inner-kept n (Statement.Proto p) h = h
+inner-kept n (Statement.ExternProto x) h = tt
+inner-kept n (Statement.Route r) h = tt
+inner-kept n (Statement.Other p) h = h
+
+node-kept : (n : ℕ) (x : Node) → OutputNode n x → NodeKept x
+node-kept n x h =
+    record {
+      origin = h .origin;
+      interface = each-mem InterfaceKept (x .interface) (λ d q. h .interface d q .1);
+      statements = each-mem InnerKept (x .statements) (λ s q. inner-kept n s (h .statements s q));
+    }
 
 module _ (I : Input) (l : List Statement) (st : State) (e : statements I start ≡ ok l st) where
   -- Its output,
@@ -178,7 +191,13 @@ module _ (I : Input) (l : List Statement) (st : State) (e : statements I start �
     rowsPaid = omega (arith, paid .covers);
     scopesPaid = omega (arith, paid .covers);
     chargeLimit = paid .capped;
-    form = record { statements = λ y m t q. routeOrExtern (length (st .nodes)) t (out .nodes y m .statements t q); interface = λ y m d q. out .nodes y m .interface d q .1; externs = out .externs };
+    form = record {
+      nodes = each-mem NodeKept (st .nodes) (λ y m. node-kept (length (st .nodes)) y (out .nodes y m));
+      protos = refl;
+      externProtos = each-mem (λ y. Each InterfaceKept (y .interface)) (st .externProtos) (λ y m. each-mem InterfaceKept (y .interface) (λ d q k s. out .externs y m d q));
+      statements = each-mem TopKept l (λ s m. top-kept (length (st .nodes)) s (out .statements s m));
+    };
+    externs = out .externs;
   }
 
 -- ---- what an accepted expansion passes
