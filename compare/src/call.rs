@@ -2,6 +2,11 @@
 
 use crate::rows::Row;
 
+/// The caps of the limits.
+pub const MOST_NODES: u32 = 4_000_000;
+pub const MOST_DEPTH: u32 = 512;
+pub const MOST_CHARGES: u32 = 16_777_216;
+
 /// What Expand is called with. Of the lent slices only the lengths matter.
 #[derive(Clone, Debug)]
 pub struct Call {
@@ -25,6 +30,13 @@ impl Call {
     pub fn new(root: Vec<u32>, library: Vec<u32>, max_nodes: u32, max_depth: u32, max_rows: u32) -> Call {
         let lent = Call::needed(max_nodes, max_depth, max_rows);
         Call { root, library, max_nodes, max_depth, max_rows, lent }
+    }
+
+    /// The limits are within their caps, and the slices long enough.
+    pub fn in_room(&self) -> bool {
+        let needed = Call::needed(self.max_nodes, self.max_depth, self.max_rows);
+        let short = self.lent.iter().zip(needed).any(|(lent, needed)| *lent < needed);
+        self.max_nodes <= MOST_NODES && self.max_depth <= MOST_DEPTH && self.max_rows <= MOST_CHARGES && !short
     }
 
     /// Rows of both sheets, for finding the smallest of several inputs.
@@ -55,6 +67,14 @@ pub struct Expanded {
 }
 
 pub type Answer = Result<Expanded, Refusal>;
+
+/// The words of an answer: refusal, two places, nodes, scopes, charges, rows of out.
+pub fn head(answer: &Answer) -> [u32; 7] {
+    match answer {
+        Ok(e) => [0, 0, 0, e.nodes, e.scopes.len() as u32, e.charges, e.out.len() as u32],
+        Err(r) => [r.number, r.places[0], r.places[1], 0, 0, 0, 0],
+    }
+}
 
 /// A refusal as a result.
 pub fn refuse<T>(number: u32, first: u32, second: u32) -> Result<T, Refusal> {

@@ -170,18 +170,23 @@ pub fn pod_from_itself(max_rows: u32) -> Call {
 pub fn run() -> u64 {
     let flights = flights();
     let mut wrong = (FieldType::ALL.len() != TAGS as usize) as u64;
+    let (mut compared, mut by_is) = (0, 0);
     for f in &flights {
         let [nodes, depth, rows] = f.limits;
         let call = Call::new(f.rows.clone(), Vec::new(), nodes, depth, rows);
         let reckoned = reckon::reckon(&call, None);
         let got = (f.look)(&reckoned.answer);
-        let original = versus::against_original(&call, &reckoned).unwrap_or(Ok(()));
+        let original = versus::against_original(&call, &reckoned);
+        compared += original.is_some() as u64;
+        by_is += reckoned.bound.takes_default() as u64;
+        let original = original.unwrap_or(Ok(()));
         if got != f.expected || original.is_err() {
             wrong += 1;
             println!("{}: expected {:?}, got {got:?}; {original:?}", f.what, f.expected);
         }
     }
-    println!("{} flights, {wrong} wrong", flights.len());
+    println!("{} flights, {compared} with the original, {wrong} wrong", flights.len());
+    println!("with a default because of an IS to nothing {by_is}");
     let call = |rows| Call::new(rows, Vec::new(), 400, 64, MOST_CHARGES);
     wrong + spoil::run(&call(pod(1)), spoil::POD) + spoil::run(&call(counter()), spoil::COUNTER)
 }

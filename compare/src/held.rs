@@ -1,8 +1,9 @@
 //! One call of the library with every lent word looked at: what is written, what must stay, and the words around each slice.
 
-use crate::call::{Answer, Call, Expanded};
+use crate::call::{head, Answer, Call, Expanded};
 use crate::frames::{GARBAGE, LEDGER, OUT, SCOPES};
 use crate::linked::{self, Lent};
+use crate::pairs::Words;
 
 /// Words of an answer.
 pub const ANSWER: usize = 7;
@@ -67,6 +68,15 @@ impl Slices {
             .or_else(|| self.kept(call))
     }
 
+    /// What stands in the slices after a call that did not part from its answer: the answer, and what it says is written.
+    pub fn words(&self) -> Words {
+        let mut answer = [0; ANSWER];
+        answer.copy_from_slice(&self.answer.words()[..ANSWER]);
+        let [.., nodes, scopes, _, rows] = answer.map(|n| n as usize);
+        let written = [(&self.out, 8 * rows), (&self.ledger, 3 * nodes), (&self.scopes, 5 * scopes)];
+        Words { answer, slices: written.map(|(slice, length)| slice.words()[..length].to_vec()) }
+    }
+
     fn call(&mut self, call: &Call, answer_words: usize) -> u32 {
         for (slice, sheet) in [(&mut self.root, &call.root), (&mut self.library, &call.library)] {
             slice.lend(sheet.len());
@@ -100,8 +110,7 @@ impl Slices {
     fn answered(&self, result: u32, expected: Option<&Answer>) -> Option<String> {
         let head = match expected {
             None => [1, UNANSWERED, UNANSWERED, UNANSWERED, UNANSWERED, UNANSWERED, UNANSWERED],
-            Some(Err(r)) => [r.number, r.places[0], r.places[1], 0, 0, 0, 0],
-            Some(Ok(e)) => [0, 0, 0, e.nodes, e.scopes.len() as u32, e.charges, e.out.len() as u32],
+            Some(answer) => head(answer),
         };
         if result != head[0] {
             return Some(format!("result: expected {}, got {result}", head[0]));

@@ -19,6 +19,7 @@ mod linked;
 mod memory;
 mod mutants;
 mod output;
+mod pairs;
 mod picks;
 mod random;
 mod reckon;
@@ -26,6 +27,7 @@ mod replay;
 mod rows;
 mod rust;
 mod scenes;
+mod shown;
 mod shrink;
 mod spoil;
 mod steps;
@@ -49,6 +51,8 @@ compare frames check CASES ANSWERS
 compare frames mutants COUNT SEED          every mutant over COUNT frames, every other one small
 compare frames answer CASES ANSWERS [MUTANT]
 compare replay FOLDER                      write the program `replay`'s stdin and stdout, each case checked
+compare pairs COUNT SEED                   pairs of limits, at least COUNT: by the linked library, by the reckoning where none is
+compare pairs mutants COUNT SEED           every reckoning in which a limit shows, over at least COUNT pairs
 compare library COUNT SEED                 the linked static library (feature `library`)
 compare bench [PART]                       times of the original, the linked library and copying; scenes whose name has PART
 compare bench spin PART SECONDS            the library's calls alone, for a profiler
@@ -112,6 +116,8 @@ fn command() -> Result<u64, String> {
         ["bench", "spin", part, seconds] => Ok(bench::spin(part, number(seconds)?)),
         ["bench", "small", part, count] => Ok(bench::small(part, number(count)?)),
         ["bench", part] => Ok(bench::run(part)),
+        ["pairs", count, seed] => Ok(pairs::run(number(count)?, number(seed)?)),
+        ["pairs", "mutants", count, seed] => Ok(pairs::mutants(number(count)?, number(seed)?)),
         #[cfg(feature = "library")]
         ["library", count, seed] => Ok(library::run(number(count)?, number(seed)?)),
         _ => Err(USAGE.into()),

@@ -30,9 +30,7 @@ pub fn reckon(call: &Call, mutant: Option<Mutant>) -> Reckoned {
 }
 
 fn answer(call: &Call, mutant: Option<Mutant>, bound: &mut Bound) -> Answer {
-    let needed = Call::needed(call.max_nodes, call.max_depth, call.max_rows);
-    let short = call.lent.iter().zip(needed).any(|(lent, needed)| *lent < needed);
-    if call.max_nodes > 4_000_000 || call.max_depth > 512 || call.max_rows > 16_777_216 || short {
+    if !call.in_room() {
         return refuse(1, 0, 0);
     }
     if [&call.root, &call.library].iter().any(|s| s.len() % 8 != 0 || s.len() / 8 > MOST_ROWS) {

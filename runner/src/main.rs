@@ -106,8 +106,8 @@ fn run(options: &Options) -> Result<(), Stop> {
     Ok(())
 }
 
-/// K for the first call, where it isn't given. After refusal 10 it is four times that, up to the cap. The steps are the same
-/// whatever K is, until one more charge would pass it: so the last answer is the one that K at its cap gives.
+/// K for the first call, where it isn't given. After refusal 10 it is four times that, up to the cap. What is accepted then is
+/// what K at its cap gives: `SameFlight` of crates/operation/specs/Limits.antt.
 fn first_rows(sheets: &Sheets) -> u32 {
     (4 * (sheets.root_rows + sheets.library_rows)).clamp(4096, MOST_ROWS as usize) as u32
 }

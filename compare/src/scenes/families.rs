@@ -94,7 +94,6 @@ pub fn scene(mut number: u64) -> Scene {
 }
 
 /// The number of scenes in the families of document 01; those of the wishes' families come behind them.
-#[cfg_attr(not(feature = "library"), allow(dead_code))]
 pub fn of_document_01() -> u64 {
     sizes()[..OF_DOCUMENT_01].iter().map(|(_, size)| size).sum()
 }

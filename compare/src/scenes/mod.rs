@@ -5,14 +5,14 @@ pub mod families;
 pub mod free;
 pub mod large;
 pub mod lent;
+pub mod limits;
 pub mod stored;
+
+pub use crate::call::MOST_CHARGES;
 
 use crate::call::Call;
 use crate::rows::words_of;
 use crate::tree::{print, print_library, Doc, File};
-
-/// The most charges that Expand may be lent.
-pub const MOST_CHARGES: u32 = 16_777_216;
 
 /// A scene with its limits.
 #[derive(Clone, Debug)]

@@ -15,4 +15,5 @@ pub mod Readings
 pub mod Reached
 pub mod Outputs
 pub mod Expanded
+pub mod Bigger
 pub mod Proofs

@@ -9,3 +9,5 @@ pub mod Output
 pub mod Ids
 pub mod Rows
 pub mod Demand
+pub mod Runs
+pub mod Bigger

@@ -360,3 +360,16 @@ is-in-default : counts (expand (scene usual (instanceOf 0 [] ∷ instanceOf 1 (f
     ≡ (0 ∷ 2 ∷ 5 ∷ 2 ∷ 21 ∷ [])
 unfolding computed
 is-in-default = refl
+
+-- ---- document 02, wish 9: limits that are just enough give what bigger ones give; less gives 8, 9, 10
+
+abbrev single : ℕ → ℕ → ℕ → Input
+single n d k = scene (limits n d k) (leaf ∷ []) [] (Statement.Node 0 ∷ [])
+
+just-enough : (expand (single 1 1 6) ≡ expand (single 400 64 400))
+    × (counts (expand (single 1 1 6)) ≡ (0 ∷ 1 ∷ 1 ∷ 0 ∷ 6 ∷ []))
+    × (counts (expand (single 0 1 6)) ≡ (8 ∷ 0 ∷ 0 ∷ []))
+    × (counts (expand (single 1 0 6)) ≡ (9 ∷ 0 ∷ 0 ∷ []))
+    × (counts (expand (single 1 1 5)) ≡ (10 ∷ 0 ∷ 0 ∷ []))
+unfolding computed
+just-enough = (refl, refl, refl, refl, refl)

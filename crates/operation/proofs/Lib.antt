@@ -3,3 +3,4 @@ pub mod Said
 pub mod Tests
 pub mod Cases
 pub mod Promised
+pub mod Limited

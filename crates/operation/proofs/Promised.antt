@@ -35,7 +35,7 @@ use Rattle.operation.proofs.Tests.{yes-no, room-if, room-then, sheets-i
 over-length : (new old : List ℕ) → length new ≤ length old → length (over new old) ≡ length old
 over-length new old h = omega (arith, length-append new (drop (length new) old), length-drop (length new) old)
 
-over-written : (new old : List ℕ) (n : ℕ) → length new ≡ n → take n (over new old) ≡ new
+pub over-written : (new old : List ℕ) (n : ℕ) → length new ≡ n → take n (over new old) ≡ new
 over-written new old n e = take-at new (drop (length new) old) n e
 
 over-kept : (new old : List ℕ) (n : ℕ) → length new ≡ n → drop n (over new old) ≡ drop n old

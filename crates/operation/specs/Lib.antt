@@ -1,3 +1,4 @@
 pub mod Operation
 pub mod Promises
+pub mod Limits
 pub mod Examples

@@ -161,11 +161,11 @@ module _ (I : Input) (l : List Statement) (st : State) (e : statements I start �
   }
 
 -- A refusal is no expansion.
-refused-not-expanded : {A : Type 0} {c d i : ℕ} {e : Expansion} → Answer.Refused c d i ≡ Answer.Expanded e → A
+pub refused-not-expanded : {A : Type 0} {c d i : ℕ} {e : Expansion} → Answer.Refused c d i ≡ Answer.Expanded e → A
 refused-not-expanded q = absurd (let z : _≡_ {A = ℕ} 0 1 = cc in omega arith)
 
 -- An answer holds one expansion.
-same-expansion : (a b : Expansion) → Answer.Expanded a ≡ Answer.Expanded b → a ≡ b
+pub same-expansion : (a b : Expansion) → Answer.Expanded a ≡ Answer.Expanded b → a ≡ b
 same-expansion a b q = cc
 
 -- Demand 3: whatever is written into a scene and the files it names, this holds of every accepted expansion.
