@@ -72,7 +72,7 @@ enum luhetami_refusal {
     LUHETAMI_NODES = 8,           /* more than max_nodes nodes */
     LUHETAMI_DEPTH = 9,           /* nested deeper than max_depth */
     LUHETAMI_ROWS = 10,           /* more than max_rows charges */
-    LUHETAMI_SCOPES = 11,         /* scopes holds no further entry; 5 * max_rows words always do, so it does not happen */
+    /* 11 is not used: it stood for scopes without room for a further entry, and 5 * max_rows words always have it */
 
     /* luhetami_read_lines */
     LUHETAMI_LINES_LENGTH = 12, /* bytes no multiple of 89, more rows than words holds, more than 4,294,967,295 lines,
@@ -108,7 +108,7 @@ enum luhetami_refusal {
  * answer      7 words: refusal, first place, second place, nodes, scopes, charges, rows of out. Refused, the counts are 0.
  *             Words past the seventh stay.
  *
- * Accepted, the words of out, ledger and scopes past what is written stay. Refused (1 to 11), all of their words stay.
+ * Accepted, the words of out, ledger and scopes past what is written stay. Refused (1 to 10), all of their words stay.
  */
 uint32_t luhetami_expand(const uint32_t *root, size_t root_len,
                          const uint32_t *library, size_t library_len,

@@ -164,7 +164,7 @@ pub fn check(cases: &str, answers: &str) -> io::Result<u64> {
 #[derive(Default)]
 struct Report {
     cases: u64,
-    refused: [u64; 12],
+    refused: [u64; 11],
     differences: u64,
     smallest: Option<(u64, Call, String)>,
 }

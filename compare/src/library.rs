@@ -22,7 +22,7 @@ const THREADS: u64 = 4;
 #[derive(Clone, Copy, Default)]
 struct Counts {
     calls: u64,
-    refused: [u64; 12],
+    refused: [u64; 11],
     original: u64,
     /// A default is taken because of an IS to nothing: not with the original.
     by_is: u64,

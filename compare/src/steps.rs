@@ -1,4 +1,4 @@
-//! The steps of an expansion, with refusals 4 to 11 and each charge at its moment.
+//! The steps of an expansion, with refusals 4 to 10 and each charge at its moment.
 
 use std::collections::HashMap;
 
@@ -39,7 +39,6 @@ pub struct Steps<'a> {
     picks: Vec<Option<(usize, u32)>>,
     /// Nodes, depth, rows.
     limits: [usize; 3],
-    scopes_lent: u64,
     mutant: Option<Mutant>,
     pub charges: usize,
     pub nodes: Vec<Node>,
@@ -61,7 +60,6 @@ impl<'a> Steps<'a> {
             docs,
             picks,
             limits: [call.max_nodes as usize, call.max_depth as usize, call.max_rows as usize],
-            scopes_lent: call.lent[2] / 5,
             mutant,
             charges: 0,
             nodes: Vec::new(),
@@ -111,9 +109,8 @@ impl<'a> Steps<'a> {
     fn open(&mut self, entry: [u32; 5], instance: u32) -> Step<usize> {
         self.charge(1)?;
         let number = self.scopes.len();
-        if number as u64 >= self.scopes_lent {
-            return refuse(11, 0, 0);
-        }
+        // Wish 7: "Each scope is charged before its entry is made and the slice has K entries, so it can't fill."
+        assert!(number < self.limits[2], "the scopes slice is full");
         let document = entry[1] as usize;
         self.scopes.push(Scope {
             entry,

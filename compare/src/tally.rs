@@ -15,7 +15,7 @@ pub struct Tally {
     /// Of these, the ones held against the original without the fields so bound.
     pub absent: u64,
     pub accepted: u64,
-    pub refused: [u64; 12],
+    pub refused: [u64; 11],
     pub loops: u64,
     pub bodies: u64,
     pub defaults: u64,

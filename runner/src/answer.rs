@@ -60,7 +60,6 @@ fn reason(refusal: u32, first: u32, second: u32, limits: &Limits, sheets: &Sheet
         8 => format!("more than {} nodes", limits.nodes),
         9 => format!("nesting deeper than {}", limits.depth),
         10 => format!("more than {} charges", limits.rows),
-        11 => String::from("no room for a further scope"),
         _ => format!("places {first} and {second}"),
     }
 }

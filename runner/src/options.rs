@@ -16,8 +16,8 @@ in numbers, goes to standard error. SCENE.lines may be - for standard input.
   --scopes FILE         write the scopes: kind, document, PROTO id, interface index and opening scope of each
   --help                print this
 
-The exit status is 0 where the scene is accepted, the refusal's number (1 to 14) where it is refused, 64 where the arguments
-are wrong and 74 where the operating system refuses something.
+The exit status is 0 where the scene is accepted, the refusal's number (1 to 10, 12 to 14) where it is refused, 64 where the
+arguments are wrong and 74 where the operating system refuses something.
 ";
 
 pub struct Options {

@@ -98,7 +98,7 @@ pub record Expanded (I : Input) (e : Expansion) : Type 0 where
 
 -- ---- refusals
 
--- every refusal of the steps: "4 dangling EXTERNPROTO id, 5 dangling node id, 6 dangling PROTO id, 7 body without a root, each with document and id"; "8 nodes; 9 depth; 10 rows", with 0 and 0; 11 never
+-- every refusal of the steps: "4 dangling EXTERNPROTO id, 5 dangling node id, 6 dangling PROTO id, 7 body without a root, each with document and id"; "8 nodes; 9 depth; 10 rows", with 0 and 0
 pub data Refusal : ℕ → ℕ → ℕ → Type 0 where
   four : (d i : ℕ) → Refusal 4 d i
   five : (d i : ℕ) → Refusal 5 d i

@@ -1,16 +1,15 @@
 -- An instance (document 01, Copy: `instantiate`).
-use mathlib.Core.Bool.{Bool, true, false}
 use mathlib.Core.List.{List, [], _∷_, _++_, map}
 use mathlib.Core.Option.{Option, none, some}
 use Prim.Native.Nat.{ℕ, suc}
 use lib.ListN.{length, getElem?, set}
-use lib.Dec.{ltb, eqb}
+use lib.Dec.{eqb}
 use Rattle.ast.specs.Ast.{FieldValue, FieldBinding, Field, InterfaceDecl, Route, Statement, Association, ProtoInstance, Node, ProtoDecl}
 use Rattle.ast.specs.Choice.{choose, andThen, orElse}
 use Rattle.picks.specs.Picks.{Pick}
 use Rattle.expansion.specs.Input.{Input, lastField}
 use Rattle.expansion.specs.Scopes.{Scope}
-use Rattle.expansion.specs.State.{State, refusal, ok, Comp, _>>=_, _>>_, ret, fail, foldM, withWorld, withNodes}
+use Rattle.expansion.specs.State.{State, ok, Comp, _>>=_, _>>_, ret, fail, foldM, withWorld, withNodes}
 use Rattle.expansion.specs.Charges.{charge, paid}
 use Rattle.expansion.specs.Values.{Values, valueOf, Env, Copier, value, clone}
 use Rattle.expansion.specs.Externs.{externProto}
@@ -18,16 +17,13 @@ use Rattle.expansion.specs.PlainCopy.{remapRoute}
 
 -- ---- scopes
 
--- a scope's entry; "11 the scopes slice holds no further entry"
-unfoldable pub pushScope : Bool → Scope → Comp ℕ
-pushScope false e st = refusal 11 0 0
-pushScope true e st = ok (length (st .world .scopes)) (withWorld (record { map = st .world .map; ledger = st .world .ledger; scopes = st .world .scopes ++ (e ∷ []) }) st)
+-- a scope's entry
+unfoldable pub pushScope : Scope → Comp ℕ
+pushScope e st = ok (length (st .world .scopes)) (withWorld (record { map = st .world .map; ledger = st .world .ledger; scopes = st .world .scopes ++ (e ∷ []) }) st)
 
--- charged: "a scope"; the slice has K entries
+-- charged: "a scope"
 unfoldable pub openScope : Input → Scope → Comp ℕ
-openScope I e = do
-  charge I
-  λ st. pushScope (ltb (length (st .world .scopes)) (I .limits .maxRows)) e st
+openScope I e = charge I >> pushScope e
 
 -- ---- values
 

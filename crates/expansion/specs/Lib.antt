@@ -9,6 +9,7 @@ pub mod PlainCopy
 pub mod Instances
 pub mod Copy
 pub mod Expand
+pub mod Room
 pub mod Scenes
 pub mod Flights
 pub mod Readings

@@ -10,4 +10,5 @@ pub mod Ids
 pub mod Rows
 pub mod Demand
 pub mod Runs
+pub mod Room
 pub mod Bigger

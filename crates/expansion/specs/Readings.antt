@@ -7,8 +7,10 @@ use Prim.Native.Nat.{ℕ}
 use Rattle.ast.specs.Ast.{NodeOrigin, BodyElement, FieldValue, FieldBinding, Field, InterfaceDecl, Statement, ProtoInstance, Node}
 use Rattle.steps.specs.Lists.{countIf}
 use Rattle.expansion.specs.Input.{Input}
-use Rattle.expansion.specs.Scopes.{isDefault, scopeEntry}
+use Rattle.expansion.specs.Scopes.{Scope, isDefault, scopeEntry}
+use Rattle.expansion.specs.State.{State, refusal}
 use Rattle.expansion.specs.Expand.{expand}
+use Rattle.expansion.specs.Room.{pushIf, pushIn, openIn, takeDefaultIn, interfaceValueIn, valuesIn, instantiateIn, copyNodeIn, copyIn, statementsIn, expandIn}
 use Rattle.expansion.specs.Scenes.{ids, number, field, fieldIs, interface, interfaceIs, route, node, leaf, group, plain, instanceOf, proto, document, limits, usual, scene, scattered, counts, seen, computed}
 
 abbrev outputNodes : Input → Option (List Node)
@@ -373,3 +375,26 @@ just-enough : (expand (single 1 1 6) ≡ expand (single 400 64 400))
     × (counts (expand (single 1 1 5)) ≡ (10 ∷ 0 ∷ 0 ∷ []))
 unfolding computed
 just-enough = (refl, refl, refl, refl, refl)
+
+-- ---- document 02, wish 7: the expansion that looks for room; nest has five scopes
+
+-- a slice of 24 words holds four entries, and gives 11; one of 25 holds all
+looks : (counts (expandIn 24 nest) ≡ (11 ∷ 0 ∷ 0 ∷ [])) × (expandIn 25 nest ≡ expand nest)
+unfolding computed pushIf pushIn openIn takeDefaultIn interfaceValueIn valuesIn instantiateIn copyNodeIn copyIn statementsIn expandIn
+looks = (refl, refl)
+
+-- the default of PROTO 0 is an instance of it: with K = 20 each charge but two is a scope's, and no fewer than 5 × 18 words hold their entries
+abbrev endless : Input
+endless = scene (limits 400 64 20) (instanceOf 0 [] ∷ []) (proto (interface 1 (some (ids (0 ∷ []))) ∷ []) [] ∷ []) (Statement.Node 0 ∷ [])
+
+fills : (counts (expand endless) ≡ (10 ∷ 0 ∷ 0 ∷ [])) × (counts (expandIn 89 endless) ≡ (11 ∷ 0 ∷ 0 ∷ [])) × (expandIn 90 endless ≡ expand endless)
+unfolding computed pushIf pushIn openIn takeDefaultIn interfaceValueIn valuesIn instantiateIn copyNodeIn copyIn statementsIn expandIn
+fills = (refl, refl, refl)
+
+-- K = 1, one scope and its charge: a further scope is refused for its charge, before room is looked for
+abbrev full : State
+full = record { world = record { map = []; ledger = []; scopes = Scope.Root ∷ [] }; nodes = []; externProtos = []; externMap = []; isMap = []; charges = 1 }
+
+charged-first : openIn 5 (single 1 1 1) Scope.Root full ≡ refusal 10 0 0
+unfolding computed pushIf pushIn openIn
+charged-first = refl

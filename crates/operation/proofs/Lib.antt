@@ -3,4 +3,5 @@ pub mod Said
 pub mod Tests
 pub mod Cases
 pub mod Promised
+pub mod Looked
 pub mod Limited

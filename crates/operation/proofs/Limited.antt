@@ -21,8 +21,8 @@ use Rattle.expansion.specs.Expanded.{Expanded}
 use Rattle.expansion.specs.Bigger.{Bigger, under, TooSmall}
 use Rattle.expansion.specs.Bigger
 use Rattle.expansion.specs.Proofs.Demand.{demand-3, refusals, refused-not-expanded}
-use Rattle.expansion.specs.Proofs.Runs.{Answers, both, answers}
-use Rattle.expansion.specs.Proofs.Bigger.{accept, refuse, exactly, joined, suffice, joined-first, joined-second, one-flight}
+use Rattle.expansion.specs.Proofs.Runs.{Answers, both}
+use Rattle.expansion.specs.Proofs.Bigger.{answers, accept, refuse, exactly, joined, suffice, joined-first, joined-second, one-flight}
 use Rattle.operation.specs.Operation.{Call, overCaps, tooShort, wrongLength, refuseIf, refuseBad, input, outcome, over, ledgerWords, after, expandWords}
 use Rattle.operation.specs.Limits.{SameSheets, BiggerCall, SameWords, SameFlight, EnoughCall, WhereEnough, OneFlight}
 use Rattle.operation.proofs.Said.{words-length, ledger-length, scopes-length}

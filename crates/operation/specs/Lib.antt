@@ -1,4 +1,5 @@
 pub mod Operation
 pub mod Promises
 pub mod Limits
+pub mod Looking
 pub mod Examples

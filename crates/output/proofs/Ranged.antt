@@ -385,11 +385,7 @@ module _ (I : Input) (given : InputInRange I) where
 
   openScope-good : (e : Scope) → Good I Free (openScope I e)
   unfolding openScope pushScope
-  openScope-good e = good-bind charge-good (λ u p st b. go st b (ltb (length (st .world .scopes)) (I .limits .maxRows)))
-    where
-      go : (st : State) → Ranged I st → (t : Bool) → Out (Post I Free) (pushScope t e st)
-      go st b false = refused tt
-      go st b true = accepted (record { ranged = record { mapped = b .mapped; nodes = b .nodes; externProtos = b .externProtos; externMap = b .externMap; isMap = b .isMap; externsPaid = b .externsPaid; capped = b .capped }; res = tt })
+  openScope-good e = good-bind charge-good (λ u p st b. accepted (record { ranged = record { mapped = b .mapped; nodes = b .nodes; externProtos = b .externProtos; externMap = b .externMap; isMap = b .isMap; externsPaid = b .externsPaid; capped = b .capped }; res = tt }))
 
   takeDefault-good : (f : Env → Copier) → Goods f → (e : Scope) (v : Option FieldValue) → DefaultInRange v → Good I DefaultInRange (takeDefault I f e v)
   unfolding takeDefault

@@ -6,12 +6,8 @@ use mathlib.Core.Option.{none, some}
 use Prim.Native.Nat.{ℕ, _+_, _-_, _≤_, _<_}
 use native.Mathlib.Omega.{arith}
 use lib.ListN.{length}
-use lib.Dec.{ltb}
-use borrow.Author.Tests.{lt-ltb}
 use Rattle.ast.specs.Choice.{choose}
-use Rattle.expansion.specs.Input.{Input}
-use Rattle.expansion.specs.State.{ok, Comp}
-use Rattle.expansion.specs.Scopes.{Scope}
+use Rattle.expansion.specs.State.{ok}
 use Rattle.expansion.specs.Values.{Env}
 use Rattle.expansion.specs.Charges.{oneMore}
 use Rattle.expansion.specs.Instances.{pushScope, openScope}
@@ -44,17 +40,13 @@ use Rattle.refine.proofs.Grow.{grown, sound-more, later-more, alone, co
 use Rattle.refine.proofs.Charges.{change-refused, change-done}
 use Rattle.refine.proofs.Keeping.{not-of-body}
 
--- what `openScope` does after its charge
-abbrev opening : Input → Scope → Comp ℕ
-opening I e st = pushScope (ltb (length (st .world .scopes)) (I .limits .maxRows)) e st
-
 -- there are no more scopes than charges
 pub few-scopes : {L : Limits} {w : List ℕ} {t : Counts} → Sound L w t → t .scopes ≤ t .charges
 few-scopes {L} {w} {t} so = omega (arith, so .scopes, count-low (tagged w tagScope) (t .charges))
 
 pub open-full : (L : Limits) (w : List ℕ) (t : Counts) (kind document proto index opener : ℕ) → L .rows ≤ t .charges → (a : Answer) → a ≡ Refused 10 0 0 → Opened L w t kind document proto index opener w a
 unfolding openScope
-open-full L w t kind document proto index opener h a e = rw e (record { does = λ S young. change-refused S young number (opening (inputOf S L) (scopeBy kind document proto index opener)) h; done = tt })
+open-full L w t kind document proto index opener h a e = rw e (record { does = λ S young. change-refused S young number (pushScope (scopeBy kind document proto index opener)) h; done = tt })
 
 module _ {L : Limits} {w : List ℕ} {t : Counts} (so : Sound L w t) (kind document proto index opener : ℕ) (room : t .charges < L .rows) {w′ : List ℕ} (long : length w′ ≡ length w)
     (p : Pushed w w′ (t .charges) (scopeOf kind document proto index opener (t .scopes))) where
@@ -97,17 +89,16 @@ module _ {L : Limits} {w : List ℕ} {t : Counts} (so : Sound L w t) (kind docum
         kept-is w′ c tagScope 5 opener (p .holds .at0) (omega arith) (p .holds .at5),
       )
 
-  pushed : (S : Source) → ok (t .scopes) (at S w′ t1) ≡ opening (inputOf S L) (scopeBy kind document proto index opener) (oneMore (at S w t))
+  pushed : (S : Source) → ok (t .scopes) (at S w′ t1) ≡ pushScope (scopeBy kind document proto index opener) (oneMore (at S w t))
   unfolding pushScope
   pushed S =
       let n : length (scopesOf w c) ≡ t .scopes = scopes-length w c ∙ sym (so .scopes) in
-      rw (lt-ltb (length (scopesOf w c)) (L .rows) (omega (arith, few-scopes so)), n)
-      (ap (ok (t .scopes)) (state-scope (S .root) (S .library) calm (so .fair) put (p .holds) refl))
+      rw n (ap (ok (t .scopes)) (state-scope (S .root) (S .library) calm (so .fair) put (p .holds) refl))
 
   pub open-done : Opened L w t kind document proto index opener w′ (Done t1 (t .scopes) (t .charges))
   unfolding openScope
   open-done = record {
-    does = λ S young. change-done S young number (opening (inputOf S L) (scopeBy kind document proto index opener)) room (later young) (t .scopes) c (pushed S);
+    does = λ S young. change-done S young number (pushScope (scopeBy kind document proto index opener)) room (later young) (t .scopes) c (pushed S);
     done = record { counts = refl; value = refl; place = refl; tag = p .holds .at0; number = p .holds .at6; entry = entry };
   }
 

@@ -1,6 +1,6 @@
 -- The same documents under bigger limits.
 use mathlib.Core.Path.{_≡_, sym, _∙_}
-use Prim.Native.Nat.{ℕ, _+_, _≤_}
+use Prim.Native.Nat.{ℕ, _+_, _*_, _≤_}
 use native.Mathlib.Nat.{le-refl}
 use native.Mathlib.Omega.{arith}
 use Rattle.expansion.specs.Input.{Limits, Input}
@@ -8,7 +8,12 @@ use Rattle.expansion.specs.Expand.{Expansion, Answer, expand}
 use Rattle.expansion.specs.Bigger.{Bigger, under, TooSmall, SameFlight, Enough, WhereEnough, OneFlight}
 use Rattle.expansion.specs.Bigger
 use Rattle.expansion.specs.Proofs.Demand.{refused-not-expanded, same-expansion}
-use Rattle.expansion.specs.Proofs.Runs.{Short, eight, nine, ten, Answers, both, first, answers}
+use Rattle.expansion.specs.Proofs.Runs.{Short, eight, nine, ten, Answers, both, first, answersIn}
+use Rattle.expansion.specs.Proofs.Room.{never-full}
+
+-- By the expansion that looks for room.
+pub answers : (I : Input) (L : Limits) → Bigger (I .limits) L → Answers (I .limits) L (expand I) (expand (under L I))
+answers I L le = rw (never-full (5 * I .limits .maxRows) I (le-refl _) .whole) at (answersIn (5 * I .limits .maxRows) I (le-refl _) L le)
 
 at-least-8 : {L L′ : Limits} {c d i : ℕ} → Short L L′ c d i → 8 ≤ c
 at-least-8 (eight h) = omega arith

@@ -177,7 +177,7 @@ demand-3 I e = go (statements I start) refl
     go (refusal c d i) q h = refused-not-expanded h
     go (ok l st) q h = subst (Expanded I) (same-expansion (expansion I l st) e h) (expanded I l st q)
 
--- Every refusal is one of document 01's, with its places; 11 is none of them.
+-- Every refusal is one of document 01's, with its places.
 pub refusals : (I : Input) (c d i : ℕ) → expand I ≡ Answer.Refused c d i → Refusal c d i
 unfolding expand answer
 refusals I c d i = go (statements I start) refl
@@ -191,7 +191,7 @@ refusals I c d i = go (statements I start) refl
     go (ok l st) q h = refused-not-expanded (sym h)
 
 -- A refusal's number is at most 10.
-at-most-10 : {c d i : ℕ} → Refusal c d i → c ≤ 10
+pub at-most-10 : {c d i : ℕ} → Refusal c d i → c ≤ 10
 at-most-10 (four d i) = omega arith
 at-most-10 (five d i) = omega arith
 at-most-10 (six d i) = omega arith
@@ -199,7 +199,3 @@ at-most-10 (seven d i) = omega arith
 at-most-10 eight = omega arith
 at-most-10 nine = omega arith
 at-most-10 ten = omega arith
-
--- "11 the scopes slice holds no further entry" is never given: each scope is charged first, and the slice has K entries.
-pub never-11 : (I : Input) (d i : ℕ) → expand I ≡ Answer.Refused 11 d i → ⊥
-never-11 I d i e = absurd (omega (arith, at-most-10 (refusals I 11 d i e)))

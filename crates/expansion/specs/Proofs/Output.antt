@@ -558,11 +558,7 @@ module _ (I : Input) where
 
   openScope-good : (m : ℕ) (e : Scope) → Good I m Free (openScope I e)
   unfolding openScope pushScope
-  openScope-good m e = good-bind (charge-good m) (λ u n h p st q b. go st q b (ltb (length (st .world .scopes)) (I .limits .maxRows)))
-    where
-      go : {n : ℕ} (st : State) → n ≤ size st → Sound I st → (t : Bool) → Out (Post I Free st) (pushScope t e st)
-      go st q b false = refused tt
-      go st q b true = still Free st _ _ (record { nodes = refl; maps = refl; ledger = refl; isMap = refl; externs = λ x y. inl y }) q (λ k r. tt) b
+  openScope-good m e = good-bind (charge-good m) (λ u n h p st q b. still Free st _ _ (record { nodes = refl; maps = refl; ledger = refl; isMap = refl; externs = λ x y. inl y }) q (λ k r. tt) b)
 
   takeDefault-good : (f : Env → Copier) → Goods f → (m : ℕ) (e : Scope) (v : Option FieldValue) → Good I m (Opt ValueOk) (takeDefault I f e v)
   unfolding takeDefault

@@ -1,4 +1,4 @@
--- The charges of every expansion: they cover the output's rows and the scopes, and are at most K; so 11 is never given.
+-- The charges of every expansion: they cover the output's rows and the scopes, and are at most K.
 use mathlib.Core.Path.{_≡_, refl, ap, sym, subst}
 use mathlib.Core.Logic.{_⊎_, inl, inr}
 use mathlib.Core.List.{List, [], _∷_, _++_, map, List·Memᴰ, List·Memᴰ·head, List·Memᴰ·tail, List·Memᴰ·cases-cons, List·Memᴰ·append-cases, List·Memᴰ·not-nil}
@@ -8,7 +8,7 @@ use Prim.Native.Nat.{ℕ, zero, suc, _+_, _≤_, _<_}
 use native.Mathlib.Nat.{le-refl, le-trans}
 use native.Mathlib.Omega.{arith}
 use lib.ListN.{length, getElem?, set, length-append, length-map}
-use lib.Dec.{T, ltb, eqb, ltb→lt, lt→ltb, eqb→eq}
+use lib.Dec.{T, ltb, eqb, ltb→lt, eqb→eq}
 use Rattle.ast.specs.Ast.{NodeOrigin, FieldData, FieldValue, FieldBinding, Field, InterfaceDecl, Route, Statement, Association, ProtoInstance, Node, ProtoDecl, ExternProtoDecl}
 use Rattle.ast.specs.Choice.{choose, andThen}
 use Rattle.ast.specs.Lookups.{nodeAt, protoAt, externProtoAt}
@@ -338,14 +338,14 @@ module _ (I : Input) where
 
   -- ---- instances
 
-  -- a scope is opened: there is room for it
+  -- a scope is opened
   record Opened (ω : ℕ → Bool) (k : ℕ) (st : State) (n : ℕ) (st′ : State) : Type 0 where
     number : n ≡ count st
     next : count st′ ≡ suc (count st)
     older : ScopesBelow (count st) (st′ .isMap)
     books : Books I ω k st′
 
-  -- A scope is charged before its entry, so that there is room for it.
+  -- A scope is charged before its entry.
   openScope-books : (ω : ℕ → Bool) (k : ℕ) (e : Scope) (st : State) → Unopened ω (count st) → Books I ω k st → Out (λ n st′. Opened ω k st n st′) (openScope I e st)
   unfolding openScope pushScope charge chargeIf bindR
   openScope-books ω k e st hω b = go (ltb (st .charges) (I .limits .maxRows)) (ltb→lt (st .charges) (I .limits .maxRows))
@@ -353,19 +353,12 @@ module _ (I : Input) where
       more : length (st .world .scopes ++ (e ∷ [])) ≡ suc (count st)
       more = omega (arith, length-append (st .world .scopes) (e ∷ []))
 
-      push : (t : Bool) → (suc (st .charges) ≤ I .limits .maxRows) → T t → Out (λ n st′. Opened ω k st n st′) (pushScope t e (oneMore st))
-      push false le h = absurd h
-      push true le h = accepted opened
-        where
-          after : State
-          after = withWorld (record { map = st .world .map; ledger = st .world .ledger; scopes = st .world .scopes ++ (e ∷ []) }) (oneMore st)
+      opened : suc (st .charges) ≤ I .limits .maxRows → Opened ω k st (count st) (withWorld (record { map = st .world .map; ledger = st .world .ledger; scopes = st .world .scopes ++ (e ∷ []) }) (oneMore st))
+      opened le = record { number = refl; next = more; older = b .below; books = record { below = λ x q. omega (arith, more, b .below x q); capped = le; covers = omega (arith, more, b .covers) } }
 
-          opened : Opened ω k st (count st) after
-          opened = record { number = refl; next = more; older = b .below; books = record { below = λ x q. omega (arith, more, b .below x q); capped = le; covers = omega (arith, more, b .covers) } }
-
-      go : (t : Bool) → (T t → st .charges < I .limits .maxRows) → Out (λ n st′. Opened ω k st n st′) ((chargeIf t >>= (λ u s. pushScope (ltb (count s) (I .limits .maxRows)) e s)) st)
+      go : (t : Bool) → (T t → st .charges < I .limits .maxRows) → Out (λ n st′. Opened ω k st n st′) ((chargeIf t >>= (λ u. pushScope e)) st)
       go false q = refused ten
-      go true q = push (ltb (count st) (I .limits .maxRows)) (q tt) (lt→ltb (count st) (I .limits .maxRows) (omega (arith, q tt, b .covers)))
+      go true q = accepted (opened (q tt))
 
   -- a copier leaves the credit as it was, in every open scope
   abbrev Paying : (Env → Copier) → Type 0

@@ -1,15 +1,16 @@
--- Two runs of the definition from one state, under limits L and bigger ones L′: each step gives the same answer and state, or a limit refuses under L.
+-- Two runs from one state: the expansion that looks for room, under limits L, and the definition, under bigger limits L′. Each step gives the same answer and state, or a limit refuses under L.
+-- With L for L′ this is wish 7; and with that, wish 9.
 -- The laws come first, then one line for each function of the definition.
 use mathlib.Core.Path.{_≡_, refl, ap, subst}
 use mathlib.Core.Bool.{Bool, true, false}
 use mathlib.Core.List.{List, [], _∷_, _++_}
 use mathlib.Core.Option.{Option, none, some}
-use Prim.Native.Nat.{ℕ, zero, suc, _≤_, _<_}
+use Prim.Native.Nat.{ℕ, zero, suc, _*_, _≤_, _<_}
 use native.Mathlib.Nat.{le-refl, le-trans}
 use native.Mathlib.Decide.{ℕ-discrete}
 use native.Mathlib.Omega.{arith}
 use lib.ListN.{length, getElem?, length-append, length-set}
-use lib.Dec.{T, ltb, ltb→lt, lt→ltb}
+use lib.Dec.{T, leb, ltb, ltb→lt, lt→ltb, le→leb}
 use Rattle.ast.specs.Ast.{NodeOrigin, FieldData, FieldValue, FieldBinding, Field, InterfaceDecl, Route, Statement, Association, Node, ProtoDecl, ExternProtoDecl, Document, File}
 use Rattle.ast.specs.Choice.{andThen}
 use Rattle.ast.specs.Lookups.{nodeAt, protoAt, externProtoAt}
@@ -25,6 +26,7 @@ use Rattle.expansion.specs.PlainCopy.{blank, addNode, reserveIf, reserve
 use Rattle.expansion.specs.Instances.{pushScope, openScope, takeDefault, cloneOr, interfaceValue, store, values, Body, place, bodyStatement, rootOf, update, recordInstance, instantiate}
 use Rattle.expansion.specs.Copy.{copyNode, mappedOr, copy}
 use Rattle.expansion.specs.Expand.{statement, rootEnv, statements, Expansion, Answer, answer, expand}
+use Rattle.expansion.specs.Room.{Entries, pushIf, pushIn, openIn, takeDefaultIn, interfaceValueIn, valuesIn, instantiateIn, copyNodeIn, copyIn, statementsIn, expandIn}
 use Rattle.expansion.specs.Bigger.{Bigger, under, TooSmall}
 use Rattle.expansion.specs.Bigger
 use Rattle.expansion.specs.Proofs.Demand.{refused-not-expanded, same-expansion}
@@ -32,14 +34,14 @@ use Rattle.expansion.specs.Proofs.Demand.{refused-not-expanded, same-exp
 -- ---- two results
 
 -- no more scopes than charges
-abbrev Sound : State → Type 0
+abbrev pub Sound : State → Type 0
 Sound st = length (st .world .scopes) ≤ st .charges
 
 -- what an accepted step leaves: neither nodes nor charges fall
-record Grown (st st′ : State) : Type 0 where
-  sound : Sound st′
-  nodes : length (st .nodes) ≤ length (st′ .nodes)
-  charges : st .charges ≤ st′ .charges
+pub record Grown (st st′ : State) : Type 0 where
+  pub sound : Sound st′
+  pub nodes : length (st .nodes) ≤ length (st′ .nodes)
+  pub charges : st .charges ≤ st′ .charges
 
 grown-same : {st : State} → Sound st → Grown st st
 grown-same h = record { sound = h; nodes = le-refl _; charges = le-refl _ }
@@ -54,7 +56,7 @@ pub data Short (L L′ : Limits) : ℕ → ℕ → ℕ → Type 0 where
   ten : L .maxRows < L′ .maxRows → Short L L′ 10 0 0
 
 -- what holds where L refused and L′ goes on
-abbrev past : {L L′ : Limits} {c d i : ℕ} → Short L L′ c d i → State → Type 0
+abbrev pub past : {L L′ : Limits} {c d i : ℕ} → Short L L′ c d i → State → Type 0
 past {L = L} (eight h) st = L .maxNodes < length (st .nodes)
 past (nine h) st = Unit {0}
 past {L = L} (ten h) st = L .maxRows < st .charges
@@ -65,7 +67,7 @@ still (nine h) g p = tt
 still (ten h) g p = le-trans p (g .charges)
 
 -- from the state st: the result under L, and under L′
-data Run {A : Type 0} (L L′ : Limits) (st : State) : Result A → Result A → Type 0 where
+pub data Run {A : Type 0} (L L′ : Limits) (st : State) : Result A → Result A → Type 0 where
   same : {a : A} {st′ : State} → Grown st st′ → Run L L′ st (ok a st′) (ok a st′)
   refuses : {c d i : ℕ} → Run L L′ st (refusal c d i) (refusal c d i)
   goesOn : {c d i : ℕ} {a : A} {st′ : State} (s : Short L L′ c d i) → Grown st st′ → past s st′ → Run L L′ st (refusal c d i) (ok a st′)
@@ -87,14 +89,14 @@ alone s p (stops t) = stops s
 
 -- ---- laws
 
-module _ (root : Document) (library : List File) (L L′ : Limits) (le : Bigger L L′) where
+module _ (root : Document) (library : List File) (L L′ : Limits) (le : Bigger L L′) (words : ℕ) (entries : Entries words L) where
   abbrev I : Input
   I = record { root = root; library = library; limits = L }
 
   abbrev I′ : Input
   I′ = record { root = root; library = library; limits = L′ }
 
-  -- a step under L and under L′
+  -- a step of the first and of the second
   abbrev Steps : {A : Type 0} → Comp A → Comp A → Type 0
   Steps m m′ = (st : State) → Sound st → Run L L′ st (m st) (m′ st)
 
@@ -160,9 +162,10 @@ module _ (root : Document) (library : List File) (L L′ : Limits) (le : Bigger 
           cut (eight short) (charge-steps st h) (λ u s1 g1. cut (eight short) (charge-steps s1 (g1 .sound)) (λ v s2 g2. goesOn (eight short) (added (env .scope) i s2 (g2 .sound)) (omega (arith, f, g1 .nodes, g2 .nodes, length-append (s2 .nodes) (blank ∷ [])))))
       go false false t f t′ f′ = refuses
 
-  openScope-steps : (e : Scope) → Steps (openScope I e) (openScope I′ e)
-  unfolding openScope pushScope charge chargeIf bindR
-  openScope-steps e st h = go (ltb (st .charges) (L .maxRows)) (ltb (st .charges) (L′ .maxRows)) (ltb→lt _ _) (lt→ltb _ _) (ltb→lt _ _) (lt→ltb _ _)
+  -- no more scopes than charges, and one more charge is made: so there is room
+  pub open-steps : (e : Scope) → Steps (openIn words I e) (openScope I′ e)
+  unfolding openIn pushIn pushIf openScope pushScope charge chargeIf bindR
+  open-steps e st h = go (ltb (st .charges) (L .maxRows)) (ltb (st .charges) (L′ .maxRows)) (ltb→lt _ _) (lt→ltb _ _) (ltb→lt _ _) (lt→ltb _ _)
     where
       after : State
       after = withWorld (record { map = st .world .map; ledger = st .world .ledger; scopes = st .world .scopes ++ (e ∷ []) }) (oneMore st)
@@ -170,20 +173,14 @@ module _ (root : Document) (library : List File) (L L′ : Limits) (le : Bigger 
       one : Grown st after
       one = record { sound = omega (arith, length-append (st .world .scopes) (e ∷ [])); nodes = le-refl _; charges = omega arith }
 
-      push : (b b′ : Bool) → T b → T b′ → Run L L′ st (pushScope b e (oneMore st)) (pushScope b′ e (oneMore st))
-      push true true t t′ = same one
-      push true false t t′ = absurd t′
-      push false b′ t t′ = absurd t
+      push : (b : Bool) → T b → Run L L′ st (pushIf b e (oneMore st)) (pushScope e (oneMore st))
+      push true t = same one
+      push false t = absurd t
 
-      pass : (b′ : Bool) (s : Short L L′ 10 0 0) → past s after → T b′ → Run L L′ st (refusal 10 0 0) (pushScope b′ e (oneMore st))
-      pass true s p t = goesOn s one p
-      pass false s p t = absurd t
-
-      go : (b b′ : Bool) → (T b → st .charges < L .maxRows) → (st .charges < L .maxRows → T b) → (T b′ → st .charges < L′ .maxRows) → (st .charges < L′ .maxRows → T b′)
-          → Run L L′ st ((chargeIf b >>= (λ u s. pushScope (ltb (length (s .world .scopes)) (L .maxRows)) e s)) st) ((chargeIf b′ >>= (λ u s. pushScope (ltb (length (s .world .scopes)) (L′ .maxRows)) e s)) st)
-      go true true t f t′ f′ = push (ltb (length (st .world .scopes)) (L .maxRows)) (ltb (length (st .world .scopes)) (L′ .maxRows)) (lt→ltb (length (st .world .scopes)) (L .maxRows) (omega (arith, t tt, h))) (lt→ltb (length (st .world .scopes)) (L′ .maxRows) (omega (arith, t′ tt, h)))
+      go : (b b′ : Bool) → (T b → st .charges < L .maxRows) → (st .charges < L .maxRows → T b) → (T b′ → st .charges < L′ .maxRows) → (st .charges < L′ .maxRows → T b′) → Run L L′ st ((chargeIf b >>= (λ u. pushIn words e)) st) ((chargeIf b′ >>= (λ u. pushScope e)) st)
+      go true true t f t′ f′ = push (leb (5 * suc (length (st .world .scopes))) words) (le→leb (5 * suc (length (st .world .scopes))) words (omega (arith, t tt, h, entries)))
       go true false t f t′ f′ = absurd (f′ (omega (arith, t tt, le .maxRows)))
-      go false true t f t′ f′ = pass (ltb (length (st .world .scopes)) (L′ .maxRows)) (ten (omega (arith, f, t′ tt))) (omega (arith, f)) (lt→ltb (length (st .world .scopes)) (L′ .maxRows) (omega (arith, t′ tt, h)))
+      go false true t f t′ f′ = goesOn (ten (omega (arith, f, t′ tt))) one (omega (arith, f))
       go false false t f t′ f′ = refuses
 
   -- ---- one line for each function
@@ -328,19 +325,19 @@ module _ (root : Document) (library : List File) (L L′ : Limits) (le : Bigger 
 
   -- of a copier in every scope
   module _ (f f′ : Env → Copier) (hf : (env : Env) (i : ℕ) → Steps (f env i) (f′ env i)) where
-    takeDefault-steps : (e : Scope) (v : Option FieldValue) → Steps (takeDefault I f e v) (takeDefault I′ f′ e v)
-    unfolding takeDefault
+    takeDefault-steps : (e : Scope) (v : Option FieldValue) → Steps (takeDefaultIn words I f e v) (takeDefault I′ f′ e v)
+    unfolding takeDefault takeDefaultIn
     takeDefault-steps e none = return none
-    takeDefault-steps e (some v) = bind (openScope-steps e) (λ n. bind (value-steps _ _ (hf _) v) (λ v′. return _))
+    takeDefault-steps e (some v) = bind (open-steps e) (λ n. bind (value-steps _ _ (hf _) v) (λ v′. return _))
 
-    interfaceValue-steps : (env : Env) (e : Scope) (default : Option FieldValue) (given : Option FieldBinding) → Steps (interfaceValue I f env e default given) (interfaceValue I′ f′ env e default given)
-    unfolding interfaceValue
+    interfaceValue-steps : (env : Env) (e : Scope) (default : Option FieldValue) (given : Option FieldBinding) → Steps (interfaceValueIn words I f env e default given) (interfaceValue I′ f′ env e default given)
+    unfolding interfaceValue interfaceValueIn
     interfaceValue-steps env e default (some (FieldBinding.Value v)) = bind (value-steps _ _ (hf env) v) (λ v′. return _)
     interfaceValue-steps env e default (some (FieldBinding.Is t)) = cloneOr-steps (takeDefault-steps e default) (andThen (env .isValues) (valueOf t))
     interfaceValue-steps env e default none = takeDefault-steps e default
 
-    values-steps : (env : Env) (p : Pick) (fields : List Field) (k : ℕ) (l : List InterfaceDecl) (vs : Values) → Steps (values I f env p fields k l vs) (values I′ f′ env p fields k l vs)
-    unfolding values
+    values-steps : (env : Env) (p : Pick) (fields : List Field) (k : ℕ) (l : List InterfaceDecl) (vs : Values) → Steps (valuesIn words I f env p fields k l vs) (values I′ f′ env p fields k l vs)
+    unfolding values valuesIn
     values-steps env p fields k [] vs = return vs
     values-steps env p fields k (d ∷ l) vs = bind (interfaceValue-steps env _ (d .value) (lastField (d .name) fields)) (λ v. bind (store-steps (d .name) vs v) (λ vs′. values-steps env p fields (suc k) l vs′))
 
@@ -352,14 +349,14 @@ module _ (root : Document) (library : List File) (L L′ : Limits) (le : Bigger 
     bodyStatement-steps env i inner b (Statement.Route r) = paid-steps (return _)
     bodyStatement-steps env i inner b (Statement.Other p) = return b
 
-    instantiate-steps : (env : Env) (i : ℕ) (node : Node) (p : Pick) (decl : Option ProtoDecl) → Steps (instantiate I f env i node p decl) (instantiate I′ f′ env i node p decl)
-    unfolding instantiate
+    instantiate-steps : (env : Env) (i : ℕ) (node : Node) (p : Pick) (decl : Option ProtoDecl) → Steps (instantiateIn words I f env i node p decl) (instantiate I′ f′ env i node p decl)
+    unfolding instantiate instantiateIn
     instantiate-steps env i node p none = λ st s. refuses
     instantiate-steps env i node p (some proto) =
-        bind (values-steps env p (node .fields) 0 (proto .interface) []) (λ vs. bind (openScope-steps _) (λ n. bind (folded (bodyStatement-steps env i _) _ (proto .body)) (λ b. bind (rootOf-steps p (b .root)) (λ o. bind charge-steps (λ u. recordInstance-steps (proto .name) (node .defName) n b o)))))
+        bind (values-steps env p (node .fields) 0 (proto .interface) []) (λ vs. bind (open-steps _) (λ n. bind (folded (bodyStatement-steps env i _) _ (proto .body)) (λ b. bind (rootOf-steps p (b .root)) (λ o. bind charge-steps (λ u. recordInstance-steps (proto .name) (node .defName) n b o)))))
 
-    copyNode-steps : (env : Env) (i : ℕ) (node : Node) (p : Option Pick) → Steps (copyNode I f env i node p) (copyNode I′ f′ env i node p)
-    unfolding copyNode
+    copyNode-steps : (env : Env) (i : ℕ) (node : Node) (p : Option Pick) → Steps (copyNodeIn words I f env i node p) (copyNode I′ f′ env i node p)
+    unfolding copyNode copyNodeIn
     copyNode-steps env i node none = copyPlain-steps _ _ (hf env) env i node
     copyNode-steps env i node (some p) = instantiate-steps env i node p (protoAt (docs I) (p .document) (p .proto))
 
@@ -378,33 +375,33 @@ module _ (root : Document) (library : List File) (L L′ : Limits) (le : Bigger 
   protoOf-same (suc d) (NodeOrigin.ExternProto x) = refl
   protoOf-same d NodeOrigin.Unknown = refl
 
-  copyOne : {f f′ : Env → Copier} → ((env : Env) (i : ℕ) → Steps (f env i) (f′ env i)) → (env : Env) (i : ℕ) (node : Node) → Steps (copyNode I f env i node (protoOf I (src env) (node .origin))) (copyNode I′ f′ env i node (protoOf I′ (src env) (node .origin)))
+  copyOne : {f f′ : Env → Copier} → ((env : Env) (i : ℕ) → Steps (f env i) (f′ env i)) → (env : Env) (i : ℕ) (node : Node) → Steps (copyNodeIn words I f env i node (protoOf I (src env) (node .origin))) (copyNode I′ f′ env i node (protoOf I′ (src env) (node .origin)))
   copyOne {f} {f′} hf env i node = rw (protoOf-same (src env) (node .origin)) (copyNode-steps f f′ hf env i node (protoOf I′ (src env) (node .origin)))
 
   -- with the same depth left
-  copy-steps : (left : ℕ) (env : Env) (i : ℕ) → Steps (copy I left env i) (copy I′ left env i)
-  unfolding copy
+  copy-steps : (left : ℕ) (env : Env) (i : ℕ) → Steps (copyIn words I left env i) (copy I′ left env i)
+  unfolding copy copyIn
   copy-steps zero env i st = mappedOr-steps env i (λ node s q. refuses) (lookup (st .world .map) (env .scope) i) (nodeAt (docs I) (src env) i) st
   copy-steps (suc left) env i st = mappedOr-steps env i (copyOne (copy-steps left) env i) (lookup (st .world .map) (env .scope) i) (nodeAt (docs I) (src env) i) st
 
   -- with more left: "depth + 1 over D gives 9"
-  copy-deeper : L .maxDepth < L′ .maxDepth → (left left′ : ℕ) → left ≤ left′ → (env : Env) (i : ℕ) → Steps (copy I left env i) (copy I′ left′ env i)
-  unfolding copy
+  copy-deeper : L .maxDepth < L′ .maxDepth → (left left′ : ℕ) → left ≤ left′ → (env : Env) (i : ℕ) → Steps (copyIn words I left env i) (copy I′ left′ env i)
+  unfolding copy copyIn
   copy-deeper lt zero zero h = copy-steps zero
   copy-deeper lt zero (suc left′) h = λ env i st. mappedOr-steps env i (λ node s q. alone (nine lt) tt (copyOne (copy-steps left′) env i node s q)) (lookup (st .world .map) (env .scope) i) (nodeAt (docs I) (src env) i) st
   copy-deeper lt (suc left) zero h = absurd (omega arith)
   copy-deeper lt (suc left) (suc left′) h = λ env i st. mappedOr-steps env i (copyOne (copy-deeper lt left left′ (omega arith)) env i) (lookup (st .world .map) (env .scope) i) (nodeAt (docs I) (src env) i) st
 
-  rootCopy-steps : (i : ℕ) → Steps (copy I (L .maxDepth) rootEnv i) (copy I′ (L′ .maxDepth) rootEnv i)
+  rootCopy-steps : (i : ℕ) → Steps (copyIn words I (L .maxDepth) rootEnv i) (copy I′ (L′ .maxDepth) rootEnv i)
   rootCopy-steps = go (ℕ-discrete (L .maxDepth) (L′ .maxDepth))
     where
-      go : Dec (L .maxDepth ≡ L′ .maxDepth) → (i : ℕ) → Steps (copy I (L .maxDepth) rootEnv i) (copy I′ (L′ .maxDepth) rootEnv i)
-      go (yes e) = subst (λ (d : ℕ). (i : ℕ) → Steps (copy I (L .maxDepth) rootEnv i) (copy I′ d rootEnv i)) e (copy-steps (L .maxDepth) rootEnv)
+      go : Dec (L .maxDepth ≡ L′ .maxDepth) → (i : ℕ) → Steps (copyIn words I (L .maxDepth) rootEnv i) (copy I′ (L′ .maxDepth) rootEnv i)
+      go (yes e) = subst (λ (d : ℕ). (i : ℕ) → Steps (copyIn words I (L .maxDepth) rootEnv i) (copy I′ d rootEnv i)) e (copy-steps (L .maxDepth) rootEnv)
       go (no e) = copy-deeper (omega (arith, le .maxDepth)) (L .maxDepth) (L′ .maxDepth) (le .maxDepth) rootEnv
 
-  statements-steps : Run L L′ start (statements I start) (statements I′ start)
-  unfolding statements
-  statements-steps = bind charge-steps (λ a. bind charge-steps (λ b. bind (openScope-steps Scope.Root) (λ n. bind (mapped (statement-steps _ _ rootCopy-steps rootEnv) (root .statements)) (λ l. return _)))) start (omega arith)
+  statements-steps : Run L L′ start (statementsIn words I start) (statements I′ start)
+  unfolding statements statementsIn
+  statements-steps = bind charge-steps (λ a. bind charge-steps (λ b. bind (open-steps Scope.Root) (λ n. bind (mapped (statement-steps _ _ rootCopy-steps rootEnv) (root .statements)) (λ l. return _)))) start (omega arith)
 
 -- ---- the two answers
 
@@ -418,9 +415,9 @@ small (eight h) st p e n k = Bigger.nodes (omega arith)
 small (nine h) st p e n k = Bigger.depth h
 small (ten h) st p e n k = Bigger.rows (omega arith)
 
-pub answers : (I : Input) (L : Limits) → Bigger (I .limits) L → Answers (I .limits) L (expand I) (expand (under L I))
-unfolding expand answer
-answers I L le = go (statements-steps (I .root) (I .library) (I .limits) L le)
+pub answersIn : (words : ℕ) (I : Input) → Entries words (I .limits) → (L : Limits) → Bigger (I .limits) L → Answers (I .limits) L (expandIn words I) (expand (under L I))
+unfolding expand expandIn answer
+answersIn words I entries L le = go (statements-steps (I .root) (I .library) (I .limits) L le words entries)
   where
     go : {r r′ : Result (List Statement)} → Run (I .limits) L start r r′ → Answers (I .limits) L (answer I r) (answer (under L I) r′)
     go (same g) = both

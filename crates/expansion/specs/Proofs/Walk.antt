@@ -360,11 +360,7 @@ module _ (I : Input) where
   -- A scope is opened at the end of the list.
   openScope-world : (e : Scope) (st : State) → Out (λ n st′. Opens e (st .world) n (st′ .world)) (openScope I e st)
   unfolding openScope pushScope
-  openScope-world e st = bindOut (charge-keep I st) (λ u s q. go s q (ltb (length (s .world .scopes)) (I .limits .maxRows)))
-    where
-      go : (s : State) → s .world ≡ st .world → (b : Bool) → Out (λ n st′. Opens e (st .world) n (st′ .world)) (pushScope b e s)
-      go s q false = refused tt
-      go s q true = accepted (record { number = ap (λ (w : World). length (w .scopes)) q; after = ap (λ (w : World). record { map = w .map; ledger = w .ledger; scopes = w .scopes ++ (e ∷ []) }) q })
+  openScope-world e st = bindOut (charge-keep I st) (λ u s q. accepted (record { number = ap (λ (w : World). length (w .scopes)) q; after = ap (λ (w : World). record { map = w .map; ledger = w .ledger; scopes = w .scopes ++ (e ∷ []) }) q }))
 
   -- The state has its entry.
   opened-fits : (s : Known) (g : Unseen) (w : World) (n : ℕ) (w′ : World) → Fits g w → Opens (s .entry) w n w′ → Fits (withScope s g) w′
