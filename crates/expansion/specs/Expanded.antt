@@ -20,6 +20,7 @@ use Rattle.expansion.specs.Scopes.{Scope, documentOf, isDefault}
 use Rattle.expansion.specs.Expand.{LedgerEntry, Expansion, Answer, expand}
 use Rattle.expansion.specs.Reached.{Known, entryOf, declOf, gives, isSome, nodeIn, graph}
 use Rattle.expansion.specs.Outputs.{idsOf, rows}
+use Rattle.expansion.specs.Counted.{counted}
 
 -- "A PROTO is left in an output by a kind 7 row or a Proto statement, an instance by a node of origin Proto ..": none is.
 pub record NoProto (d : Document) : Type 0 where
@@ -81,6 +82,8 @@ pub record Expanded (I : Input) (e : Expansion) : Type 0 where
   pub pods : NoLoop (graph I) (world .scopes) → Total (graph I) (Instance (graph I)) (world .scopes) (bodies (graph I) (world .scopes))
   -- Document 02, wish 6, "The double-count guarantee covers the new default scopes as well.": then too the default scopes opened = the sum, over all these scopes and the instances reached in each, of the interfaces whose default is taken there.
   pub defaultCount : NoLoop (graph I) (world .scopes) → Sum (graph I) (DefaultTaken I) (world .scopes) (countIf isDefault (e .scopes))
+  -- Document 01, Charges: the charges are its list's items, counted one by one from the output, the scope list and a run of the steps, whichever it is.
+  pub charges : (w : World Known) (r : WholeRun (graph I) w) → e .charges ≡ counted I e r
   -- Beside the demand: "In every accepted expansion rows ≤ charges ≤ K"; a scope has a charge of its own; the output is an expanded document.
   pub rowsPaid : rows (e .document) ≤ e .charges
   pub scopesPaid : e .scopeCount ≤ e .charges

@@ -10,6 +10,7 @@ pub mod Ids
 pub mod Rows
 pub mod Types
 pub mod Needs
+pub mod Counted
 pub mod Demand
 pub mod Runs
 pub mod Room

@@ -42,6 +42,7 @@ use Rattle.expansion.specs.Proofs.Ids.{ids-below}
 use Rattle.expansion.specs.Proofs.Rows.{Covered, statements-cov}
 use Rattle.expansion.specs.Proofs.Types.{types-listed}
 use Rattle.expansion.specs.Proofs.Needs.{rows-needed}
+use Rattle.expansion.specs.Proofs.Counted.{charges-counted}
 
 -- A list of pairs, put together from their parts.
 map-pairs : (l : List (ℕ × ℕ)) → map (λ x. (x .0, x .1)) l ≡ l
@@ -188,6 +189,7 @@ module _ (I : Input) (l : List Statement) (st : State) (e : statements I start �
     typeNames = sym (map-map some (λ x. x .typeName) (st .nodes)) ∙ atOk (types-listed I) e ∙ sym (map-map (λ x. mapO (λ n. n .typeName) (nodeAt (docs I) (x .document) (x .source))) row (st .world .ledger));
     pods = x .pods;
     defaultCount = default-count I end (whole-run I ran) (st .world .scopes) (ran .fits);
+    charges = λ v r. atOk (charges-counted I v r) e;
     rowsPaid = omega (arith, paid .covers);
     scopesPaid = omega (arith, paid .covers);
     chargeLimit = paid .capped;

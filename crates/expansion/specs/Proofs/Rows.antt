@@ -47,7 +47,7 @@ oneIf true = 1
 oneIf false = 0
 
 -- A sum over two lists behind one another.
-sum-append : {A : Type 0} (g : A → ℕ) (l r : List A) → sumOf g (l ++ r) ≡ sumOf g l + sumOf g r
+pub sum-append : {A : Type 0} (g : A → ℕ) (l r : List A) → sumOf g (l ++ r) ≡ sumOf g l + sumOf g r
 sum-append g [] r = omega arith
 sum-append g (x ∷ l) r = omega (arith, sum-append g l r)
 
@@ -64,7 +64,7 @@ set-at (a ∷ l) zero y x e = let q : a ≡ y = cc in omega (arith, ap contentRo
 set-at (a ∷ l) (suc i) y x e = omega (arith, set-at l i y x e)
 
 -- An interface without a value is one row.
-valueless-rows : (l : List InterfaceDecl) → sumOf interfaceRows (map noValue l) ≡ length l
+pub valueless-rows : (l : List InterfaceDecl) → sumOf interfaceRows (map noValue l) ≡ length l
 valueless-rows [] = refl
 valueless-rows (d ∷ l) = omega (arith, valueless-rows l)
 
@@ -73,23 +73,23 @@ blank-rows : contentRows blank ≡ 0
 unfolding contentRows
 blank-rows = refl
 
-abbrev optionRow : {A : Type 0} → Option A → ℕ
+abbrev pub optionRow : {A : Type 0} → Option A → ℕ
 optionRow none = 0
 optionRow (some a) = 1
 
-abbrev optionField : Option Field → ℕ
+abbrev pub optionField : Option Field → ℕ
 optionField none = 0
 optionField (some f) = fieldRows f
 
 -- The rows of the fields that are kept.
-somes-fields : (l : List (Option Field)) → sumOf fieldRows (somes l) ≡ sumOf optionField l
+pub somes-fields : (l : List (Option Field)) → sumOf fieldRows (somes l) ≡ sumOf optionField l
 unfolding somes
 somes-fields [] = refl
 somes-fields (none ∷ l) = omega (arith, somes-fields l)
 somes-fields (some x ∷ l) = omega (arith, somes-fields l)
 
 -- The rows of the statements that are kept.
-somes-rows : {A : Type 0} (l : List (Option A)) → length (somes l) ≡ sumOf optionRow l
+pub somes-rows : {A : Type 0} (l : List (Option A)) → length (somes l) ≡ sumOf optionRow l
 unfolding somes
 somes-rows [] = refl
 somes-rows (none ∷ l) = omega (arith, somes-rows l)

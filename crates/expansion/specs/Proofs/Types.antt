@@ -25,13 +25,13 @@ use Rattle.expansion.specs.Proofs.Walk.{typesOf, Same, Short, Keep, keep
 
 -- ---- lists
 
-set-map : {A : Type 0} (f : A → ℕ) (l : List A) (n : ℕ) (x : A) → map f (set l n x) ≡ set (map f l) n (f x)
+pub set-map : {A : Type 0} (f : A → ℕ) (l : List A) (n : ℕ) (x : A) → map f (set l n x) ≡ set (map f l) n (f x)
 set-map f [] n x = refl
 set-map f (a ∷ l) zero x = refl
 set-map f (a ∷ l) (suc n) x = ap (λ (r : List ℕ). f a ∷ r) (set-map f l n x)
 
 -- The element behind a list, replaced.
-set-behind : (a : List ℕ) (z y : ℕ) (b : List ℕ) → set ((a ++ (z ∷ [])) ++ b) (length a) y ≡ (a ++ (y ∷ [])) ++ b
+pub set-behind : (a : List ℕ) (z y : ℕ) (b : List ℕ) → set ((a ++ (z ∷ [])) ++ b) (length a) y ≡ (a ++ (y ∷ [])) ++ b
 set-behind [] z y b = refl
 set-behind (x ∷ a) z y b = ap (λ (r : List ℕ). x ∷ r) (set-behind a z y b)
 

@@ -37,7 +37,7 @@ use Rattle.expansion.specs.Proofs.Names.{Shows, known, none-shown, value
 -- ---- the world that the steps see
 
 -- what the steps see of a map entry
-abbrev key : Entry → ℕ × ℕ
+abbrev pub key : Entry → ℕ × ℕ
 key e = (e .scope, e .id)
 
 -- what no state holds: the instances that opened a body scope, and what is known of each scope
@@ -56,7 +56,7 @@ abbrev withOpener : ℕ → ℕ → Unseen → Unseen
 withOpener n i g = record { openers = (n, i) ∷ g .openers; scopes = g .scopes }
 
 -- An id that is found is mapped.
-lookup-here : (m : List Entry) (s i o : ℕ) → lookup m s i ≡ some o → List·Memᴰ (s, i) (map key m)
+pub lookup-here : (m : List Entry) (s i o : ℕ) → lookup m s i ≡ some o → List·Memᴰ (s, i) (map key m)
 unfolding lookup
 lookup-here [] s i o q = absurd (let z : _≡_ {A = ℕ} 0 1 = cc in omega arith)
 lookup-here (e ∷ m) s i o q = go (eqb (e .scope) s) (eqb (e .id) i) (eqb→eq (e .scope) s) (eqb→eq (e .id) i) (lookup-here m s i o) q
@@ -68,7 +68,7 @@ lookup-here (e ∷ m) s i o q = go (eqb (e .scope) s) (eqb (e .id) i) (eqb→eq 
     go false false f g k r = List·Memᴰ·tail (k r)
 
 -- An id that is not found is not mapped.
-lookup-none : (m : List Entry) (s i : ℕ) → lookup m s i ≡ none → List·Memᴰ (s, i) (map key m) → ⊥
+pub lookup-none : (m : List Entry) (s i : ℕ) → lookup m s i ≡ none → List·Memᴰ (s, i) (map key m) → ⊥
 unfolding lookup
 lookup-none [] s i q h = List·Memᴰ·not-nil h
 lookup-none (e ∷ m) s i q h = at (lookup-none m s i) (List·Memᴰ·cases-cons h)
@@ -662,7 +662,7 @@ module _ (I : Input) where
   interfaceValue-run f hf env names hn p k default eb none = takeDefault-run f hf (env .scope) (known env names) p k default eb
 
   -- The element behind a list stands at its length.
-  at-length : {A : Type 0} (l : List A) (x : A) (r : List A) → getElem? (l ++ (x ∷ r)) (length l) ≡ some x
+  pub at-length : {A : Type 0} (l : List A) (x : A) (r : List A) → getElem? (l ++ (x ∷ r)) (length l) ≡ some x
   at-length [] x r = refl
   at-length (y ∷ l) x r = at-length l x r
 
