@@ -59,16 +59,18 @@ fn library_file(library: &[u32], base: u32) -> Source
     requires { ⌜ Capped (now library) ⌝ }
     ensures { λ s. ⌜ Sourced (rows (now (library .entry))) base s ⌝ }
 {
-    let mut source = Source { number: 0, row: 0 };
+    let mut found = 0;
+    let mut row = 0;
     let mut number = 1;
     let mut at = 0;
     loop {
         let Found::At(q) = walk::seek(library, Part::Files, at) else {
-            return source;
+            return Source { number: found, row };
         };
         at = q + 1;
         if row::row_at(library, q).a == base {
-            source = Source { number, row: at };
+            found = number;
+            row = at;
         }
         number += 1;
     }

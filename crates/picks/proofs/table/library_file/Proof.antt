@@ -18,10 +18,10 @@ use native.Mathlib.Omega.{arith}
 use borrow.Author.Needs.{needs}
 
 abbrev Inv-loop : tie.InvT-loop
-Inv-loop library base source₀ number₀ at₀ source number at = Seeking (rows library) base source number at
+Inv-loop library base found₀ row₀ number₀ at₀ found row number at = Seeking (rows library) base (record { number = found; row = row }) number at
 
 abbrev μ-loop : tie.MeasureT-loop
-μ-loop library base source₀ number₀ at₀ source number at = length (rows library) - at
+μ-loop library base found₀ row₀ number₀ at₀ found row number at = length (rows library) - at
 
 loop-holds : tie.Need-loop-holds Inv-loop μ-loop
 loop-holds c = seek-start (rows (now (c .before .args .library))) (c .before .args .base)
@@ -51,7 +51,7 @@ loop-less : tie.Need-loop-less Inv-loop μ-loop
 loop-less c = omega (arith, stands Files (rows (now (c .before .before .before .before .before .before .before .before .before .args .library))) (c .before .before .before .before .before .before .before .loop .at) (c .before .before .before .before .before .before .seek .ensures) (c .before .before .before .before .q .given .1) .from, stands Files (rows (now (c .before .before .before .before .before .before .before .before .before .args .library))) (c .before .before .before .before .before .before .before .loop .at) (c .before .before .before .before .before .before .seek .ensures) (c .before .before .before .before .q .given .1) .below)
 
 loop-again : tie.Need-loop-again Inv-loop μ-loop
-loop-again c = let s = stands Files (rows (now (c .before .before .before .before .before .before .before .before .before .args .library))) (c .before .before .before .before .before .before .before .loop .at) (c .before .before .before .before .before .before .seek .ensures) (c .before .before .before .before .q .given .1) in ⊎-elim (λ w. rw (w .1) (seek-here (rows (now (c .before .before .before .before .before .before .before .before .before .args .library))) (c .before .before .before .before .before .before .before .before .before .args .base) (c .before .before .before .before .before .before .before .loop .inv) s (c .before .before .row-at .ensures) (w .0 .taken))) (λ w. rw (w .1) (seek-next (rows (now (c .before .before .before .before .before .before .before .before .before .args .library))) (c .before .before .before .before .before .before .before .before .before .args .base) (c .before .before .before .before .before .before .before .loop .inv) s (c .before .before .row-at .ensures) (w .0 .left))) (c .if1 .came)
+loop-again c = let s = stands Files (rows (now (c .before .before .before .before .before .before .before .before .before .args .library))) (c .before .before .before .before .before .before .before .loop .at) (c .before .before .before .before .before .before .seek .ensures) (c .before .before .before .before .q .given .1) in ⊎-elim (λ w. rw (w .1, w .2) (seek-here (rows (now (c .before .before .before .before .before .before .before .before .before .args .library))) (c .before .before .before .before .before .before .before .before .before .args .base) (c .before .before .before .before .before .before .before .loop .inv) s (c .before .before .row-at .ensures) (w .0 .taken))) (λ w. rw (w .1, w .2) (seek-next (rows (now (c .before .before .before .before .before .before .before .before .before .args .library))) (c .before .before .before .before .before .before .before .before .before .args .base) (c .before .before .before .before .before .before .before .loop .inv) s (c .before .before .row-at .ensures) (w .0 .left))) (c .if1 .came)
 
 pub library-file-spec : {M : Type 1} → statement M
 library-file-spec =
