@@ -1,5 +1,6 @@
 #!/usr/bin/env python3
-"""Makes the scenes from flights.txt: NAME.lines, NAME.expected, the library's files, and the lists in README.md.
+"""Makes the scenes from flights.txt: NAME.lines, NAME.expected, the library's files, and the lists in README.md; and
+season.expected, the table of season.counts.
 
 The expected answers come from reckon.py, and never from the program. Run again, it writes the same bytes.
 """
@@ -22,6 +23,7 @@ TAGS = (
 ).split()  # the first of FieldType::ALL
 ACCESS = ["eventIn", "eventOut", "field", "exposedField"]
 MARKS = ["field", "interface", "statement"]
+SEASON_WIDTH = 3
 
 
 class Names:
@@ -190,6 +192,17 @@ def page_lists(scenes, answers, names):
     return "\n".join(text)
 
 
+def season(counts, width):
+    """The table that the runner prints of a season: every total a plain sum."""
+    totals = [sum(counts[leg - width : leg]) for leg in range(width, len(counts) + 1)]
+    largest = totals.index(max(totals))
+    lines = ["leg  count  total"]
+    for leg, count in enumerate(counts, 1):
+        total = f"  {totals[leg - width]:5}" if leg >= width else ""
+        lines.append(f"{leg:3}  {count:5}{total}" + ("  largest" if leg - width == largest else ""))
+    return "".join(line + "\n" for line in lines)
+
+
 def main():
     names = Names()
     scenes = read_flights(names)
@@ -210,6 +223,9 @@ def main():
     text, answer = printed(sheets["extern-kept"], library)
     (FOLDER / "library" / "extern-kept.expected").write_bytes(text)
     answers["whales"] = f"{len(sheets['whales'])} rows; with it extern-kept gives {in_words(answer)}"
+
+    counts = [int(count) for count in (FOLDER / "season.counts").read_text().split()]
+    (FOLDER / "season.expected").write_text(season(counts, SEASON_WIDTH))
 
     page = FOLDER / "README.md"
     lists = page_lists(scenes, answers, names)

@@ -17,6 +17,7 @@ mod held;
 mod library;
 mod linked;
 mod memory;
+mod moving;
 mod mutants;
 mod output;
 mod picks;
@@ -50,6 +51,8 @@ compare frames mutants COUNT SEED          every mutant over COUNT frames, every
 compare frames answer CASES ANSWERS [MUTANT]
 compare replay FOLDER                      write the program `replay`'s stdin and stdout, each case checked
 compare library COUNT SEED                 the linked static library (feature `library`)
+compare moving mutants COUNT SEED          moving totals: every broken reckoning over the small runs and COUNT random ones
+compare moving library COUNT SEED          moving totals: the linked static library
 compare bench [PART]                       times of the original, the linked library and copying; scenes whose name has PART
 compare bench spin PART SECONDS            the library's calls alone, for a profiler
 compare bench small PART COUNT             the same on scenes that fit the caches, so many calls: time a node";
@@ -108,12 +111,15 @@ fn command() -> Result<u64, String> {
             frames::answer(cases, answers, mutant).map_err(|e| e.to_string())?;
             Ok(0)
         }
+        ["moving", "mutants", count, seed] => Ok(moving::mutants(number(count)?, number(seed)?)),
         ["bench"] => Ok(bench::run("")),
         ["bench", "spin", part, seconds] => Ok(bench::spin(part, number(seconds)?)),
         ["bench", "small", part, count] => Ok(bench::small(part, number(count)?)),
         ["bench", part] => Ok(bench::run(part)),
         #[cfg(feature = "library")]
         ["library", count, seed] => Ok(library::run(number(count)?, number(seed)?)),
+        #[cfg(feature = "library")]
+        ["moving", "library", count, seed] => Ok(moving::library(number(count)?, number(seed)?)),
         _ => Err(USAGE.into()),
     }
 }
