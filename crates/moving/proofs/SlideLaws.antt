@@ -19,13 +19,13 @@ pub along-length : (n : ℕ) (f : ℕ → ℕ) → length (along n f) ≡ n
 along-length zero f = refl
 along-length (suc n) f = omega (arith, length-append (along n f) (f n ∷ []), along-length n f)
 
+at-more : (n : ℕ) (f : ℕ → ℕ) (p : ℕ) → (p < n → getD (along n f) p 0 ≡ f p) → Dec (p ≡ n) → p < suc n → getD (along n f ++ (f n ∷ [])) p 0 ≡ f p
+at-more n f p before (yes e) h = rw e (getD-at (along n f) (f n) [] 0 n (along-length n f))
+at-more n f p before (no d) h = List·getD-append (along n f) (f n ∷ []) 0 p (omega (arith, along-length n f)) ∙ before (omega arith)
+
 pub along-at : (n : ℕ) (f : ℕ → ℕ) (p : ℕ) → p < n → getD (along n f) p 0 ≡ f p
 along-at zero f p h = absurd (omega arith)
-along-at (suc n) f p h = by (ℕ-discrete p n)
-  where
-    by : Dec (p ≡ n) → getD (along n f ++ (f n ∷ [])) p 0 ≡ f p
-    by (yes e) = rw e (getD-at (along n f) (f n) [] 0 n (along-length n f))
-    by (no d) = List·getD-append (along n f) (f n ∷ []) 0 p (omega (arith, along-length n f)) ∙ along-at n f p (omega arith)
+along-at (suc n) f p h = at-more n f p (along-at n f p) (ℕ-discrete p n) h
 
 -- ---- the first counts
 

@@ -90,15 +90,13 @@ pub record Over (counts : List ℕ) : Type 0 where
   pub within : leg < length counts
   pub large : 4294967295 < getD counts leg 0
 
+over-more : (x : ℕ) (l : List ℕ) → (anyOver l ≡ true → Over l) → (b : Bool) → ltb 4294967295 x ≡ b → (b || anyOver l) ≡ true → Over (x ∷ l)
+over-more x l later true q e = record { leg = 0; within = omega arith; large = ltb-true 4294967295 x q }
+over-more x l later false q e = let r = later e in record { leg = suc (r .leg); within = omega (arith, r .within); large = r .large }
+
 pub over-found : (counts : List ℕ) → anyOver counts ≡ true → Over counts
 over-found [] e = let z : _≡_ {A = ℕ} 0 1 = cc in absurd (omega arith)
-over-found (x ∷ l) e = by-first (ltb 4294967295 x) refl
-  where
-    by-first : (b : Bool) → ltb 4294967295 x ≡ b → Over (x ∷ l)
-    by-first true q = record { leg = 0; within = omega arith; large = ltb-true 4294967295 x q }
-    by-first false q =
-        let r = over-found l (rw q at e) in
-        record { leg = suc (r .leg); within = omega (arith, r .within); large = r .large }
+over-found (x ∷ l) e = over-more x l (over-found l) (ltb 4294967295 x) refl e
 
 -- ---- the loop that looks for one
 
