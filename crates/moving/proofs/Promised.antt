@@ -53,14 +53,14 @@ module _ (counts : List ℕ) (w : ℕ) (lent : List ℕ) where
     refusal = refl;
     count = count-is;
     plain = λ leg h k.
-      let p = leg + 1 - w in
-      let i : p < length T = omega (arith, count-is) in
-      written-at p i ∙ total-at p i ∙ sym (last-plain w counts p leg (omega arith));
+        let p = leg + 1 - w in
+        let i : p < length T = omega (arith, count-is) in
+        written-at p i ∙ total-at p i ∙ sym (last-plain w counts p leg (omega arith));
     among = λ h. let s = largest-stands T h in (s .within, written-at (placeOf (largestOf T) T) (s .within) ∙ s .there);
     most = λ p h. rw (written-at p h) (largest-most T p);
     first = λ p h.
-      let i : p < length T = omega (arith, place-upto (largestOf T) T) in
-      rw (written-at p i) (omega (arith, largest-most T p, place-first (largestOf T) T p h));
+        let i : p < length T = omega (arith, place-upto (largestOf T) T) in
+        rw (written-at p i) (omega (arith, largest-most T p, place-first (largestOf T) T p h));
     none = λ h. let e : length T ≡ 0 = omega (arith, count-is) in (e, none-largest T e, none-place (largestOf T) T e);
     fits = λ p h. rw (written-at p h, total-at p h) (omega (arith, total-small w counts p small, wide .high));
     long = over-length T lent (omega (arith, count-is));
