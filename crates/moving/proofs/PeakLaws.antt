@@ -4,8 +4,8 @@ use mathlib.Core.Bool.{Bool, true, false}
 use mathlib.Core.List.{List, [], _∷_, _++_}
 use Prim.Native.Nat.{ℕ, zero, suc, _+_, _≤_, _<_, max}
 use native.Mathlib.Omega.{arith}
-use native.Mathlib.Decide.{decLt, ℕ-discrete}
-use lib.ListN.{length, getD, length-append}
+use native.Mathlib.Decide.{ℕ-discrete}
+use lib.ListN.{length, getD}
 use lib.Dec.{eqb}
 use borrow.Author.Tests.{eq-eqb, ne-eqb}
 use Rattle.ast.specs.Choice.{choose}
@@ -18,11 +18,6 @@ pub largest-most : (l : List ℕ) (p : ℕ) → getD l p 0 ≤ largestOf l
 largest-most [] p = omega arith
 largest-most (x ∷ l) zero = omega arith
 largest-most (x ∷ l) (suc p) = omega (arith, largest-most l p)
-
--- one that stands below a bound is below it
-pub largest-below : (l : List ℕ) (b : ℕ) → ((p : ℕ) → getD l p 0 ≤ b) → largestOf l ≤ b
-largest-below [] b h = omega arith
-largest-below (x ∷ l) b h = omega (arith, h 0, largest-below l b (λ p. h (suc p)))
 
 module _ (x y : ℕ) (l : List ℕ) where
   place-here : y ≡ x → placeOf x (y ∷ l) ≡ 0

@@ -1,16 +1,16 @@
 -- The promises hold of every call.
-use mathlib.Core.Path.{_≡_, refl, sym, ap, _∙_, subst}
+use mathlib.Core.Path.{_≡_, refl, sym, _∙_, subst}
 use mathlib.Core.Bool.{Bool, true, false, _||_}
-use mathlib.Core.List.{List, [], _∷_}
-use Prim.Native.Nat.{ℕ, zero, suc, _+_, _*_, _-_, _≤_, _<_}
+use mathlib.Core.List.{List}
+use Prim.Native.Nat.{ℕ, _+_, _-_, _≤_, _<_}
 use native.Mathlib.Omega.{arith}
 use lib.ListN.{length, getD, drop, List·getD-append}
 use lib.Dec.{ltb}
-use borrow.Author.Tests.{ltb-true, ltb-false, lt-ltb, le-ltb}
+use borrow.Author.Tests.{ltb-true, ltb-false, le-ltb}
 use Rattle.words.specs.Words.{over}
 use Rattle.words.proofs.WordLaws.{over-length, over-kept}
-use Rattle.moving.specs.Moving.{total, places, along, totals, largestOf, placeOf, outside, anyOver, Answer, refused, refuseIf, accepted, outcome, lentAfter, moved}
-use Rattle.moving.specs.Promises.{Width, Small, Refused, Accepted, Promises, wrongWidth, countOver, tooFew, otherwise}
+use Rattle.moving.specs.Moving.{total, places, totals, largestOf, placeOf, outside, anyOver, Answer, refused, refuseIf, accepted, outcome, lentAfter, moved}
+use Rattle.moving.specs.Promises.{Width, Small, Accepted, Promises, wrongWidth, countOver, tooFew, otherwise}
 use Rattle.moving.proofs.SumLaws.{last-plain, small-at, total-small, over-found}
 use Rattle.moving.proofs.PeakLaws.{largest-most, largest-stands, place-first, place-upto, none-largest, none-place}
 use Rattle.moving.proofs.SlideLaws.{along-length, along-at}

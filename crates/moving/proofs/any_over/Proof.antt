@@ -5,7 +5,6 @@ use Rattle.moving.proofs.any_over.Reads as reads
 use Rattle.moving.proofs.any_over.Lts as lts
 use mathlib.Core.Path.{_≡_, refl, _∙_}
 use Prim.Native.Nat.{_≤_, _-_}
-use denote.Ref.{now}
 use lib.ListN.{length}
 use Rattle.moving.specs.Moving.{anyOver}
 use Rattle.moving.proofs.SumLaws.{overLeft, over-here, over-later, over-nowhere}
