@@ -421,8 +421,11 @@ module _ (I : Input) where
         go : (o : Option ℕ) (decl : Option ExternProtoDecl) → P vs n e [] x (declare I (src env) y o decl) (λ o. x)
         go (some o) decl = pays-ret o refl
         go none none = λ w w′ k cs st s. refused tt
-        go none (some decl) = pays-after (charge-pays x) (λ u. pays-after (chargeEach-pays (suc x) (decl .interface)) (λ u2. pays-after (chargeEach-pays (length (decl .interface) + suc x) (decl .urls)) (λ u3. leave (λ s. accepted (refl, spent-still s (pushExtern (src env) y decl s) refl
-            (omega (arith, sum-append externRows (s .externProtos) (record { name = decl .name; interface = map noValue (decl .interface); urls = decl .urls } ∷ []), valueless-rows (decl .interface))))))))
+        go none (some decl) = pays-after (charge-pays x) (λ u. pays-after (chargeEach-pays (suc x) (decl .interface)) (λ u2. pays-after (chargeEach-pays (length (decl .interface) + suc x) (decl .urls)) (λ u3. leave (λ s. accepted (
+          refl,
+          spent-still s (pushExtern (src env) y decl s) refl
+              (omega (arith, sum-append externRows (s .externProtos) (record { name = decl .name; interface = map noValue (decl .interface); urls = decl .urls } ∷ []), valueless-rows (decl .interface))),
+        )))))
 
     copyOrigin-pays : (x : ℕ) (env : Env) (o : NodeOrigin) → P vs n e [] x (copyOrigin I env o) (λ o′. x)
     unfolding copyOrigin
