@@ -5,7 +5,7 @@ use mathlib.Core.Logic.{_⊎_, inl, inr}
 use mathlib.Core.Option.{Option, none, some}
 use Prim.Native.Nat.{ℕ}
 use native.Mathlib.Omega.{arith}
-use Rattle.ast.specs.Ast.{NodeOrigin, BodyElement, FieldValue, Field, InterfaceDecl, Statement, Node, ProtoDecl, ExternProtoDecl}
+use Rattle.ast.specs.Ast.{NodeOrigin, BodyElement, Field, InterfaceDecl, Statement, Node}
 use Rattle.steps.specs.Steps.{plainStep, instanceStep, noAction, thenCopy, World, WholeRun}
 use Rattle.expansion.specs.Input.{Input}
 use Rattle.expansion.specs.Expand.{expand}
@@ -27,7 +27,7 @@ one x = scene usual (x ∷ leaf ∷ []) [] (Statement.Node 0 ∷ [])
 -- an extern with an interface and two urls; a node of it, mentioned in its own statements too
 abbrev declared : Input
 declared = record {
-  root = document (record { typeName = 7; defName = none; origin = NodeOrigin.ExternProto 0; fields = []; interface = []; statements = Statement.ExternProto 0 ∷ []; bodyOrder = [] ; instance = none } ∷ []) [] (record { name = 6; interface = interface 1 none ∷ []; urls = record { base = 20; fragment = none } ∷ record { base = 21; fragment = none } ∷ [] } ∷ []) (Statement.Node 0 ∷ []);
+  root = document (record { typeName = 7; defName = none; origin = NodeOrigin.ExternProto 0; fields = []; interface = []; statements = Statement.ExternProto 0 ∷ []; bodyOrder = []; instance = none } ∷ []) [] (record { name = 6; interface = interface 1 none ∷ []; urls = record { base = 20; fragment = none } ∷ record { base = 21; fragment = none } ∷ [] } ∷ []) (Statement.Node 0 ∷ []);
   library = [];
   limits = usual;
 }
