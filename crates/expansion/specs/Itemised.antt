@@ -5,7 +5,7 @@ use mathlib.Core.Logic.{_⊎_, inl, inr}
 use mathlib.Core.Option.{Option, none, some}
 use Prim.Native.Nat.{ℕ}
 use native.Mathlib.Omega.{arith}
-use Rattle.ast.specs.Ast.{NodeOrigin, BodyElement, FieldValue, Field, InterfaceDecl, Statement, Node, ProtoDecl, ExternProtoDecl}
+use Rattle.ast.specs.Ast.{NodeOrigin, BodyElement, Field, InterfaceDecl, Statement, Node}
 use Rattle.steps.specs.Steps.{plainStep, instanceStep, noAction, thenCopy, World, WholeRun}
 use Rattle.expansion.specs.Input.{Input}
 use Rattle.expansion.specs.Expand.{expand}

@@ -18,7 +18,7 @@ use Rattle.steps.specs.Steps
 use Rattle.expansion.specs.Input.{Input, docs, protoOf, lastField}
 use Rattle.expansion.specs.Scopes.{Scope}
 use Rattle.expansion.specs.Ids.{dataIds, optionIds, bindingIds, statementIds}
-use Rattle.expansion.specs.State.{World, State, Result, refusal, ok, Comp, bindR, _>>=_, _>>_, ret, mapM, foldM, lookup, start, withWorld, withNodes}
+use Rattle.expansion.specs.State.{World, State, Result, Comp, bindR, _>>=_, _>>_, ret, mapM, foldM, lookup, start, withWorld, withNodes}
 use Rattle.expansion.specs.Charges.{oneMore, chargeIf, charge, chargeEach, paid}
 use Rattle.expansion.specs.Values.{Values, valueOf, Env, src, Copier, copyData, value, clone}
 use Rattle.expansion.specs.Externs.{lookupExtern, noValue, pushExtern, declare, externProto}
@@ -27,7 +27,7 @@ use Rattle.expansion.specs.Instances.{pushScope, openScope, takeDefault,
 use Rattle.expansion.specs.Copy.{copyNode, mappedOr, copy}
 use Rattle.expansion.specs.Expand.{statement, rootEnv, statements, output}
 use Rattle.expansion.specs.Reached.{Known, bodyIds, defaultIds, declOf, interfaceIds, plainNexts, gives, isSome, nameIfValued, bodyNames, bodyScope, defaultScope, kindBy, kindOf, defaultAction, valueActions, interfaceActions, instanceActions, actionsBy, actionsOf, nodeIn, graph}
-use Rattle.expansion.specs.Outputs.{sumOf, fieldRows, interfaceRows, externRows}
+use Rattle.expansion.specs.Outputs.{sumOf, interfaceRows, externRows}
 use Rattle.expansion.specs.Counted.{ofNode, ofOutput, allButOne, routesIn, bodyRoutes, ofScope, isIn, isSet, associationsIn, valueFor, storedIf, storedFrom, storedBy, bodyValues, ofValue, ofRun}
 use Rattle.expansion.specs.Proofs.Outcome.{Outcome, refused, accepted, Any, bindOut, mapOut, both}
 use Rattle.expansion.specs.Proofs.Names.{Shows, known, none-shown, values-shown, anything}
