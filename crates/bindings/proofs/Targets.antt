@@ -14,8 +14,8 @@ use Rattle.expansion.specs.State.{ok}
 use Rattle.expansion.specs.Values.{Values, valueOf, clone}
 use Rattle.expansion.specs.PlainCopy.{isValue}
 use Rattle.expansion.specs.Reached.{isSome}
-use Rattle.journal.specs.declared.Found.{Found}
-use Rattle.journal.specs.declared.Found.the-variants.{At, Nothing}
+use Rattle.journal.specs.declared.Newest.{Newest}
+use Rattle.journal.specs.declared.Newest.the-variants.{At, Nothing}
 use Rattle.journal.specs.Records.{tagId, tagStored, cell}
 use Rattle.journal.proofs.Lists.{scan-low}
 use Rattle.reading.specs.Reading.{kept, idsIn, idsAt, valueAt, valueRec}
@@ -80,7 +80,7 @@ module _ (L : Limits) (w : List ℕ) (t : Counts) (e : code.Env) (target : ℕ) 
   outside n = record { words = refl; value = rw (not-true (e .body) n) }
 
   module _ (st : Standing L w t) (env : EnvAt w (t .charges) e) where
-    module _ (left : not (e .body) ≡ false) (f : Found) (v : Valued w (e .values) target f) where
+    module _ (left : not (e .body) ≡ false) (f : Newest) (v : Valued w (e .values) target f) where
       body : e .body ≡ true
       body = not-false (e .body) left
 

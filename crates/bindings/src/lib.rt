@@ -1,6 +1,7 @@
 // The steps of an expansion about IS bindings, and the record of an instance: they copy no node.
+use ast::NodeId;
 use journal;
-use journal::Found;
+use journal::Newest;
 use journal::Record;
 use refine;
 use refine::Answer;
@@ -28,12 +29,12 @@ pub fn associate(
     st: Counts,
     env: Env,
     interface: u32,
-    node: u32,
+    node: NodeId,
     field: u32,
 ) -> Answer
     requires { ⌜ Standing lim (now work) st ⌝ }
     requires { ⌜ EnvAt (now work) (st .charges) env ⌝ }
-    ensures { λ a. ⌜ Associated lim (now (work .entry)) st env interface node field (now (work .exit)) a ⌝ }
+    ensures { λ a. ⌜ Associated lim (now (work .entry)) st env interface (node .0) field (now (work .exit)) a ⌝ }
 {
     let scope = env.scope;
     refine::own(
@@ -45,7 +46,7 @@ pub fn associate(
             tag: 13,
             a: scope,
             b: interface,
-            c: node,
+            c: node.0,
             d: field,
             e: 0,
             f: 0,
@@ -90,7 +91,7 @@ fn target_value(work: &mut [u32], lim: Limits, st: Counts, env: Env, target: u32
     if !env.body {
         return Given::Outside;
     }
-    let Found::At(v) = refine::value_of(work, lim, st, env.values, target) else {
+    let Newest::At(v) = refine::value_of(work, lim, st, env.values, target) else {
         return Given::Without;
     };
     let ty = journal::word(work, v, 5);
@@ -125,14 +126,14 @@ pub fn is_field(
     lim: Limits,
     st: Counts,
     env: Env,
-    new: u32,
+    new: NodeId,
     r: Row,
     h: u32,
 ) -> Answer
     requires { ⌜ Standing lim (now work) st ⌝ }
     requires { ⌜ EnvAt (now work) (st .charges) env ⌝ }
     requires { ⌜ HandleAt (now work) (st .charges) tagField h ⌝ }
-    ensures { λ a. ⌜ FieldDone lim (now (work .entry)) st env new r h (now (work .exit)) a ⌝ }
+    ensures { λ a. ⌜ FieldDone lim (now (work .entry)) st env (new .0) r h (now (work .exit)) a ⌝ }
 {
     let a = associate(work, lim, st, env, r.c, new, r.a);
     let Answer::Done {
@@ -247,7 +248,7 @@ pub fn is_interface(
     lim: Limits,
     st: Counts,
     env: Env,
-    new: u32,
+    new: NodeId,
     r: Row,
     h: u32,
 ) -> Answer
@@ -255,7 +256,7 @@ pub fn is_interface(
     requires { ⌜ EnvAt (now work) (st .charges) env ⌝ }
     requires { ⌜ HandleAt (now work) (st .charges) tagInterface h ⌝ }
     requires { ⌜ (r .d ≡ 4294967295 → ⊥) ⌝ }
-    ensures { λ a. ⌜ InterfaceDone lim (now (work .entry)) st env new r h (now (work .exit)) a ⌝ }
+    ensures { λ a. ⌜ InterfaceDone lim (now (work .entry)) st env (new .0) r h (now (work .exit)) a ⌝ }
 {
     let a = associate(work, lim, st, env, r.d, new, r.c);
     let Answer::Done {
@@ -296,7 +297,7 @@ pub fn has_value(work: &[u32], lim: Limits, st: Counts, env: Env, target: u32) -
     if !env.body {
         return false;
     }
-    let Found::At(_) = refine::value_of(work, lim, st, env.values, target) else {
+    let Newest::At(_) = refine::value_of(work, lim, st, env.values, target) else {
         return false;
     };
     true
@@ -355,10 +356,10 @@ fn remap_routes(work: &mut [u32], lim: Limits, st: Counts, env: Env)
     let mut cur = wide(journal::word(work, env.place, 10));
     while 0 < cur {
         let r = cur - 1;
-        let from = refine::remap(work, lim, st, env, journal::word(work, r, 6));
-        let to = refine::remap(work, lim, st, env, journal::word(work, r, 7));
-        journal::set(work, r, 10, from);
-        journal::set(work, r, 11, to);
+        let from = refine::remap(work, lim, st, env, NodeId(journal::word(work, r, 6)));
+        let to = refine::remap(work, lim, st, env, NodeId(journal::word(work, r, 7)));
+        journal::set(work, r, 10, from.0);
+        journal::set(work, r, 11, to.0);
         cur = wide(journal::word(work, r, 8));
     }
 }
@@ -379,12 +380,12 @@ pub fn record_instance(
     inner: Env,
     name: u32,
     def: u32,
-    out: u32,
+    out: NodeId,
     place: u32,
 ) -> Answer
     requires { ⌜ Standing lim (now work) st ⌝ }
-    requires { ⌜ Recordable (now work) (st .charges) inner out place ⌝ }
-    ensures { λ a. ⌜ Recorded lim (now (work .entry)) st inner name def out place (now (work .exit)) a ⌝ }
+    requires { ⌜ Recordable (now work) (st .charges) inner (out .0) place ⌝ }
+    ensures { λ a. ⌜ Recorded lim (now (work .entry)) st inner name def (out .0) place (now (work .exit)) a ⌝ }
 {
     let c = st.charges;
     if lim.rows <= c {
@@ -421,7 +422,7 @@ pub fn record_instance(
     journal::set(work, n, 11, (c + 1) as u32);
     Answer::Done {
         st: refine::charged(st, 1),
-        value: out,
+        value: out.0,
         place,
     }
 }

@@ -18,7 +18,8 @@ use Rattle.sheet.specs.Rows.{rows}
 use Rattle.checker.specs.Grammar.{hasEnded, fits, goOn, run, checked}
 use Rattle.sheet.proofs.RowLaws.{rows-length}
 use Rattle.operation.specs.Operation.{Call, overCaps, tooShort, wrongLength, outcome, expandWords}
-use Rattle.operation.specs.Promises.{Words, Promises}
+use Rattle.operation.specs.Promises.{Promises}
+use Rattle.operation.proofs.Targets.{Words}
 use Rattle.operation.proofs.Tests.{room-if, sheets-if}
 use Rattle.operation.proofs.Promised.{promises}
 use Rattle.call.specs.declared.Outcome.{Outcome}

@@ -6,6 +6,7 @@ use Prim.Native.Nat.{ℕ, zero, suc, _-_}
 use native.Mathlib.Omega.{arith}
 use lib.ListN.{getD}
 use Rattle.ast.specs.Ast.{NodeOrigin, Node}
+use Rattle.ast.specs.declared.ProtoId.{ProtoId}
 use Rattle.ast.specs.Choice.{mapO}
 use Rattle.ast.specs.Lookups.{nodeAt}
 use Rattle.sheet.specs.declared.row.Row.{Row}
@@ -25,8 +26,8 @@ use Rattle.expansion.specs.Input.{Input, docs, pickOf, protoOf}
 use Rattle.expansion.specs.State.{Comp, refusal, ok, ret, fail, lookup}
 use Rattle.expansion.specs.Values.{Env, src}
 use Rattle.expansion.specs.Copy.{copyNode, mappedOr, copy}
-use Rattle.journal.specs.declared.Found.{Found}
-use Rattle.journal.specs.declared.Found.the-variants.{At, Nothing}
+use Rattle.journal.specs.declared.Newest.{Newest}
+use Rattle.journal.specs.declared.Newest.the-variants.{At, Nothing}
 use Rattle.journal.specs.Records.{cell}
 use Rattle.reading.specs.Reading.{mapOf}
 use Rattle.refine.specs.declared.Limits.{Limits}
@@ -50,7 +51,7 @@ instance-is I zero (NodeOrigin.ExternProto x) = refl
 instance-is I (suc d) (NodeOrigin.ExternProto x) = refl
 instance-is I d NodeOrigin.Unknown = refl
 
-module _ (root library dir w : List ℕ) (L : Limits) (t : Counts) (e : code.Env) (id depth : ℕ) (h : Here root library dir w L t e) {f : Found} (lk : Looked w (t .charges) (e .scope) id f) where
+module _ (root library dir w : List ℕ) (L : Limits) (t : Counts) (e : code.Env) (id depth : ℕ) (h : Here root library dir w L t e) {f : Newest} (lk : Looked w (t .charges) (e .scope) id f) where
   abbrev m : Input → Comp ℕ
   m I = copy I depth (envOf w e) id
 
@@ -115,9 +116,9 @@ module _ (root library dir w : List ℕ) (L : Limits) (t : Counts) (e : code.Env
         unfolding copyNode
         copy-plain z y = yields-as y m (λ D. sym (enters D ∙ rw z))
 
-        pub copy-slot : {slot proto : ℕ} → g ≡ Of slot proto → Slot dir slot
+        pub copy-slot : {slot : ℕ} {proto : ProtoId} → g ≡ Of slot proto → Slot dir slot
         copy-slot z = rw z at (tg .valid)
 
-        pub copy-instance : {slot proto : ℕ} → g ≡ Of slot proto → {w′ : List ℕ} {a : Answer} → Instanced root library dir w L t e id row slot proto (depth - 1) w′ a → Copied root library w L t e id depth w′ a
+        pub copy-instance : {slot : ℕ} {proto : ProtoId} → g ≡ Of slot proto → {w′ : List ℕ} {a : Answer} → Instanced root library dir w L t e id row slot (proto .0) (depth - 1) w′ a → Copied root library w L t e id depth w′ a
         unfolding copyNode
         copy-instance z y = yields-as y m (λ D. sym (enters D ∙ rw z))

@@ -1,5 +1,6 @@
 // Expand: copy, instantiate and value with their parts, which call each other.
 // Remaining depth falls at each node entered.
+use ast::ExternProtoId;
 use ast::NodeId;
 use ast::ProtoId;
 use directory;
@@ -101,7 +102,8 @@ fn origin<'a>(
 {
     let r = row_of(root, library, dir, env.slot, row);
     if r.c == 2 {
-        return parts::extern_proto(root, library, dir, work, lim, st, env.slot, r.d);
+        let id = ExternProtoId(r.d);
+        return parts::extern_proto(root, library, dir, work, lim, st, env.slot, id);
     }
     Answer::Done {
         st: st,
@@ -119,24 +121,24 @@ pub fn copy<'a>(
     lim: Limits,
     st: Counts,
     env: Env,
-    id: u32,
+    id: NodeId,
     depth: usize,
 ) -> Answer
     requires { ⌜ Here (now root) (now library) (now dir) (now work) lim st env ⌝ }
-    ensures { λ a. ⌜ Copied (now (root .entry)) (now (library .entry)) (now (work .entry)) lim st env id depth (now (work .exit)) a ⌝ }
+    ensures { λ a. ⌜ Copied (now (root .entry)) (now (library .entry)) (now (work .entry)) lim st env (id .0) depth (now (work .exit)) a ⌝ }
 {
-    if let journal::Found::At(r) = refine::look(work, lim, st, env, id) {
+    if let journal::Newest::At(r) = refine::look(work, lim, st, env, id) {
         return Answer::Done {
             st: st,
             value: journal::word(work, r, 3),
             place: journal::word(work, r, 4),
         };
     }
-    let Found::At(row) = source::node(root, library, dir, work, env.slot, NodeId(id)) else {
+    let Found::At(row) = source::node(root, library, dir, work, env.slot, id) else {
         return Answer::Refused {
             number: 5,
             first: directory::number(dir, env.slot),
-            second: id,
+            second: id.0,
         };
     };
     if depth == 0 {
@@ -176,13 +178,13 @@ fn plain<'a>(
     lim: Limits,
     st: Counts,
     env: Env,
-    id: u32,
+    id: NodeId,
     row: usize,
     depth: usize,
 ) -> Answer
     requires { ⌜ Here (now root) (now library) (now dir) (now work) lim st env ⌝ }
     requires { ⌜ AtRow (now root) (now library) (now dir) (env .slot) row ⌝ }
-    ensures { λ a. ⌜ Plained (now (root .entry)) (now (library .entry)) (now (dir .entry)) (now (work .entry)) lim st env id row depth (now (work .exit)) a ⌝ }
+    ensures { λ a. ⌜ Plained (now (root .entry)) (now (library .entry)) (now (dir .entry)) (now (work .entry)) lim st env (id .0) row depth (now (work .exit)) a ⌝ }
 {
     let a = refine::reserve(work, lim, st, env, id);
     let Answer::Done {
@@ -202,7 +204,7 @@ fn plain<'a>(
     else {
         return a;
     };
-    let a = fields(root, library, dir, work, lim, s1, env, new, row, depth);
+    let a = fields(root, library, dir, work, lim, s1, env, NodeId(new), row, depth);
     let Answer::Done {
         st: s2,
         value: fs,
@@ -220,7 +222,7 @@ fn plain<'a>(
             place: place,
         };
     }
-    let a = interfaces(root, library, dir, work, lim, s2, env, new, row, depth);
+    let a = interfaces(root, library, dir, work, lim, s2, env, NodeId(new), row, depth);
     let Answer::Done {
         st: s3,
         value: is,
@@ -264,13 +266,13 @@ fn fields<'a>(
     lim: Limits,
     st: Counts,
     env: Env,
-    new: u32,
+    new: NodeId,
     row: usize,
     depth: usize,
 ) -> Answer
     requires { ⌜ Here (now root) (now library) (now dir) (now work) lim st env ⌝ }
     requires { ⌜ AtRow (now root) (now library) (now dir) (env .slot) row ⌝ }
-    ensures { λ a. ⌜ Fielded (now (root .entry)) (now (library .entry)) (now (dir .entry)) (now (work .entry)) lim st env new row depth (now (work .exit)) a ⌝ }
+    ensures { λ a. ⌜ Fielded (now (root .entry)) (now (library .entry)) (now (dir .entry)) (now (work .entry)) lim st env (new .0) row depth (now (work .exit)) a ⌝ }
 {
     let mut cur = st;
     let mut h: u32 = 0;
@@ -333,7 +335,7 @@ fn field<'a>(
     lim: Limits,
     st: Counts,
     env: Env,
-    new: u32,
+    new: NodeId,
     row: usize,
     h: u32,
     depth: usize,
@@ -341,7 +343,7 @@ fn field<'a>(
     requires { ⌜ Here (now root) (now library) (now dir) (now work) lim st env ⌝ }
     requires { ⌜ AtRow (now root) (now library) (now dir) (env .slot) row ⌝ }
     requires { ⌜ HandleAt (now work) (st .charges) tagField h ⌝ }
-    ensures { λ a. ⌜ FieldAdded (now (root .entry)) (now (library .entry)) (now (dir .entry)) (now (work .entry)) lim st env new row h depth (now (work .exit)) a ⌝ }
+    ensures { λ a. ⌜ FieldAdded (now (root .entry)) (now (library .entry)) (now (dir .entry)) (now (work .entry)) lim st env (new .0) row h depth (now (work .exit)) a ⌝ }
 {
     let r = row_of(root, library, dir, env.slot, row);
     if r.b == 1 {
@@ -374,13 +376,13 @@ fn interfaces<'a>(
     lim: Limits,
     st: Counts,
     env: Env,
-    new: u32,
+    new: NodeId,
     row: usize,
     depth: usize,
 ) -> Answer
     requires { ⌜ Here (now root) (now library) (now dir) (now work) lim st env ⌝ }
     requires { ⌜ AtRow (now root) (now library) (now dir) (env .slot) row ⌝ }
-    ensures { λ a. ⌜ Interfaced (now (root .entry)) (now (library .entry)) (now (dir .entry)) (now (work .entry)) lim st env new row depth (now (work .exit)) a ⌝ }
+    ensures { λ a. ⌜ Interfaced (now (root .entry)) (now (library .entry)) (now (dir .entry)) (now (work .entry)) lim st env (new .0) row depth (now (work .exit)) a ⌝ }
 {
     let mut cur = st;
     let mut h: u32 = 0;
@@ -416,7 +418,7 @@ fn interface<'a>(
     lim: Limits,
     st: Counts,
     env: Env,
-    new: u32,
+    new: NodeId,
     row: usize,
     h: u32,
     depth: usize,
@@ -424,7 +426,7 @@ fn interface<'a>(
     requires { ⌜ Here (now root) (now library) (now dir) (now work) lim st env ⌝ }
     requires { ⌜ AtRow (now root) (now library) (now dir) (env .slot) row ⌝ }
     requires { ⌜ HandleAt (now work) (st .charges) tagInterface h ⌝ }
-    ensures { λ a. ⌜ InterfaceAdded (now (root .entry)) (now (library .entry)) (now (dir .entry)) (now (work .entry)) lim st env new row h depth (now (work .exit)) a ⌝ }
+    ensures { λ a. ⌜ InterfaceAdded (now (root .entry)) (now (library .entry)) (now (dir .entry)) (now (work .entry)) lim st env (new .0) row h depth (now (work .exit)) a ⌝ }
 {
     let r = row_of(root, library, dir, env.slot, row);
     if r.d != NONE {
@@ -497,7 +499,7 @@ fn value<'a>(
         };
         at = q + 1;
         let i = row_of(root, library, dir, env.slot, q);
-        let a = copy(root, library, dir, work, lim, cur, env, i.a, depth);
+        let a = copy(root, library, dir, work, lim, cur, env, NodeId(i.a), depth);
         let Answer::Done {
             st: then,
             value: o,
@@ -547,23 +549,23 @@ fn instantiate<'a>(
     lim: Limits,
     st: Counts,
     env: Env,
-    id: u32,
+    id: NodeId,
     row: usize,
     slot: u32,
-    proto: u32,
+    proto: ProtoId,
     depth: usize,
 ) -> Answer
     requires { ⌜ Here (now root) (now library) (now dir) (now work) lim st env ⌝ }
     requires { ⌜ AtRow (now root) (now library) (now dir) (env .slot) row ⌝ }
     requires { ⌜ Slot (now dir) slot ⌝ }
-    ensures { λ a. ⌜ Instanced (now (root .entry)) (now (library .entry)) (now (dir .entry)) (now (work .entry)) lim st env id row slot proto depth (now (work .exit)) a ⌝ }
+    ensures { λ a. ⌜ Instanced (now (root .entry)) (now (library .entry)) (now (dir .entry)) (now (work .entry)) lim st env (id .0) row slot (proto .0) depth (now (work .exit)) a ⌝ }
 {
     let document = directory::number(dir, slot);
-    let Found::At(decl) = source::proto(root, library, dir, work, slot, ProtoId(proto)) else {
+    let Found::At(decl) = source::proto(root, library, dir, work, slot, proto) else {
         return Answer::Refused {
             number: 6,
             first: document,
-            second: proto,
+            second: proto.0,
         };
     };
     let a = values(
@@ -629,12 +631,12 @@ fn instantiate<'a>(
         return Answer::Refused {
             number: 7,
             first: document,
-            second: proto,
+            second: proto.0,
         };
     }
     let name = row_of(root, library, dir, slot, decl).a;
     let def = row_of(root, library, dir, env.slot, row).b;
-    bindings::record_instance(work, lim, u, inner, name, def, out, place)
+    bindings::record_instance(work, lim, u, inner, name, def, NodeId(out), place)
 }
 
 // The values of a PROTO's interfaces, in order; their handle.
@@ -648,7 +650,7 @@ fn values<'a>(
     env: Env,
     row: usize,
     slot: u32,
-    proto: u32,
+    proto: ProtoId,
     decl: usize,
     depth: usize,
 ) -> Answer
@@ -656,7 +658,7 @@ fn values<'a>(
     requires { ⌜ AtRow (now root) (now library) (now dir) (env .slot) row ⌝ }
     requires { ⌜ Slot (now dir) slot ⌝ }
     requires { ⌜ AtRow (now root) (now library) (now dir) slot decl ⌝ }
-    ensures { λ a. ⌜ ValuesOf (now (root .entry)) (now (library .entry)) (now (dir .entry)) (now (work .entry)) lim st env row slot proto decl depth (now (work .exit)) a ⌝ }
+    ensures { λ a. ⌜ ValuesOf (now (root .entry)) (now (library .entry)) (now (dir .entry)) (now (work .entry)) lim st env row slot (proto .0) decl depth (now (work .exit)) a ⌝ }
 {
     let mut cur = st;
     let mut h: u32 = 0;
@@ -712,7 +714,7 @@ fn given<'a>(
     env: Env,
     row: usize,
     slot: u32,
-    proto: u32,
+    proto: ProtoId,
     q: usize,
     k: u32,
     h: u32,
@@ -723,7 +725,7 @@ fn given<'a>(
     requires { ⌜ Slot (now dir) slot ⌝ }
     requires { ⌜ AtRow (now root) (now library) (now dir) slot q ⌝ }
     requires { ⌜ HandleAt (now work) (st .charges) tagStored h ⌝ }
-    ensures { λ a. ⌜ Given (now (root .entry)) (now (library .entry)) (now (dir .entry)) (now (work .entry)) lim st env row slot proto q k h depth (now (work .exit)) a ⌝ }
+    ensures { λ a. ⌜ Given (now (root .entry)) (now (library .entry)) (now (dir .entry)) (now (work .entry)) lim st env row slot (proto .0) q k h depth (now (work .exit)) a ⌝ }
 {
     let d = row_of(root, library, dir, slot, q);
     if let Found::At(f) = source::last_field(root, library, dir, work, env.slot, row, d.c) {
@@ -797,14 +799,14 @@ fn body<'a>(
     lim: Limits,
     st: Counts,
     env: Env,
-    id: u32,
+    id: NodeId,
     inner: Env,
     decl: usize,
     depth: usize,
 ) -> Answer
     requires { ⌜ InBody (now root) (now library) (now dir) (now work) lim st env inner 0 0 ⌝ }
     requires { ⌜ AtRow (now root) (now library) (now dir) (inner .slot) decl ⌝ }
-    ensures { λ a. ⌜ BodyOf (now (root .entry)) (now (library .entry)) (now (dir .entry)) (now (work .entry)) lim st env id inner decl depth (now (work .exit)) a ⌝ }
+    ensures { λ a. ⌜ BodyOf (now (root .entry)) (now (library .entry)) (now (dir .entry)) (now (work .entry)) lim st env (id .0) inner decl depth (now (work .exit)) a ⌝ }
 {
     let mut cur = st;
     let mut out: u32 = 0;
@@ -856,7 +858,7 @@ fn statement<'a>(
     lim: Limits,
     st: Counts,
     env: Env,
-    id: u32,
+    id: NodeId,
     inner: Env,
     row: usize,
     out: u32,
@@ -865,12 +867,12 @@ fn statement<'a>(
 ) -> Answer
     requires { ⌜ InBody (now root) (now library) (now dir) (now work) lim st env inner out place ⌝ }
     requires { ⌜ AtRow (now root) (now library) (now dir) (inner .slot) row ⌝ }
-    ensures { λ a. ⌜ StatementOf (now (root .entry)) (now (library .entry)) (now (dir .entry)) (now (work .entry)) lim st env id inner row out place depth (now (work .exit)) a ⌝ }
+    ensures { λ a. ⌜ StatementOf (now (root .entry)) (now (library .entry)) (now (dir .entry)) (now (work .entry)) lim st env (id .0) inner row out place depth (now (work .exit)) a ⌝ }
 {
     let r = row_of(root, library, dir, inner.slot, row);
     let scope = inner.scope;
     if r.a == 0 {
-        let a = copy(root, library, dir, work, lim, st, inner, r.b, depth);
+        let a = copy(root, library, dir, work, lim, st, inner, NodeId(r.b), depth);
         let Answer::Done {
             st: s,
             value: o,
@@ -880,7 +882,7 @@ fn statement<'a>(
             return a;
         };
         if place == 0 {
-            return refine::map(work, lim, s, env, id, o, p);
+            return refine::map(work, lim, s, env, id, NodeId(o), p);
         }
         let b = refine::own(
             work,
@@ -905,7 +907,8 @@ fn statement<'a>(
         return kept(b, out, place);
     }
     if r.a == 2 {
-        let a = parts::extern_proto(root, library, dir, work, lim, st, inner.slot, r.b);
+        let x = ExternProtoId(r.b);
+        let a = parts::extern_proto(root, library, dir, work, lim, st, inner.slot, x);
         return kept(a, out, place);
     }
     if r.a == 3 {

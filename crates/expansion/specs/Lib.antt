@@ -15,6 +15,8 @@ pub mod Flights
 pub mod Readings
 pub mod Reached
 pub mod Outputs
+pub mod Counted
 pub mod Expanded
+pub mod Limits
 pub mod Bigger
 pub mod Proofs

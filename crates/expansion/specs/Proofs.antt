@@ -8,6 +8,9 @@ pub mod DefaultCount
 pub mod Output
 pub mod Ids
 pub mod Rows
+pub mod Types
+pub mod Needs
+pub mod Counted
 pub mod Demand
 pub mod Runs
 pub mod Room

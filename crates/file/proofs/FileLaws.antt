@@ -21,6 +21,7 @@ use Rattle.walks.specs.declared.walk.Found.the-variants.{At, Nothing}
 use Rattle.walks.specs.Walk.{Stands, Nth}
 use Rattle.lookup.specs.Lookup.{documentAt}
 use Rattle.walks.proofs.WalkLaws.{each-at, each-none, at-map, front-drop, rest-drop, from-here}
+use Rattle.ast.specs.declared.ProtoId.{ProtoId}
 use Rattle.file.specs.declared.TopProto.{TopProto}
 use Rattle.file.specs.declared.TopProto.the-variants as top
 use Rattle.file.specs.PickIn.{topProtos, isNamed, firstNamed, pickIn}
@@ -65,7 +66,7 @@ module _ (R : List Row) where
 
 -- what was found, by its answer
 module _ (R : List Row) (p : ℕ) {x : TopProto} (s : NextProto R p x) where
-  pub next-at : {id q : ℕ} → x ≡ top.At id q → StandsProto R p id q
+  pub next-at : {id : ProtoId} {q : ℕ} → x ≡ top.At id q → StandsProto R p (id .0) q
   next-at e = subst (NextProto R p) e s
 
   pub next-none : x ≡ top.Nothing → protosFrom R p ≡ []
@@ -135,7 +136,7 @@ module _ {R : List Row} {protos name : ℕ} where
 
     module _ {id q : ℕ} (s : StandsProto R at id q) {b : Bool} (is : b ≡ isNamed name (getElem? (protosAt R protos) id)) where
       -- the next has the name
-      pub first-here : b ≡ true → FirstNamed R protos name p (top.At id q)
+      pub first-here : b ≡ true → FirstNamed R protos name p (top.At (record { 0 = id }) q)
       unfolding firstNamed
       first-here e file h = sym (w .is file h ∙ rw (s .is, h, sym is, e))
 

@@ -20,7 +20,7 @@ Capped sheet = length sheet ≤ 8 * 1048576
 
 -- the id that a Proto statement names
 abbrev pub idOf : TopProto → Option ℕ
-idOf (At id row) = some id
+idOf (At id row) = some (id .0)
 idOf Nothing = none
 
 -- the ids of the Proto statements from a row on
@@ -35,7 +35,7 @@ pub record StandsProto (R : List Row) (p id q : ℕ) : Type 0 where
   pub is : protosFrom R p ≡ id ∷ protosFrom R (q + 1)
 
 abbrev pub NextProto : List Row → ℕ → TopProto → Type 0
-NextProto R p (At id q) = StandsProto R p id q
+NextProto R p (At id q) = StandsProto R p (id .0) q
 NextProto R p Nothing = protosFrom R p ≡ []
 
 -- the prototypes from a row on

@@ -1,4 +1,5 @@
 // The pick within a file: a top-level Proto statement of its document.
+use ast::ProtoId;
 use sheet::part::Part;
 use sheet::row;
 use walks::index;
@@ -17,7 +18,7 @@ ghost use Rattle.file.specs.File.{Capped, idOf, NextProto, protosAt, Pro
 
 // A top-level Proto statement: the id that it names, and its row.
 pub enum TopProto {
-    At { id: u32, row: usize },
+    At { id: ProtoId, row: usize },
     Nothing,
 }
 
@@ -40,7 +41,10 @@ pub fn next_proto(sheet: &[u32], from: usize) -> TopProto
         };
         let r = row::row_at(sheet, q);
         if r.a == 1 {
-            return TopProto::At { id: r.b, row: q };
+            return TopProto::At {
+                id: ProtoId(r.b),
+                row: q,
+            };
         }
         at = q + 1;
     }
@@ -91,23 +95,24 @@ fn index_protos(sheet: &[u32], from: usize, slots: &mut [u32]) -> ProtoIndex
 }
 
 // The row of the prototype of an id. An id past the last is told without a walk.
-pub fn proto_row(sheet: &[u32], protos: ProtoIndex, slots: &[u32], id: u32) -> Found
+pub fn proto_row(sheet: &[u32], protos: ProtoIndex, slots: &[u32], id: ProtoId) -> Found
     requires { ⌜ ProtosIndexed (rows (now sheet)) (now slots) protos ⌝ }
-    ensures { λ x. ⌜ Nth Protos (rows (now (sheet .entry))) (protos .from) id x ⌝ }
+    ensures { λ x. ⌜ Nth Protos (rows (now (sheet .entry))) (protos .from) (id .0) x ⌝ }
 {
-    if protos.count <= id as usize {
+    let n = id.0;
+    if protos.count <= n as usize {
         return Found::Nothing;
     }
     let from = protos.from;
     let stride = protos.stride;
     let filled = protos.filled;
-    index::find(sheet, Part::Protos, from, stride, slots, filled, id)
+    index::find(sheet, Part::Protos, from, stride, slots, filled, n)
 }
 
 // Whether the prototype of an id exists and has a name.
-fn is_named(sheet: &[u32], protos: ProtoIndex, slots: &[u32], id: u32, name: u32) -> bool
+fn is_named(sheet: &[u32], protos: ProtoIndex, slots: &[u32], id: ProtoId, name: u32) -> bool
     requires { ⌜ ProtosIndexed (rows (now sheet)) (now slots) protos ⌝ }
-    ensures { λ b. ⌜ b ≡ isNamed name (getElem? (protosAt (rows (now (sheet .entry))) (protos .from)) id) ⌝ }
+    ensures { λ b. ⌜ b ≡ isNamed name (getElem? (protosAt (rows (now (sheet .entry))) (protos .from)) (id .0)) ⌝ }
 {
     let Found::At(q) = proto_row(sheet, protos, slots, id) else {
         return false;

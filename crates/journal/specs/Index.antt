@@ -9,8 +9,8 @@ use lib.ListN.{length, getD}
 use lib.Dec.{eqb, ltb}
 use Rattle.ast.specs.Choice.{choose}
 use Rattle.journal.specs.declared.Record.{Record}
-use Rattle.journal.specs.declared.Found.{Found}
-use Rattle.journal.specs.declared.Found.the-variants.{At, Nothing}
+use Rattle.journal.specs.declared.Newest.{Newest}
+use Rattle.journal.specs.declared.Newest.the-variants.{At, Nothing}
 use Rattle.journal.specs.Records.{tagMap, tagExtern, tagStored, cell, Same, Holds}
 use Rattle.journal.specs.Logs.{lastOf, newestOf}
 
@@ -29,7 +29,7 @@ hit w t x y r = choose (eqb (cell w r 0) t) (choose (eqb (cell w r 1) x) (eqb (c
 abbrev pub newest : List ℕ → ℕ → ℕ → ℕ → ℕ → Option ℕ
 newest w t x y c = newestOf (hit w t x y) c
 
-abbrev pub foundOf : Found → Option ℕ
+abbrev pub foundOf : Newest → Option ℕ
 foundOf (At i) = some i
 foundOf Nothing = none
 

@@ -25,7 +25,8 @@ pub struct Record {
     pub k: u32,
 }
 
-pub enum Found {
+// The newest record of a key, if there is one.
+pub enum Newest {
     At(usize),
     Nothing,
 }
@@ -145,7 +146,7 @@ pub fn find_below(
     tag: u32,
     x: u32,
     y: u32,
-) -> Found
+) -> Newest
     requires { ⌜ Findable (now work) at slots c tag ⌝ }
     requires { ⌜ top ≤ c ⌝ }
     ensures { λ r. ⌜ foundOf r ≡ newest (now (work .entry)) tag x y top ⌝ }
@@ -154,15 +155,15 @@ pub fn find_below(
     while 0 < cur {
         let n = cur - 1;
         if hits(work, n, top, tag, x, y) {
-            return Found::At(n);
+            return Newest::At(n);
         }
         cur = wide(word(work, n, 9));
     }
-    Found::Nothing
+    Newest::Nothing
 }
 
 // The newest record of a key.
-pub fn find(work: &[u32], at: usize, slots: usize, c: usize, tag: u32, x: u32, y: u32) -> Found
+pub fn find(work: &[u32], at: usize, slots: usize, c: usize, tag: u32, x: u32, y: u32) -> Newest
     requires { ⌜ Findable (now work) at slots c tag ⌝ }
     ensures { λ r. ⌜ foundOf r ≡ newest (now (work .entry)) tag x y c ⌝ }
 {

@@ -83,7 +83,7 @@ module _ (c : Call) where
   -- no refusal has the number 0
   positive : {n d i : ℕ} → Given c (Answer.Refused n d i) → 1 ≤ n
   positive (early h k) = h
-  positive (steps {a = Answer.Refused n d i} q) = omega (arith, from-four n d i (refusals (input c) n d i q) .0)
+  positive (steps {a = Answer.Refused n d i} q) = omega (arith, from-four c n d i (refusals (input c) n d i q) .0)
 
   by-steps : {e : Expansion} → Given c (Answer.Expanded e) → expand (input c) ≡ Answer.Expanded e
   by-steps (steps q) = q

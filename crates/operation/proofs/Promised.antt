@@ -19,12 +19,12 @@ use Rattle.expansion.specs.Scopes.{scopeEntry}
 use Rattle.ast.specs.Lists.{flat}
 use Rattle.expansion.specs.Expand.{Expansion, Answer, expand}
 use Rattle.expansion.specs.Expanded.{Expanded}
-use Rattle.expansion.specs.Proofs.Demand.{demand-3, refusals}
+use Rattle.expansion.specs.Proofs.Demand.{demand-3, refusals, faultless}
 use Rattle.output.specs.Input.{InputInRange}
 use Rattle.output.proofs.Output.{row-count, rows-fit, rows-say}
 use Rattle.operation.specs.Operation.{Call, After, overCaps, tooShort, wrongLength, refuseIf, refuseBad, input, outcome, over, ledgerWords, after, expandWords}
-use Rattle.operation.specs.Promises.{Words, Room, Sheets, WellFormed, Refused, Answered, one, two, threeRoot, threeLibrary, fourToTen, accepted, outRows, ledgerSaid, scopesSaid, said, Accepted, Promises}
-use Rattle.operation.proofs.Targets.{root-targets, library-targets}
+use Rattle.operation.specs.Promises.{Room, Sheets, WellFormed, Refused, Answered, one, two, threeRoot, threeLibrary, fourToTen, accepted, outRows, ledgerSaid, scopesSaid, said, Accepted, Promises}
+use Rattle.operation.proofs.Targets.{Words, root-targets, library-targets}
 use Rattle.operation.proofs.Said.{words-length, ledger-length, scopes-length, rows-said, ledger-said, scopes-said}
 use Rattle.operation.proofs.Cases.{from-four}
 use Rattle.operation.proofs.Tests.{yes-no, room-if, room-then, sheets-if, sheets-then}
@@ -108,7 +108,7 @@ module _ (c : Call) (hr : Words (c .root)) (hl : Words (c .library)) (room : Roo
 
     when-accepted : Promises c r
     when-accepted = record {
-      answered = accepted room sheets fit e q refl;
+      answered = accepted room sheets fit e q (faultless (input c) e q) refl;
       accepted = λ z. accepted-holds;
       outLength = over-length (words R) (c .out) (omega (arith, words-length R, rowsPaid, x .chargeLimit, room .out));
       ledgerLength = over-length (flat ledgerWords (e .ledger)) (c .ledger) (omega (arith, ledgerCount, x .nodeLimit, room .ledger));
@@ -119,7 +119,7 @@ module _ (c : Call) (hr : Words (c .root)) (hl : Words (c .library)) (room : Roo
 
 module _ (c : Call) (hr : Words (c .root)) (hl : Words (c .library)) where
   by-steps : Room c → Sheets c → WellFormed c → (o : Answer) → expand (input c) ≡ o → Promises c (after c o)
-  by-steps room sheets fit (Answer.Refused n d i) q = let h = refusals (input c) n d i q in when-refused c n d i (λ e. omega (arith, from-four n d i h .0)) (fourToTen room sheets fit n d i q h)
+  by-steps room sheets fit (Answer.Refused n d i) q = let h = refusals (input c) n d i q in when-refused c n d i (λ e. omega (arith, from-four c n d i h .0)) (fourToTen room sheets fit n d i q h)
   by-steps room sheets fit (Answer.Expanded e) q = when-accepted c hr hl room sheets fit e q
 
   -- One refusal after another.

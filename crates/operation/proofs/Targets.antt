@@ -1,10 +1,11 @@
 -- Of words, every IS target that is present is a name.
 use mathlib.Core.Path.{_≡_}
 use mathlib.Core.List.{List, [], _∷_}
-use Prim.Native.Nat.{ℕ, suc, _≤_}
+use Prim.Native.Nat.{ℕ, suc, _≤_, _<_}
 use native.Mathlib.Decide.{ℕ-discrete}
 use native.Mathlib.Omega.{arith}
 use mathlib.Core.Bool.{Bool, true, false}
+use lib.ListN.{getD}
 use lib.Dec.{eqb}
 use borrow.Author.Tests.{eq-eqb, ne-eqb}
 use Rattle.ast.specs.Choice.{choose}
@@ -13,10 +14,9 @@ use Rattle.sheet.specs.declared.part.Part.{Part}
 use Rattle.sheet.specs.declared.part.Part.the-variants.{Files, Nodes, Interfaces}
 use Rattle.sheet.specs.Rows.{none#, rows, front, rest}
 use Rattle.sheet.specs.Parse.{kindOf, passes, elements, optional, interfaceOf, interfacesOf, nodeOf, documentOf, fileOf, filesOf}
-use Rattle.roundtrip.specs.Each.{Each}
+use Rattle.ast.specs.Each.{Each}
 use Rattle.output.specs.Input.{IsTarget, NodeTargets, Targets}
 use Rattle.output.proofs.Eachs.{each-map}
-use Rattle.operation.specs.Promises.{Words}
 
 -- column d holds a word
 abbrev WordRow : Row → Type 0
@@ -24,6 +24,10 @@ WordRow r = r .d ≤ none#
 
 abbrev WordRows : List Row → Type 0
 WordRows l = Each WordRow l
+
+-- "A row is eight u32 numbers.": each word is one
+abbrev pub Words : List ℕ → Type 0
+Words l = (i : ℕ) → getD l i 0 < 4294967296
 
 -- The rows of words are rows of words.
 rows-words : (l : List ℕ) → Words l → WordRows (rows l)

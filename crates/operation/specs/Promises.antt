@@ -16,10 +16,6 @@ use Rattle.expansion.specs.Expand.{LedgerEntry, Expansion, Answer, expand}
 use Rattle.expansion.specs.Expanded.{Expanded, Refusal}
 use Rattle.operation.specs.Operation.{Call, After, input}
 
--- "A row is eight u32 numbers.": each word is one
-abbrev pub Words : List ℕ → Type 0
-Words l = (i : ℕ) → getD l i 0 < 4294967296
-
 -- ---- demand 1: "Refused, with a number from document 01 and the output, ledger and scope list unchanged"
 
 -- no "short buffers", no "limits over their caps"
@@ -60,10 +56,10 @@ pub data Answered (c : Call) (r : After) : Type 0 where
   -- "sheets malformed": the root's row that doesn't fit, or else the library's
   threeRoot : Room c → Sheets c → (row : ℕ) → checked form.Root (rows (c .root)) ≡ Bad row → Refused c r 3 0 row → Answered c r
   threeLibrary : Room c → Sheets c → checked form.Root (rows (c .root)) ≡ Fits → (row : ℕ) → checked form.Library (rows (c .library)) ≡ Bad row → Refused c r 3 1 row → Answered c r
-  -- "where the expansion meets them, ids that lead nowhere, bodies without a root, and a limit passed": 4 to 10
-  fourToTen : Room c → Sheets c → WellFormed c → (n d i : ℕ) → expand (input c) ≡ Answer.Refused n d i → Refusal n d i → Refused c r n d i → Answered c r
-  -- "Everything else is accepted, and every call returns."
-  accepted : Room c → Sheets c → WellFormed c → (e : Expansion) → expand (input c) ≡ Answer.Expanded e → r .answer .refusal ≡ 0 → Answered c r
+  -- "where the expansion meets them, ids that lead nowhere, bodies without a root, and a limit passed": 4 to 10. `Refusal` has, for each, the place to which the steps come and what is wrong there.
+  fourToTen : Room c → Sheets c → WellFormed c → (n d i : ℕ) → expand (input c) ≡ Answer.Refused n d i → Refusal (input c) n d i → Refused c r n d i → Answered c r
+  -- "Everything else is accepted, and every call returns.": nothing that one of 4 to 10 is given for
+  accepted : Room c → Sheets c → WellFormed c → (e : Expansion) → expand (input c) ≡ Answer.Expanded e → ((n d i : ℕ) → Refusal (input c) n d i → ⊥) → r .answer .refusal ≡ 0 → Answered c r
 
 -- ---- demand 3: what the words after an accepted call say
 
@@ -106,13 +102,13 @@ pub record Accepted (c : Call) (r : After) : Type 0 where
   -- "the scope list has one entry for each scope that these steps open, and no other": steps, opens, scopes, scopeCount.
   -- Document 02, wish 6, "an instance's field bound by IS to something without a value now takes the inner prototype's default, in a default scope": defaults.
   -- "The node count = the sum, over all these scopes, of the plain nodes reached in each, by document 01's closure.": nodesReached.
-  -- "The ledger has, for each of these scopes and each plain node reached in it, exactly one entry with that scope, document and source id, and no other entry.": ledgerOnce, ledger, ledgerSize.
+  -- "The ledger has, for each of these scopes and each plain node reached in it, exactly one entry with that scope, document and source id, and no other entry.": ledgerOnce, ledger, ledgerSize. Entry k is node k's: ledgerOrder, typeNames.
   -- "And only a loop doubles a pod: whenever no instance reached in any of these scopes reaches itself, the body scopes opened = the sum, over all these scopes, of the instances reached in each.": pods.
   -- Document 02, wish 6, "The double-count guarantee covers the new default scopes as well.": defaultCount.
   pub expanded : Expanded (input c) (said r)
   -- "The output is exactly what document 01's steps give"
   pub steps : expand (input c) ≡ Answer.Expanded (said r)
-  -- "An expanded document is a root sheet without kind 7, Proto statements or origin Proto, whose nodes hold only Route and ExternProto statements and whose interfaces with an IS have class 0."
+  -- the rows written are those of an expanded document (checker's Grammar; of what they say, `form` of `Expanded`)
   pub fits : checked form.Expanded (outRows r) ≡ Fits
   -- of a scope's entry, what its kind doesn't use is 0
   pub scopeWords : take (5 * r .answer .scopes) (r .scopes) ≡ flat scopeEntry (said r .scopes)

@@ -6,7 +6,7 @@ use Prim.Native.Nat.{ℕ, zero, suc}
 use lib.ListN.{getElem?, set}
 use Rattle.ast.specs.Choice.{andThen}
 use Rattle.expansion.specs.PlainCopy.{somes}
-use Rattle.roundtrip.specs.Each.{Each}
+use Rattle.ast.specs.Each.{Each}
 
 -- nothing, or one with P
 abbrev pub Opt : {A : Type 0} → (A → Type 0) → Option A → Type 0
@@ -37,11 +37,6 @@ module _ {A : Type 0} (P : A → Type 0) where
   each-somes [] h = tt
   each-somes (none ∷ l) h = each-somes l (h .1)
   each-somes (some a ∷ l) h = (h .0, each-somes l (h .1))
-
-  -- what holds of every member
-  pub each-mem : (l : List A) → ((a : A) → List·Memᴰ a l → P a) → Each P l
-  each-mem [] f = tt
-  each-mem (x ∷ l) f = (f x (List·Memᴰ·head refl), each-mem l (λ a q. f a (List·Memᴰ·tail q)))
 
 module _ {A B : Type 0} (P : A → Type 0) (Q : B → Type 0) where
   pub each-map : (f : A → B) → ((a : A) → P a → Q (f a)) → (l : List A) → Each P l → Each Q (map f l)

@@ -11,7 +11,7 @@ use Rattle.ast.specs.Ast.{NodeOrigin, FieldData, FieldValue, FieldBinding, Fiel
 use Rattle.ast.specs.Choice.{choose, andThen, orElse, mapO}
 use Rattle.ast.specs.Lookups.{nodeAt, protoAt, externProtoAt}
 use Rattle.picks.specs.Picks.{Pick}
-use Rattle.roundtrip.specs.Each.{Each}
+use Rattle.ast.specs.Each.{Each}
 use Rattle.roundtrip.specs.Ranges.{IsName, IsPresent, DataInRange, ValueInRange, BindingInRange, FieldInRange, DefaultInRange, InterfaceInRange, RouteInRange, StatementInRange, AssociationInRange, InstanceInRange, AnyInstanceInRange, OriginInRange, NodeInRange, ProtoInRange, ExternInterfaceInRange, ExternProtoInRange, InRange, FileInRange}
 use Rattle.expansion.specs.Input.{Input, docs, lastField}
 use Rattle.expansion.specs.Scopes.{Scope}

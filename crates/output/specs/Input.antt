@@ -2,7 +2,7 @@
 use mathlib.Core.Option.{Option, none, some}
 use Prim.Native.Nat.{ℕ, _≤_}
 use Rattle.ast.specs.Ast.{Document, Node}
-use Rattle.roundtrip.specs.Each.{Each}
+use Rattle.ast.specs.Each.{Each}
 use Rattle.roundtrip.specs.Ranges.{IsName, InRange, FileInRange}
 use Rattle.expansion.specs.Input.{Input}
 

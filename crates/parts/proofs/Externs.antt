@@ -25,8 +25,8 @@ use Rattle.expansion.specs.Charges.{oneMore, charge, chargeEach}
 use Rattle.expansion.specs.Values.{Env, src}
 use Rattle.expansion.specs.Externs.{lookupExtern, pushExtern, declare, externProto}
 use Rattle.journal.specs.declared.Record.{Record}
-use Rattle.journal.specs.declared.Found.{Found}
-use Rattle.journal.specs.declared.Found.the-variants.{At, Nothing}
+use Rattle.journal.specs.declared.Newest.{Newest}
+use Rattle.journal.specs.declared.Newest.the-variants.{At, Nothing}
 use Rattle.journal.specs.Records.{tagExtern, tagNode, tagScope, cell, Paid}
 use Rattle.journal.specs.Index.{newest, foundOf, Entered, linked}
 use Rattle.journal.specs.Owned.{tagged}
@@ -156,7 +156,7 @@ module _ (L : Limits) (root library dir w : List ℕ) (t : Counts) (slot id doc 
     unfolding externProto documentsOf
     by-doc = rw (here, ← isDoc)
 
-  module _ {f : Found} (find : foundOf f ≡ newest w tagExtern doc id (t .charges)) where
+  module _ {f : Newest} (find : foundOf f ≡ newest w tagExtern doc id (t .charges)) where
     pub extern-found : {r : ℕ} → f ≡ At r → (v : ℕ) → v ≡ cell w r 3 → Declared L root library dir w t slot id w (Done t v 0)
     unfolding declare
     extern-found {r} q v z = record { does = λ D young e here. record { same = same D e here; later = later-refl young so } }

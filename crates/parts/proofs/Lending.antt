@@ -9,8 +9,8 @@ use lib.Dec.{eqb}
 use Rattle.ast.specs.Choice.{choose}
 use Rattle.lookup.specs.Lookup.{sheetOf}
 use Rattle.journal.specs.declared.Record.{Record}
-use Rattle.journal.specs.declared.Found.{Found}
-use Rattle.journal.specs.declared.Found.the-variants.{At}
+use Rattle.journal.specs.declared.Newest.{Newest}
+use Rattle.journal.specs.declared.Newest.the-variants.{At}
 use Rattle.journal.specs.Index.{keyed, hit, newest, foundOf, Findable, Enterable}
 use Rattle.journal.proofs.Lists.{newest-is}
 use Rattle.sheet.specs.Rows.{rows}
@@ -39,7 +39,7 @@ findable {L} {w} {t} s g k = record {
 }
 
 -- what is found is below
-pub found-low : (w : List ℕ) (g x y c : ℕ) {f : Found} {r : ℕ} → foundOf f ≡ newest w g x y c → f ≡ At r → r < c
+pub found-low : (w : List ℕ) (g x y c : ℕ) {f : Newest} {r : ℕ} → foundOf f ≡ newest w g x y c → f ≡ At r → r < c
 found-low w g x y c {f} {r} e q = newest-is (hit w g x y) c r (sym e ∙ rw q) .0
 
 pub enterable : {L : Limits} {w : List ℕ} {t : Counts} → Standing L w t → t .charges < L .rows → (r : Record) → keyed (r .tag) ≡ true → Enterable w (L .rows * 12) (L .slots) (t .charges) r

@@ -22,8 +22,8 @@ use Rattle.expansion.specs.Charges.{charge, chargeEach}
 use Rattle.expansion.specs.Values.{Env, Values}
 use Rattle.expansion.specs.PlainCopy.{keptOrder}
 use Rattle.journal.specs.declared.Record.{Record}
-use Rattle.journal.specs.declared.Found.{Found}
-use Rattle.journal.specs.declared.Found.the-variants.{At, Nothing}
+use Rattle.journal.specs.declared.Newest.{Newest}
+use Rattle.journal.specs.declared.Newest.the-variants.{At, Nothing}
 use Rattle.journal.specs.Records.{tagOrder}
 use Rattle.journal.proofs.Frame.{same-fixed}
 use Rattle.reading.specs.Reading.{orderAt}
@@ -56,7 +56,7 @@ module _ (w : List ℕ) (e : code.Env) (r : Row) where
     unfolding fieldOf
     kept-outside q = rw (eq-eqb (r .b) 1 is, not-true (e .body) q)
 
-    module _ (body : not (e .body) ≡ false) {f : Found} (x : Valued w (e .values) (r .c) f) where
+    module _ (body : not (e .body) ≡ false) {f : Newest} (x : Valued w (e .values) (r .c) f) where
       pub kept-none : f ≡ Nothing → false ≡ fieldKept w e r
       unfolding fieldOf
       kept-none q = rw (eq-eqb (r .b) 1 is, not-false (e .body) body, x .same, q)

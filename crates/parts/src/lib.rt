@@ -1,5 +1,6 @@
 // Steps of an expansion that copy no node: externs, routes, a node's statements and its body order.
 use ast::ExternProtoId;
+use ast::NodeId;
 use directory;
 use journal;
 use journal::Record;
@@ -56,23 +57,23 @@ pub fn extern_proto<'a>(
     lim: Limits,
     st: Counts,
     slot: u32,
-    id: u32,
+    id: ExternProtoId,
 ) -> Answer
     requires { ⌜ Standing lim (now work) st ⌝ }
     requires { ⌜ Lent lim (now root) (now library) (now dir) (now work) ⌝ }
     requires { ⌜ Slot (now dir) slot ⌝ }
-    ensures { λ a. ⌜ Declared lim (now (root .entry)) (now (library .entry)) (now (dir .entry)) (now (work .entry)) st slot id (now (work .exit)) a ⌝ }
+    ensures { λ a. ⌜ Declared lim (now (root .entry)) (now (library .entry)) (now (dir .entry)) (now (work .entry)) st slot (id .0) (now (work .exit)) a ⌝ }
 {
     let document = directory::number(dir, slot);
     let c = st.charges;
-    if let journal::Found::At(r) = journal::find(
+    if let journal::Newest::At(r) = journal::find(
         work,
         lim.rows * 12,
         lim.slots,
         c,
         2,
         document,
-        id,
+        id.0,
     ) {
         return Answer::Done {
             st,
@@ -80,12 +81,11 @@ pub fn extern_proto<'a>(
             place: 0,
         };
     }
-    let Found::At(at) = source::extern_proto(root, library, dir, work, slot, ExternProtoId(id))
-    else {
+    let Found::At(at) = source::extern_proto(root, library, dir, work, slot, id) else {
         return Answer::Refused {
             number: 4,
             first: document,
-            second: id,
+            second: id.0,
         };
     };
     let sheet = rows::select(root, library, document);
@@ -94,6 +94,7 @@ pub fn extern_proto<'a>(
         return refine::too_many();
     }
     let out = st.externs as u32;
+    let row = at as u32;
     journal::enter(
         work,
         lim.rows * 12,
@@ -102,9 +103,9 @@ pub fn extern_proto<'a>(
         Record {
             tag: 2,
             a: document,
-            b: id,
+            b: id.0,
             c: out,
-            d: at as u32,
+            d: row,
             e: slot,
             f: 0,
             g: 0,
@@ -115,11 +116,13 @@ pub fn extern_proto<'a>(
         },
     );
     journal::paid(work, c + 1, n);
+    let externs = st.externs + 1;
+    let charges = c + 1 + n;
     let t = Counts {
         nodes: st.nodes,
         scopes: st.scopes,
-        externs: st.externs + 1,
-        charges: c + 1 + n,
+        externs,
+        charges,
     };
     Answer::Done {
         st: t,
@@ -135,8 +138,8 @@ pub fn route(work: &mut [u32], lim: Limits, st: Counts, env: Env, r: Row, h: u32
     requires { ⌜ HandleAt (now work) (st .charges) tagStatement h ⌝ }
     ensures { λ a. ⌜ Routed lim (now (work .entry)) st (env .scope) r h (now (work .exit)) a ⌝ }
 {
-    let from = refine::remap(work, lim, st, env, r.f);
-    let to = refine::remap(work, lim, st, env, r.g);
+    let from = refine::remap(work, lim, st, env, NodeId(r.f));
+    let to = refine::remap(work, lim, st, env, NodeId(r.g));
     refine::keep(
         work,
         lim,
@@ -148,8 +151,8 @@ pub fn route(work: &mut [u32], lim: Limits, st: Counts, env: Env, r: Row, h: u32
             c: r.c,
             d: r.d,
             e: r.e,
-            f: from,
-            g: to,
+            f: from.0,
+            g: to.0,
             h,
             i: 0,
             j: 0,
@@ -167,14 +170,14 @@ pub fn extern_statement<'a>(
     lim: Limits,
     st: Counts,
     slot: u32,
-    id: u32,
+    id: ExternProtoId,
     h: u32,
 ) -> Answer
     requires { ⌜ Standing lim (now work) st ⌝ }
     requires { ⌜ Lent lim (now root) (now library) (now dir) (now work) ⌝ }
     requires { ⌜ Slot (now dir) slot ⌝ }
     requires { ⌜ HandleAt (now work) (st .charges) tagStatement h ⌝ }
-    ensures { λ a. ⌜ ExternStated lim (now (root .entry)) (now (library .entry)) (now (dir .entry)) (now (work .entry)) st slot id h (now (work .exit)) a ⌝ }
+    ensures { λ a. ⌜ ExternStated lim (now (root .entry)) (now (library .entry)) (now (dir .entry)) (now (work .entry)) st slot (id .0) h (now (work .exit)) a ⌝ }
 {
     let a = extern_proto(root, library, dir, work, lim, st, slot, id);
     let Answer::Done {
@@ -229,7 +232,8 @@ fn statement<'a>(
         return route(work, lim, st, env, r, h);
     }
     if r.a == 2 {
-        return extern_statement(root, library, dir, work, lim, st, env.slot, r.b, h);
+        let id = ExternProtoId(r.b);
+        return extern_statement(root, library, dir, work, lim, st, env.slot, id, h);
     }
     Answer::Done {
         st,
@@ -305,7 +309,7 @@ fn field_kept(work: &[u32], lim: Limits, st: Counts, env: Env, r: Row) -> bool
     if !env.body {
         return true;
     }
-    let journal::Found::At(_) = refine::value_of(work, lim, st, env.values, r.c) else {
+    let journal::Newest::At(_) = refine::value_of(work, lim, st, env.values, r.c) else {
         return false;
     };
     true

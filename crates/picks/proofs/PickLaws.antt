@@ -46,7 +46,7 @@ module _ (R : List Row) (s : Source) (fragment : ℕ) where
     from-nothing e base = rw (ne-eqb _ _ n, sym is, e)
 
     -- a file with one
-    pub from-proto : (id : ProtoId) {row : ℕ} → x ≡ top.At (id .0) row → Leads R s fragment (Proto (s .number) id)
+    pub from-proto : (id : ProtoId) {row : ℕ} → x ≡ top.At id row → Leads R s fragment (Proto (s .number) id)
     from-proto id e base = rw (ne-eqb _ _ n, sym is, e)
 
 -- ---- the urls of an extern

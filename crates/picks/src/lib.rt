@@ -65,7 +65,7 @@ fn pick_from(library: &[u32], source: Source, fragment: u32, memo: Memo, slots: 
     };
     let chosen = Chosen::Proto {
         document: number,
-        id: ProtoId(id),
+        id,
     };
     Led { chosen, memo }
 }

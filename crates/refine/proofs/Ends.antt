@@ -8,8 +8,8 @@ use borrow.Author.Tests.{ne-eqb}
 use Rattle.ast.specs.Choice.{andThen}
 use Rattle.sheet.specs.Parse.{optional}
 use Rattle.expansion.specs.State.{lookup}
-use Rattle.journal.specs.declared.Found.{Found}
-use Rattle.journal.specs.declared.Found.the-variants.{At, Nothing}
+use Rattle.journal.specs.declared.Newest.{Newest}
+use Rattle.journal.specs.declared.Newest.the-variants.{At, Nothing}
 use Rattle.journal.specs.Records.{tagNode, cell}
 use Rattle.journal.specs.Owned.{tagged}
 use Rattle.journal.proofs.Lists.{count-low}
@@ -22,7 +22,7 @@ use Rattle.refine.specs.Contract.{Looked, EndOf}
 pub end-none : (w : List ℕ) (c scope id : ℕ) → id ≡ 4294967295 → EndOf w c scope id 4294967295
 end-none w c scope id e = rw e
 
-module _ (L : Limits) (w : List ℕ) (t : Counts) (scope id : ℕ) (st : Standing L w t) (ne : id ≡ 4294967295 → ⊥) (f : Found) (k : Looked w (t .charges) scope id f) where
+module _ (L : Limits) (w : List ℕ) (t : Counts) (scope id : ℕ) (st : Standing L w t) (ne : id ≡ 4294967295 → ⊥) (f : Newest) (k : Looked w (t .charges) scope id f) where
   same : andThen (optional id) (lookup (mapOf w (t .charges)) scope) ≡ lookup (mapOf w (t .charges)) scope id
   same = rw (ne-eqb id 4294967295 ne)
 

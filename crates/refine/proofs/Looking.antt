@@ -4,8 +4,8 @@ use mathlib.Core.Bool.{true}
 use mathlib.Core.List.{List}
 use Prim.Native.Nat.{ℕ, _<_}
 use native.Mathlib.Omega.{arith}
-use Rattle.journal.specs.declared.Found.{Found}
-use Rattle.journal.specs.declared.Found.the-variants.{At}
+use Rattle.journal.specs.declared.Newest.{Newest}
+use Rattle.journal.specs.declared.Newest.the-variants.{At}
 use Rattle.journal.specs.Records.{tagMap}
 use Rattle.journal.specs.Index.{hit, newest, foundOf}
 use Rattle.journal.proofs.Keys.{hit-is}
@@ -20,7 +20,7 @@ use Rattle.refine.specs.Contract.{Looked}
 use Rattle.refine.proofs.Later.{env-scope}
 
 module _ {L : Limits} {w : List ℕ} {t : Counts} (so : Sound L w t) (e : code.Env) (env : EnvAt w (t .charges) e) where
-  pub look-law : (id : ℕ) (f : Found) → foundOf f ≡ newest w tagMap (e .place) id (t .charges) → Looked w (t .charges) (e .scope) id f
+  pub look-law : (id : ℕ) (f : Newest) → foundOf f ≡ newest w tagMap (e .place) id (t .charges) → Looked w (t .charges) (e .scope) id f
   look-law id f q = record {
     same = map-lookup w (t .charges) (e .scope) (e .place) (so .fair) (so .owned) (env-scope env) id ∙ rw (← q);
     node = λ r z. node-at-more (omega (arith, is r z .0)) (so .fair .each r (is r z .0) .mapped (hit-is w tagMap (e .place) id r (is r z .1) .tag) .copy);

@@ -11,8 +11,8 @@ use borrow.Author.Tests.{eqb-true, eqb-false, eq-eqb, ne-eqb}
 use Rattle.ast.specs.Ast.{FieldValue}
 use Rattle.ast.specs.Choice.{choose, orElse, mapO}
 use Rattle.expansion.specs.Values.{valueOf}
-use Rattle.journal.specs.declared.Found.{Found}
-use Rattle.journal.specs.declared.Found.the-variants.{At, Nothing}
+use Rattle.journal.specs.declared.Newest.{Newest}
+use Rattle.journal.specs.declared.Newest.the-variants.{At, Nothing}
 use Rattle.journal.specs.Records.{tagId, tagStored, cell}
 use Rattle.journal.specs.Logs.{lastOf, newestOf}
 use Rattle.journal.specs.Index.{hit, newest, foundOf, Findable}
@@ -159,7 +159,7 @@ module _ {L : Limits} {w : List ℕ} {t : Counts} (st : Standing L w t) where
             let y : suc (cur - 1) ≡ cur = omega arith in
             ap (λ (n : ℕ). valueOf name (valuesAt w n)) (sym (z ∙ y)) ∙ family name f cur low (s .handle .low) start
 
-        pub search-found : (x : Found) → foundOf x ≡ newest w tagStored f name cur → {r : ℕ} → x ≡ At r → Valued w h name x
+        pub search-found : (x : Newest) → foundOf x ≡ newest w tagStored f name cur → {r : ℕ} → x ≡ At r → Valued w h name x
         search-found x ex {r} e =
             let q : newest w tagStored f name cur ≡ some r = sym ex ∙ rw e in
             let i = newest-is (hit w tagStored f name) cur r q in
@@ -172,7 +172,7 @@ module _ {L : Limits} {w : List ℕ} {t : Counts} (st : Standing L w t) where
           pub search-less : next < cur
           search-less = omega (arith, en, ap (λ (k : ℕ). cell w k 8) eg, b .low, low)
 
-          pub search-past : (x : Found) → foundOf x ≡ newest w tagStored f name cur → x ≡ Nothing → Searching w (t .charges) h name next
+          pub search-past : (x : Newest) → foundOf x ≡ newest w tagStored f name cur → x ≡ Nothing → Searching w (t .charges) h name next
           search-past x ex e =
               let q : newest w tagStored f name cur ≡ none = sym ex ∙ rw e in
               rw (en, eg) (on (cell w f 8) (omega (arith, b .low, low)) (handle-more (omega (arith, low, s .handle .low)) b) (split ∙ rw q))

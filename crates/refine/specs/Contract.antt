@@ -12,8 +12,8 @@ use Rattle.expansion.specs.Values.{valueOf, clone}
 use Rattle.expansion.specs.PlainCopy.{reserve, associate}
 use Rattle.expansion.specs.Instances.{openScope, addEntry}
 use Rattle.journal.specs.declared.Record.{Record}
-use Rattle.journal.specs.declared.Found.{Found}
-use Rattle.journal.specs.declared.Found.the-variants.{At}
+use Rattle.journal.specs.declared.Newest.{Newest}
+use Rattle.journal.specs.declared.Newest.the-variants.{At}
 use Rattle.journal.specs.Records.{tagMap, tagNode, tagId, tagOrder, tagStored, tagScope, tagAssociation, cell, Pushed}
 use Rattle.journal.specs.Index.{foundOf}
 use Rattle.journal.specs.Owned.{OwnedTag, Appended}
@@ -122,7 +122,7 @@ pub record Opened (L : Limits) (w : List ℕ) (t : Counts) (kind document proto 
   pub done : IfDone (λ t′ v p. OpenedAt w t kind document proto index opener w′ t′ v p) a
 
 -- ---- the copy of a source id
-pub record Looked (w : List ℕ) (c scope id : ℕ) (f : Found) : Type 0 where
+pub record Looked (w : List ℕ) (c scope id : ℕ) (f : Newest) : Type 0 where
   pub same : lookup (mapOf w c) scope id ≡ mapO (λ r. cell w r 3) (foundOf f)
   pub node : (r : ℕ) → f ≡ At r → NodeAt w c (cell w r 3) (cell w r 4)
   pub low : (r : ℕ) → f ≡ At r → r < c
@@ -143,7 +143,7 @@ pub record Fillable (w : List ℕ) (place : ℕ) : Type 0 where
 -- ---- values
 
 -- the stored value of a name
-pub record Valued (w : List ℕ) (h name : ℕ) (f : Found) : Type 0 where
+pub record Valued (w : List ℕ) (h name : ℕ) (f : Newest) : Type 0 where
   pub same : valueOf name (valuesAt w h) ≡ mapO (valueRec w) (foundOf f)
   pub stored : (r : ℕ) → f ≡ At r → cell w r 0 ≡ tagStored
   pub low : (r : ℕ) → f ≡ At r → r < h

@@ -1,6 +1,8 @@
 // What an expansion keeps by value, and the steps that write one record of the journal.
+use ast::NodeId;
+use ast::ProtoId;
 use journal;
-use journal::Found;
+use journal::Newest;
 use journal::Record;
 use words::wide;
 ghost use mathlib.Core.Path.{_≡_};
@@ -168,14 +170,14 @@ pub fn map(
     lim: Limits,
     st: Counts,
     env: Env,
-    id: u32,
-    out: u32,
+    id: NodeId,
+    out: NodeId,
     place: u32,
 ) -> Answer
     requires { ⌜ Standing lim (now work) st ⌝ }
     requires { ⌜ EnvAt (now work) (st .charges) env ⌝ }
-    requires { ⌜ NodeAt (now work) (st .charges) out place ⌝ }
-    ensures { λ a. ⌜ Mapped lim (now (work .entry)) st (env .scope) id out place (now (work .exit)) a ⌝ }
+    requires { ⌜ NodeAt (now work) (st .charges) (out .0) place ⌝ }
+    ensures { λ a. ⌜ Mapped lim (now (work .entry)) st (env .scope) (id .0) (out .0) place (now (work .exit)) a ⌝ }
 {
     let at = st.charges;
     if lim.rows <= at {
@@ -189,8 +191,8 @@ pub fn map(
         Record {
             tag: 1,
             a: env.place as u32,
-            b: id,
-            c: out,
+            b: id.0,
+            c: out.0,
             d: place,
             e: env.scope,
             f: 0,
@@ -203,16 +205,16 @@ pub fn map(
     );
     Answer::Done {
         st: charged(st, 1),
-        value: out,
+        value: out.0,
         place,
     }
 }
 
 // A new node, blank, and its map entry: its id, and its record's place with one added.
-pub fn reserve(work: &mut [u32], lim: Limits, st: Counts, env: Env, id: u32) -> Answer
+pub fn reserve(work: &mut [u32], lim: Limits, st: Counts, env: Env, id: NodeId) -> Answer
     requires { ⌜ Standing lim (now work) st ⌝ }
     requires { ⌜ EnvAt (now work) (st .charges) env ⌝ }
-    ensures { λ a. ⌜ Reserved lim (now (work .entry)) st env id (now (work .exit)) a ⌝ }
+    ensures { λ a. ⌜ Reserved lim (now (work .entry)) st env (id .0) (now (work .exit)) a ⌝ }
 {
     let c = st.charges;
     let new = st.nodes;
@@ -232,7 +234,7 @@ pub fn reserve(work: &mut [u32], lim: Limits, st: Counts, env: Env, id: u32) -> 
         Record {
             tag: 3,
             a: env.scope,
-            b: id,
+            b: id.0,
             c: 0,
             d: NONE,
             e: 0,
@@ -253,7 +255,7 @@ pub fn reserve(work: &mut [u32], lim: Limits, st: Counts, env: Env, id: u32) -> 
         Record {
             tag: 1,
             a: env.place as u32,
-            b: id,
+            b: id.0,
             c: new,
             d: place,
             e: env.scope,
@@ -285,12 +287,12 @@ pub fn open(
     st: Counts,
     kind: u32,
     document: u32,
-    proto: u32,
+    proto: ProtoId,
     index: u32,
     opener: u32,
 ) -> Answer
     requires { ⌜ Standing lim (now work) st ⌝ }
-    ensures { λ a. ⌜ Opened lim (now (work .entry)) st kind document proto index opener (now (work .exit)) a ⌝ }
+    ensures { λ a. ⌜ Opened lim (now (work .entry)) st kind document (proto .0) index opener (now (work .exit)) a ⌝ }
 {
     let c = st.charges;
     if lim.rows <= c {
@@ -304,7 +306,7 @@ pub fn open(
             tag: 10,
             a: kind,
             b: document,
-            c: proto,
+            c: proto.0,
             d: index,
             e: opener,
             f: n,
@@ -329,10 +331,10 @@ pub fn open(
 }
 
 // The map entry of a source id in a scope: word 3 is its copy, word 4 the copy's place.
-pub fn look(work: &[u32], lim: Limits, st: Counts, env: Env, id: u32) -> Found
+pub fn look(work: &[u32], lim: Limits, st: Counts, env: Env, id: NodeId) -> Newest
     requires { ⌜ Standing lim (now work) st ⌝ }
     requires { ⌜ EnvAt (now work) (st .charges) env ⌝ }
-    ensures { λ f. ⌜ Looked (now (work .entry)) (st .charges) (env .scope) id f ⌝ }
+    ensures { λ f. ⌜ Looked (now (work .entry)) (st .charges) (env .scope) (id .0) f ⌝ }
 {
     journal::find(
         work,
@@ -341,23 +343,23 @@ pub fn look(work: &[u32], lim: Limits, st: Counts, env: Env, id: u32) -> Found
         st.charges,
         1,
         env.place as u32,
-        id,
+        id.0,
     )
 }
 
-// A route's end: its copy in the scope, or none.
-pub fn remap(work: &[u32], lim: Limits, st: Counts, env: Env, id: u32) -> u32
+// A route's end: its copy in the scope, or none. The word NONE is none.
+pub fn remap(work: &[u32], lim: Limits, st: Counts, env: Env, id: NodeId) -> NodeId
     requires { ⌜ Standing lim (now work) st ⌝ }
     requires { ⌜ EnvAt (now work) (st .charges) env ⌝ }
-    ensures { λ o. ⌜ EndOf (now (work .entry)) (st .charges) (env .scope) id o ⌝ }
+    ensures { λ o. ⌜ EndOf (now (work .entry)) (st .charges) (env .scope) (id .0) (o .0) ⌝ }
 {
-    if id == NONE {
-        return NONE;
+    if id.0 == NONE {
+        return NodeId(NONE);
     }
-    let Found::At(r) = look(work, lim, st, env, id) else {
-        return NONE;
+    let Newest::At(r) = look(work, lim, st, env, id) else {
+        return NodeId(NONE);
     };
-    journal::word(work, r, 3)
+    NodeId(journal::word(work, r, 3))
 }
 
 // The contents of the node whose record is before `place`.
@@ -402,7 +404,7 @@ pub fn fill(
 }
 
 // The stored value of a name, newest first: one by one for the first few, then family by family.
-pub fn value_of(work: &[u32], lim: Limits, st: Counts, values: u32, name: u32) -> Found
+pub fn value_of(work: &[u32], lim: Limits, st: Counts, values: u32, name: u32) -> Newest
     requires { ⌜ Standing lim (now work) st ⌝ }
     requires { ⌜ HandleAt (now work) (st .charges) tagStored values ⌝ }
     ensures { λ f. ⌜ Valued (now (work .entry)) values name f ⌝ }
@@ -411,11 +413,11 @@ pub fn value_of(work: &[u32], lim: Limits, st: Counts, values: u32, name: u32) -
     let mut few: usize = 8;
     while 0 < few {
         if cur == 0 {
-            return Found::Nothing;
+            return Newest::Nothing;
         }
         let r = cur - 1;
         if journal::word(work, r, 2) == name {
-            return Found::At(r);
+            return Newest::At(r);
         }
         cur = wide(journal::word(work, r, 8));
         few -= 1;
@@ -423,12 +425,12 @@ pub fn value_of(work: &[u32], lim: Limits, st: Counts, values: u32, name: u32) -
     while 0 < cur {
         let f = journal::word(work, cur - 1, 1);
         let x = journal::find_below(work, lim.rows * 12, lim.slots, st.charges, cur, 9, f, name);
-        let Found::Nothing = x else {
+        let Newest::Nothing = x else {
             return x;
         };
         cur = wide(journal::word(work, wide(f), 8));
     }
-    Found::Nothing
+    Newest::Nothing
 }
 
 // How many ids a list has.

@@ -20,7 +20,7 @@ use Rattle.ast.specs.Lists.{flat}
 use Rattle.sheet.specs.Print.{row}
 use Rattle.shape.proofs.Numbers.{between}
 use Rattle.shape.proofs.ShapeLaws.{shape-none}
-use Rattle.roundtrip.specs.Each.{Each}
+use Rattle.ast.specs.Each.{Each}
 use Rattle.roundtrip.proofs.Tests.{never, among, by-member, tests}
 use Rattle.roundtrip.proofs.Accepts.{bare, no-go, go-inj, go-l, go-r, Accepts}
 

@@ -22,7 +22,7 @@ use Rattle.checker.specs.Grammar.{roleOf, standsIn, comesIn, afterInner, moves,
 use Rattle.sheet.specs.Parse.{optional, idsOf, fieldOf, interfaceOf, routeOf, statementOf, bodyElementOf, associationOf, urlOf, originOf}
 use Rattle.ast.specs.Lists.{flat}
 use Rattle.sheet.specs.Print.{row, idRow, fieldRows, interfaceRows, routeRow, statementRow, bodyElementRow, associationRow, instanceRows, anyInstanceRows, nodeRows, protoRows, urlRow, externProtoRows, topRow, documentRows, fileRows, libraryRows}
-use Rattle.roundtrip.specs.Each.{Each}
+use Rattle.ast.specs.Each.{Each}
 use Rattle.roundtrip.specs.Ranges.{IsPresent}
 use Rattle.roundtrip.proofs.Tests.{never, tests}
 use Rattle.roundtrip.proofs.Back.{owes, empty, field-back, iface-back, stmt-back, route-back, mark-back, node-back, assoc-back, url-back, name-back, top-back, zero-b, zero-e}

@@ -16,7 +16,7 @@ use Rattle.sheet.specs.Rows.{none#, front, rest}
 use Rattle.sheet.specs.Parse.{elements, optional, idsOf, valueOf, fieldOf, interfaceOf, routeOf, statementOf, bodyElementOf, originOf, associationOf, instanceOf, fieldsOf, interfacesOf, statementsOf, nodeOf, protoOf, urlOf, externProtoOf, afterTop, documentOf, fileOf, filesOf}
 use Rattle.ast.specs.Lists.{flat}
 use Rattle.sheet.specs.Print.{row, orNone, idRow, class, amount, dataRows, bindingRows, fieldRows, defaultRows, interfaceRows, routeRow, statementRow, bodyElementRow, associationRow, instanceRows, anyInstanceRows, nodeRow, nodeRows, protoRows, urlRow, externProtoRows, topRow, documentRows, fileRows, libraryRows}
-use Rattle.roundtrip.specs.Each.{Each}
+use Rattle.ast.specs.Each.{Each}
 use Rattle.roundtrip.specs.Ranges.{IsPresent, InterfaceInRange, RouteInRange, StatementInRange, InstanceInRange, AnyInstanceInRange, NodeInRange, ProtoInRange, UrlInRange, ExternInterfaceInRange, ExternProtoInRange, InRange, FileInRange}
 use Rattle.roundtrip.proofs.Tests.{or-i}
 use Rattle.roundtrip.proofs.Steps.{Sure, all}

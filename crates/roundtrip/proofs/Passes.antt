@@ -17,7 +17,7 @@ use Rattle.ast.specs.Choice.{choose}
 use Rattle.shape.specs.Shape.{shapeFits}
 use Rattle.checker.specs.Grammar.{staysExpanded, allowed, goIf, fits}
 use Rattle.ast.specs.Lists.{flat}
-use Rattle.roundtrip.specs.Each.{Each}
+use Rattle.ast.specs.Each.{Each}
 use Rattle.roundtrip.proofs.Tests.{never}
 use Rattle.roundtrip.proofs.Accepts.{bare, no-go, go-inj, Accepts}
 

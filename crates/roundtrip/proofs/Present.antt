@@ -9,7 +9,7 @@ use Rattle.sheet.specs.declared.row.Row.{Row}
 use Rattle.ast.specs.Ast.{Statement}
 use Rattle.sheet.specs.Rows.{none#, front}
 use Rattle.sheet.specs.Parse.{optional, routeOf, statementOf}
-use Rattle.roundtrip.specs.Each.{Each}
+use Rattle.ast.specs.Each.{Each}
 use Rattle.roundtrip.specs.Ranges.{IsPresent}
 use Rattle.roundtrip.proofs.Steps.{routeAsks, StatementGiven}
 

@@ -13,9 +13,9 @@ use Rattle.sheet.specs.Rows.{rows, words}
 use Rattle.checker.specs.Grammar.{checked}
 use Rattle.sheet.specs.Parse.{documentOf, filesOf}
 use Rattle.sheet.specs.Print.{documentRows, libraryRows}
-use Rattle.roundtrip.specs.Each.{Each}
+use Rattle.ast.specs.Each.{Each}
 use Rattle.roundtrip.specs.Ranges.{InRange, FileInRange}
-use Rattle.roundtrip.specs.Expanded.{IsExpanded}
+use Rattle.ast.specs.Expanded.{IsExpanded}
 use Rattle.roundtrip.proofs.Walk.{document-passes, library-passes}
 use Rattle.roundtrip.proofs.Sheets.{fits-if, document-read, library-read}
 use Rattle.roundtrip.proofs.Parsed.{document-parsed, library-parsed}

@@ -10,7 +10,7 @@ use Rattle.sheet.specs.declared.row.Row.{Row}
 use Rattle.sheet.specs.declared.part.Part.{Part}
 use Rattle.sheet.specs.Parse.{kindOf, passes, elements}
 use Rattle.ast.specs.Lists.{flat}
-use Rattle.roundtrip.specs.Each.{Each}
+use Rattle.ast.specs.Each.{Each}
 use Rattle.roundtrip.proofs.Tests.{and-i, or-i, among, every, every-at}
 
 -- ---- kinds of rows

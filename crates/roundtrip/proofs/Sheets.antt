@@ -13,9 +13,9 @@ use Rattle.ast.specs.Choice.{choose}
 use Rattle.checker.specs.Grammar.{isLibrary, hasEnded, checked}
 use Rattle.sheet.specs.Parse.{documentOf, filesOf}
 use Rattle.sheet.specs.Print.{documentRows, libraryRows}
-use Rattle.roundtrip.specs.Each.{Each}
+use Rattle.ast.specs.Each.{Each}
 use Rattle.roundtrip.specs.Ranges.{InRange, FileInRange}
-use Rattle.roundtrip.specs.Expanded.{IsExpanded}
+use Rattle.ast.specs.Expanded.{IsExpanded}
 use Rattle.roundtrip.proofs.Accepts.{bare, accepts, accepted}
 use Rattle.roundtrip.proofs.Passes.{Only, Asks, Span, Within, Passes}
 use Rattle.roundtrip.proofs.Walk.{document-passes, library-passes}

@@ -21,9 +21,9 @@ use Rattle.sheet.specs.Rows.{none#}
 use Rattle.shape.specs.Shape.{isName, hasValue, zeroFromE, shapeFits}
 use Rattle.checker.specs.Grammar.{roleOf, moves, standsIn, comesIn, afterInner, fits, opened}
 use Rattle.sheet.specs.Print.{row, orNone, idRow, class, amount, dataRows, routeRow, statementRow, bodyElementRow, nodeRow, associationRow, urlRow, topRow}
-use Rattle.roundtrip.specs.Each.{Each}
+use Rattle.ast.specs.Each.{Each}
 use Rattle.roundtrip.specs.Ranges.{IsName, IsPresent, DataInRange, RouteInRange, StatementInRange, AssociationInRange, OriginInRange, UrlInRange}
-use Rattle.roundtrip.specs.Expanded.{TopKept, InnerKept, OriginKept}
+use Rattle.ast.specs.Expanded.{TopKept, InnerKept, OriginKept}
 use Rattle.roundtrip.proofs.Tests.{never, and-i, or-e, or-l, tests}
 use Rattle.roundtrip.proofs.Accepts.{at, bare}
 use Rattle.roundtrip.proofs.Passes.{Asks, nothing, Keeps, GoesOn, Through, through, refused, instead, counted, stay, each}

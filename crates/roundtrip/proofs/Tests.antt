@@ -8,7 +8,7 @@ use native.Mathlib.Omega.{arith}
 use lib.Dec.{eqb}
 use borrow.Author.Tests.{eqb-true, leb-true, ltb-true}
 use Rattle.ast.proofs.Basics.{and-l, and-r}
-use Rattle.roundtrip.specs.Each.{Each}
+use Rattle.ast.specs.Each.{Each}
 
 -- false is not true
 pub never : {A : Type 0} → false ≡ true → A

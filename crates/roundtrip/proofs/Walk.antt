@@ -12,9 +12,9 @@ use Rattle.checker.specs.declared.grammar.Form.{Form}
 use Rattle.checker.specs.declared.grammar.Form.the-variants.{Library}
 use Rattle.ast.specs.Ast.{FieldValue, FieldBinding, Field, InterfaceDecl, Statement, ProtoInstance, Node, ProtoDecl, ExternProtoDecl, Document, File}
 use Rattle.sheet.specs.Print.{row, orNone, fieldRows, bindingRows, interfaceRows, defaultRows, statementRow, bodyElementRow, instanceRows, anyInstanceRows, nodeRows, protoRows, urlRow, externProtoRows, documentRows, fileRows, libraryRows}
-use Rattle.roundtrip.specs.Each.{Each}
+use Rattle.ast.specs.Each.{Each}
 use Rattle.roundtrip.specs.Ranges.{IsName, IsPresent, BindingInRange, FieldInRange, DefaultInRange, InterfaceInRange, AnyInstanceInRange, NodeInRange, ProtoInRange, ExternInterfaceInRange, ExternProtoInRange, InRange, FileInRange}
-use Rattle.roundtrip.specs.Expanded.{TopKept, InnerKept, InterfaceKept, NodeKept, IsExpanded}
+use Rattle.ast.specs.Expanded.{TopKept, InnerKept, InterfaceKept, NodeKept, IsExpanded}
 use Rattle.roundtrip.proofs.Accepts.{bare}
 use Rattle.roundtrip.proofs.Passes.{Asks, nothing, each, stay, Through, follow, instead, Passes, span, then, asking, listed, mapped, within}
 use Rattle.roundtrip.proofs.Steps.{Sure, Takes, all, routeAsks, ids, routes, associations, data-rows, value-step, is-step, bare-interface-step, interface-step, extern-value, StatementGiven, statementAsks, statement-step, inner-kept, top-kept, order-step, urlAsks, url-step, instance-step, node-step, proto-step, extern-step, top-step, document-step, file-step}

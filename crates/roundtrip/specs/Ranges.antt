@@ -5,7 +5,7 @@ use mathlib.Core.Option.{Option, none, some}
 use Prim.Native.Nat.{ℕ, _≤_, _<_}
 use Rattle.ast.specs.Ast.{FieldData, FieldValue, FieldBinding, Field, InterfaceDecl, Route, Statement, NodeOrigin, Association, ProtoInstance, Node, ProtoDecl, Url, ExternProtoDecl, Document, File}
 use Rattle.sheet.specs.Rows.{none#}
-use Rattle.roundtrip.specs.Each.{Each}
+use Rattle.ast.specs.Each.{Each}
 
 -- "names and ids are below" the number of none
 abbrev pub IsName : ℕ → Type 0

@@ -32,7 +32,7 @@ use Rattle.source.proofs.SourcedLaws.{sourced-kept}
 -- ---- a target in two words
 
 module _ (w : List ℕ) (at : ℕ) where
-  pub kept-of : (s p : ℕ) → at + 1 < length w → (targetAt (set (set w at (s + 1)) (at + 1) p) at ≡ Of s p) × Outside at (at + 2) w (set (set w at (s + 1)) (at + 1) p)
+  pub kept-of : (s p : ℕ) → at + 1 < length w → (targetAt (set (set w at (s + 1)) (at + 1) p) at ≡ Of s (record { 0 = p })) × Outside at (at + 2) w (set (set w at (s + 1)) (at + 1) p)
   kept-of s p h =
       let w₁ = set w at (s + 1) in
       let a : getD (set w₁ (at + 1) p) at 0 ≡ s + 1 = getD-set-other w₁ (at + 1) at p 0 (λ z. omega arith) ∙ getD-set-same w at (s + 1) 0 (omega arith) in

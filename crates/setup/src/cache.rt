@@ -1,4 +1,5 @@
 // The cache of the picks of the root's externs.
+use ast::ExternProtoId;
 use directory;
 use source::instance;
 use source::instance::Target;
@@ -20,7 +21,7 @@ fn keep(x: Target, work: &mut [u32], at: usize)
     match x {
         Target::Of { slot, proto } => {
             work[at] = slot + 1;
-            work[at + 1] = proto;
+            work[at + 1] = proto.0;
         }
         Target::Plain => work[at] = 0,
     }
@@ -38,7 +39,7 @@ pub fn remember<'a>(root: &'a [u32], library: &'a [u32], dir: &mut [u32], work: 
     let mut at = wide(dir[196]) + 2 * wide(i);
     let mut memo = memo::fresh(&mut work[..from]);
     while at + 2 <= end {
-        let Found::At(row) = instance::root_extern(root, library, dir, work, i) else {
+        let Found::At(row) = instance::root_extern(root, library, dir, work, ExternProtoId(i)) else {
             return;
         };
         let aimed = instance::pick_row(root, row, library, dir, table, memo, &mut work[..from]);

@@ -22,7 +22,7 @@ pub target-missing : (root library dir : List ℕ) (id : ℕ) {x : Found} → Lo
 target-missing root library dir id l e = record { is = pick-missing (rows root) (rows library) id l e; valid = tt }
 
 module _ (D : Document) (F : List File) (dir : List ℕ) (s : ℕ) (h : Slot dir s) (id : ℕ) where
-  pub instance-proto : (origin : ℕ) → origin ≡ 1 → Targeted dir (instanceIn D F (numberOf dir s) (originFrom origin id)) (Of s id)
+  pub instance-proto : (origin : ℕ) → origin ≡ 1 → Targeted dir (instanceIn D F (numberOf dir s) (originFrom origin id)) (Of s (record { 0 = id }))
   unfolding instanceIn
   instance-proto origin e = record { is = rw e; valid = h }
 

@@ -135,7 +135,7 @@ module _ {root library dir : List ℕ} (d : Directory root library dir) {t : Tab
   pub target-none : y .chosen ≡ Nothing → Targeted dir wanted Plain
   target-none e = record { is = sym (ap pickOf e) ∙ pick-is; valid = tt }
 
-  pub target-proto : (document : ℕ) (p : ProtoId) (s : ℕ) → y .chosen ≡ Proto document p → SlotFor dir document s → Targeted dir wanted (Of s (p .0))
+  pub target-proto : (document : ℕ) (p : ProtoId) (s : ℕ) → y .chosen ≡ Proto document p → SlotFor dir document s → Targeted dir wanted (Of s p)
   target-proto document p s h f =
       let F = filesOf (rows library) in
       let e : wanted ≡ some (record { document = document; proto = p .0 }) = sym pick-is ∙ ap pickOf h in

@@ -32,7 +32,7 @@ instanceIn root library d NodeOrigin.Unknown = none
 -- a target's slot stands for its document
 abbrev pub targetOf : List ℕ → Target → Option Pick
 targetOf dir Plain = none
-targetOf dir (Of s p) = some (record { document = numberOf dir s; proto = p })
+targetOf dir (Of s p) = some (record { document = numberOf dir s; proto = p .0 })
 
 abbrev pub SlotOf : List ℕ → Target → Type 0
 SlotOf dir Plain = Unit {0}
@@ -45,7 +45,7 @@ pub record Targeted (dir : List ℕ) (wanted : Option Pick) (x : Target) : Type 
 
 -- a target in two words: its slot + 1, or 0 for a plain node, and the PROTO's id
 abbrev pub targetAt : List ℕ → ℕ → Target
-targetAt w p = choose (eqb (getD w p 0) 0) Plain (Of (getD w p 0 - 1) (getD w (p + 1) 0))
+targetAt w p = choose (eqb (getD w p 0) 0) Plain (Of (getD w p 0 - 1) (record { 0 = getD w (p + 1) 0 }))
 
 abbrev pub Small : Target → Type 0
 Small Plain = Unit {0}

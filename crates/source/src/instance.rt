@@ -1,5 +1,7 @@
 // The prototype that a node is an instance of, and the cache of the picks of the root's externs.
 use super::group;
+use ast::ExternProtoId;
+use ast::ProtoId;
 use directory;
 use memo::Memo;
 use picks::Chosen;
@@ -22,7 +24,7 @@ ghost use Rattle.source.specs.Sourced.{Sourced};
 // A plain node, or an instance of a PROTO of a slot's document.
 pub enum Target {
     Plain,
-    Of { slot: u32, proto: u32 },
+    Of { slot: u32, proto: ProtoId },
 }
 
 // The pick of an extern beside the memo of the library's files.
@@ -55,7 +57,7 @@ pub fn pick_row<'a>(
         };
     };
     let slot = directory::slot_of(dir, document);
-    let target = Target::Of { slot, proto: id.0 };
+    let target = Target::Of { slot, proto: id };
     Aimed { target, memo }
 }
 
@@ -65,12 +67,12 @@ pub fn root_extern<'a>(
     library: &'a [u32],
     dir: &[u32],
     work: &[u32],
-    id: u32,
+    id: ExternProtoId,
 ) -> Found
     requires { ⌜ Sourced (now root) (now library) (now dir) (now work) ⌝ }
-    ensures { λ x. ⌜ Looked externProtoOf (documentAt (rows (now (root .entry))) 0 .externProtos) (rows (now (root .entry))) id x ⌝ }
+    ensures { λ x. ⌜ Looked externProtoOf (documentAt (rows (now (root .entry))) 0 .externProtos) (rows (now (root .entry))) (id .0) x ⌝ }
 {
-    group::locate(root, library, dir, work, 0, 2, id)
+    group::locate(root, library, dir, work, 0, 2, id.0)
 }
 
 // The target that stands in two words: its slot + 1, or 0 for a plain node, and the PROTO's id.
@@ -84,17 +86,24 @@ fn kept(work: &[u32], at: usize) -> Target
     }
     Target::Of {
         slot: word - 1,
-        proto: work[at + 1],
+        proto: ProtoId(work[at + 1]),
     }
 }
 
 // The pick of an extern of the root.
-pub fn picked<'a>(root: &'a [u32], library: &'a [u32], dir: &[u32], work: &[u32], id: u32) -> Target
+pub fn picked<'a>(
+    root: &'a [u32],
+    library: &'a [u32],
+    dir: &[u32],
+    work: &[u32],
+    id: ExternProtoId,
+) -> Target
     requires { ⌜ Sourced (now root) (now library) (now dir) (now work) ⌝ }
-    ensures { λ x. ⌜ Targeted (now (dir .entry)) (pickAt (documentOf (rows (now (root .entry)))) (filesOf (rows (now (library .entry)))) id) x ⌝ }
+    ensures { λ x. ⌜ Targeted (now (dir .entry)) (pickAt (documentOf (rows (now (root .entry)))) (filesOf (rows (now (library .entry)))) (id .0)) x ⌝ }
 {
-    if id < dir[197] {
-        return kept(work, wide(dir[196]) + 2 * wide(id));
+    let n = id.0;
+    if n < dir[197] {
+        return kept(work, wide(dir[196]) + 2 * wide(n));
     }
     let Found::At(row) = root_extern(root, library, dir, work, id) else {
         return Target::Plain;

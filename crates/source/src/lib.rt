@@ -81,11 +81,14 @@ pub fn target<'a>(
     ensures { λ x. ⌜ Targeted (now (dir .entry)) (instanceIn (documentOf (rows (now (root .entry)))) (filesOf (rows (now (library .entry)))) (numberOf (now (dir .entry)) slot) (originFrom origin id)) x ⌝ }
 {
     if origin == 1 {
-        return Target::Of { slot, proto: id };
+        return Target::Of {
+            slot,
+            proto: ProtoId(id),
+        };
     }
     if origin == 2 {
         if slot == 0 {
-            return instance::picked(root, library, dir, work, id);
+            return instance::picked(root, library, dir, work, ExternProtoId(id));
         }
     }
     Target::Plain

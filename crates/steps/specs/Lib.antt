@@ -1,9 +1,11 @@
 pub mod Lists
 pub mod Steps
+pub mod Places
 pub mod Sums
 pub mod ListLaws
 pub mod Laws
 pub mod Unique
+pub mod Depth
 pub mod Gain
 pub mod Exact
 pub mod Defaults

@@ -1,4 +1,7 @@
 // The top statements of the root, each over the expander's copy.
+use ast::ExternProtoId;
+use ast::NodeId;
+use ast::ProtoId;
 use journal;
 use journal::Record;
 use refine::Answer;
@@ -38,7 +41,8 @@ fn top_statement<'a>(
 {
     let r = row::row_at(root, row);
     if r.a == 0 {
-        let a = expander::copy(root, library, dir, work, lim, st, env, r.b, depth);
+        let id = NodeId(r.b);
+        let a = expander::copy(root, library, dir, work, lim, st, env, id, depth);
         let Answer::Done {
             st: s,
             value: o,
@@ -75,7 +79,8 @@ fn top_statement<'a>(
         };
     }
     if r.a == 2 {
-        return parts::extern_statement(root, library, dir, work, lim, st, 0, r.b, h);
+        let id = ExternProtoId(r.b);
+        return parts::extern_statement(root, library, dir, work, lim, st, 0, id, h);
     }
     if r.a == 3 {
         return parts::route(work, lim, st, env, r, h);
@@ -123,7 +128,7 @@ pub fn top<'a>(
         externs: 0,
         charges: 2,
     };
-    let a = refine::open(work, lim, start, 0, 0, 0, 0, 0);
+    let a = refine::open(work, lim, start, 0, 0, ProtoId(0), 0, 0);
     let Answer::Done {
         st,
         value: n,

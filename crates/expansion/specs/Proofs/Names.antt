@@ -36,7 +36,7 @@ abbrev Out : {A : Type 0} → (A → State → Type 0) → Result A → Type 0
 Out P m = Outcome Any P m
 
 -- Nothing is said of the answer.
-anything : {A : Type 0} (m : Result A) → Out (λ a s. Unit {0}) m
+pub anything : {A : Type 0} (m : Result A) → Out (λ a s. Unit {0}) m
 anything (refusal c d i) = refused tt
 anything (ok a s) = accepted tt
 

@@ -29,11 +29,6 @@ module _ {R : ℕ → ℕ → ℕ → Type 0} where
   ofRefusal : {A : Type 0} {P : A → State → Type 0} {c d i : ℕ} → Outcome R P (refusal c d i) → R c d i
   ofRefusal (refused r) = r
 
-  -- Two things hold of an answer.
-  pub both : {A : Type 0} {Q P : A → State → Type 0} (m : Result A) → Outcome R Q m → Outcome R P m → Outcome R (λ a s. Q a s × P a s) m
-  both (refusal c d i) (refused r) k = refused r
-  both (ok a s) h k = accepted (ofOk h, ofOk k)
-
   -- What holds of an answer for each x.
   pub each : {A B : Type 0} {P : B → A → State → Type 0} (m : Result A) → B → ((x : B) → Outcome R (P x) m) → Outcome R (λ a s. (x : B) → P x a s) m
   each (refusal c d i) x h = refused (ofRefusal (h x))
@@ -45,3 +40,20 @@ module _ {R : ℕ → ℕ → ℕ → Type 0} where
 
   pub atRefusal : {A : Type 0} {P : A → State → Type 0} {m : Result A} {c d i : ℕ} → Outcome R P m → m ≡ refusal c d i → R c d i
   atRefusal h e = ofRefusal (rw e at h)
+
+module _ {R T : ℕ → ℕ → ℕ → Type 0} where
+  -- One step, then the next; what is said of the first step's refusals is said in other words.
+  pub thenOut : {A B : Type 0} {Q : A → State → Type 0} {P : B → State → Type 0} {m : Result A} {k : A → Comp B} → Outcome R Q m → ((c d i : ℕ) → R c d i → T c d i) → ((a : A) (s : State) → Q a s → Outcome T P (k a s)) → Outcome T P (bindR m k)
+  unfolding bindR
+  thenOut (refused r) t f = refused (t _ _ _ r)
+  thenOut (accepted h) t f = f _ _ h
+
+  -- What follows of a refusal and of an answer holds of them.
+  pub turnOut : {A : Type 0} {Q P : A → State → Type 0} {m : Result A} → Outcome R Q m → ((c d i : ℕ) → R c d i → T c d i) → ((a : A) (s : State) → Q a s → P a s) → Outcome T P m
+  turnOut (refused r) t f = refused (t _ _ _ r)
+  turnOut (accepted h) t f = accepted (f _ _ h)
+
+  -- Two things hold of an answer, the first of a refusal.
+  pub both : {A : Type 0} {Q P : A → State → Type 0} (m : Result A) → Outcome R Q m → Outcome T P m → Outcome R (λ a s. Q a s × P a s) m
+  both (refusal c d i) (refused r) k = refused r
+  both (ok a s) h k = accepted (ofOk h, ofOk k)

@@ -11,6 +11,7 @@ use lib.ListN.{length, getElem?, set, length-append, length-set}
 use lib.Dec.{T, ltb, eqb, ltb→lt}
 use Rattle.ast.specs.Ast.{NodeOrigin, FieldData, FieldValue, FieldBinding, Field, InterfaceDecl, Route, Statement, Association, ProtoInstance, Node, ProtoDecl, ExternProtoDecl}
 use Rattle.ast.specs.Choice.{choose, andThen, mapO}
+use Rattle.ast.specs.Expanded.{OriginKept, InterfaceKept}
 use Rattle.ast.specs.Lookups.{protoAt, externProtoAt}
 use Rattle.picks.specs.Picks.{Pick}
 use Rattle.expansion.specs.Input.{Input, docs, protoOf, lastField}
@@ -24,7 +25,6 @@ use Rattle.expansion.specs.PlainCopy.{blank, addNode, reserveIf, reserve
 use Rattle.expansion.specs.Instances.{pushScope, openScope, takeDefault, cloneOr, interfaceValue, store, values, Body, place, bodyStatement, rootOf, associationsOf, nestedRoots, nestedRoutes, withInstance, update, recordInstance, instantiate}
 use Rattle.expansion.specs.Copy.{copyNode, mappedOr, copy}
 use Rattle.expansion.specs.Expand.{statement, rootEnv, statements}
-use Rattle.expansion.specs.Expanded.{ClassZero}
 use Rattle.expansion.specs.Proofs.Outcome.{Outcome, refused, accepted, Any, bindOut, mapOut, atOk}
 
 abbrev Out : {A : Type 0} → (A → State → Type 0) → Result A → Type 0
@@ -75,18 +75,11 @@ NodeStatement n (Statement.ExternProto x) = Unit {0}
 NodeStatement n (Statement.Route r) = RouteBelow n r
 NodeStatement n (Statement.Other p) = ⊥
 
--- no origin Proto
-abbrev pub NotProto : NodeOrigin → Type 0
-NotProto NodeOrigin.Builtin = Unit {0}
-NotProto (NodeOrigin.Proto p) = ⊥
-NotProto (NodeOrigin.ExternProto x) = Unit {0}
-NotProto NodeOrigin.Unknown = Unit {0}
-
 -- a node of an output with n nodes
 pub record OutputNode (n : ℕ) (x : Node) : Type 0 where
-  pub origin : NotProto (x .origin)
+  pub origin : OriginKept (x .origin)
   pub fields : (f : Field) → List·Memᴰ f (x .fields) → IdsBelow n (bindingIds (f .binding))
-  pub interface : (d : InterfaceDecl) → List·Memᴰ d (x .interface) → IdsBelow n (optionIds (d .value)) × ClassZero d
+  pub interface : (d : InterfaceDecl) → List·Memᴰ d (x .interface) → IdsBelow n (optionIds (d .value)) × InterfaceKept d
   pub statements : (s : Statement) → List·Memᴰ s (x .statements) → NodeStatement n s
   pub instance : (r : ProtoInstance) → x .instance ≡ some r → InstanceBelow n r
 
@@ -117,7 +110,7 @@ instance-up {x = x} h y = record { extraRoots = ids-up (x .extraRoots) h (y .ext
 
 -- an interface of an output with n nodes
 InterfaceOk : ℕ → InterfaceDecl → Type 0
-InterfaceOk n d = IdsBelow n (optionIds (d .value)) × ClassZero d
+InterfaceOk n d = IdsBelow n (optionIds (d .value)) × InterfaceKept d
 
 interface-up : (n m : ℕ) (d : InterfaceDecl) → n ≤ m → InterfaceOk n d → InterfaceOk m d
 unfolding InterfaceOk
@@ -400,7 +393,7 @@ module _ (I : Input) where
 
   -- ---- plain nodes: what each step answers is in order
 
-  copyOrigin-good : (m : ℕ) (env : Env) (o : NodeOrigin) → NotProto o → Good I m (λ n o′. NotProto o′) (copyOrigin I env o)
+  copyOrigin-good : (m : ℕ) (env : Env) (o : NodeOrigin) → OriginKept o → Good I m (λ n o′. OriginKept o′) (copyOrigin I env o)
   unfolding copyOrigin
   copyOrigin-good m env NodeOrigin.Builtin h = good-ret (λ n q. tt)
   copyOrigin-good m env (NodeOrigin.Proto p) h = absurd h
@@ -468,7 +461,7 @@ module _ (I : Input) where
   copyStatement-good m env (Statement.Route r) = copyRoute-good NodeStatement nodeStatement-up (λ n r′ h. h) m env r
   copyStatement-good m env (Statement.Other p) = good-ret (λ n h. tt)
 
-  contents-good : (c : Copier) (m : ℕ) → ((i n : ℕ) → m ≤ n → Good I n Below (c i)) → (env : Env) → EnvOk m env → (new : ℕ) → new < m → (node : Node) → NotProto (node .origin) → Good I m OutputNode (contents I c env new node)
+  contents-good : (c : Copier) (m : ℕ) → ((i n : ℕ) → m ≤ n → Good I n Below (c i)) → (env : Env) → EnvOk m env → (new : ℕ) → new < m → (node : Node) → OriginKept (node .origin) → Good I m OutputNode (contents I c env new node)
   unfolding contents InterfaceOk
   contents-good c m hc env he new lt node np =
       good-bind (copyOrigin-good m env (node .origin) np) (λ og n1 h1 p1.
@@ -545,7 +538,7 @@ module _ (I : Input) where
   abbrev Goods : (Env → Copier) → Type 0
   Goods f = (env : Env) (m : ℕ) → EnvOk m env → (i : ℕ) → Good I m Below (f env i)
 
-  copyPlain-good : (f : Env → Copier) → Goods f → (env : Env) (m : ℕ) → EnvOk m env → (i : ℕ) (node : Node) → NotProto (node .origin) → Good I m Below (copyPlain I (f env) env i node)
+  copyPlain-good : (f : Env → Copier) → Goods f → (env : Env) (m : ℕ) → EnvOk m env → (i : ℕ) (node : Node) → OriginKept (node .origin) → Good I m Below (copyPlain I (f env) env i node)
   unfolding copyPlain
   copyPlain-good f hf env m he i node np =
       good-bind (reserve-good m env i) (λ new n1 h1 p1. good-bind (contents-good (f env) n1 (λ j n q. hf env n (env-up m n env (le-trans h1 q) he) j) env (env-up m n1 env h1 he) new p1 node np)
@@ -686,7 +679,7 @@ module _ (I : Input) where
   -- ---- the copier
 
   -- A plain node is of no origin Proto.
-  not-proto : (d : ℕ) (o : NodeOrigin) → protoOf I d o ≡ none → NotProto o
+  not-proto : (d : ℕ) (o : NodeOrigin) → protoOf I d o ≡ none → OriginKept o
   unfolding protoOf
   not-proto d NodeOrigin.Builtin e = tt
   not-proto d (NodeOrigin.Proto p) e = let z : _≡_ {A = ℕ} 0 1 = cc in omega arith

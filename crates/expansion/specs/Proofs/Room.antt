@@ -8,7 +8,7 @@ use Rattle.expansion.specs.State.{State, Result}
 use Rattle.expansion.specs.Expand.{Answer}
 use Rattle.expansion.specs.Room.{Entries, expandIn, NeverFull}
 use Rattle.expansion.specs.Bigger.{Bigger}
-use Rattle.expansion.specs.Proofs.Demand.{refusals, at-most-10}
+use Rattle.expansion.specs.Proofs.Demand.{refusals, numbered}
 use Rattle.expansion.specs.Proofs.Runs.{Short, eight, nine, ten, Run, same, refuses, goesOn, stops, Answers, both, first, open-steps, answersIn}
 
 none-short : {A : Type 0} {L : Limits} {c d i : ℕ} → Short L L c d i → A
@@ -39,4 +39,4 @@ never-full words I entries = record {
 
 -- "Support has searched for a scene that gives 11 and found none."
 pub never-11 : (words : ℕ) (I : Input) → Entries words (I .limits) → (d i : ℕ) → expandIn words I ≡ Answer.Refused 11 d i → ⊥
-never-11 words I entries d i e = absurd (omega (arith, at-most-10 (refusals I 11 d i (sym (never-full words I entries .whole) ∙ e))))
+never-11 words I entries d i e = absurd (omega (arith, numbered (refusals I 11 d i (sym (never-full words I entries .whole) ∙ e)) .1))

@@ -25,11 +25,20 @@ use Rattle.expansion.specs.Instances.{pushScope, openScope, takeDefault,
 use Rattle.expansion.specs.Copy.{copyNode, mappedOr, copy}
 use Rattle.expansion.specs.Expand.{statement, rootEnv, statements}
 use Rattle.expansion.specs.Outputs.{sumOf, fieldRows, interfaceRows, instanceRows, contentRows, nodeRows, externRows}
-use Rattle.expansion.specs.Expanded.{Refusal, four, five, six, seven, eight, nine, ten}
 use Rattle.expansion.specs.Proofs.Outcome.{Outcome, refused, accepted, bindOut, mapOut}
 
+-- the numbers of the steps' refusals; where there is no place, 0 and 0
+pub data Numbered : ℕ → ℕ → ℕ → Type 0 where
+  four : (d i : ℕ) → Numbered 4 d i
+  five : (d i : ℕ) → Numbered 5 d i
+  six : (d i : ℕ) → Numbered 6 d i
+  seven : (d i : ℕ) → Numbered 7 d i
+  eight : Numbered 8 0 0
+  nine : Numbered 9 0 0
+  ten : Numbered 10 0 0
+
 abbrev Out : {A : Type 0} → (A → State → Type 0) → Result A → Type 0
-Out P m = Outcome Refusal P m
+Out P m = Outcome Numbered P m
 
 -- ---- sums
 
@@ -38,7 +47,7 @@ oneIf true = 1
 oneIf false = 0
 
 -- A sum over two lists behind one another.
-sum-append : {A : Type 0} (g : A → ℕ) (l r : List A) → sumOf g (l ++ r) ≡ sumOf g l + sumOf g r
+pub sum-append : {A : Type 0} (g : A → ℕ) (l r : List A) → sumOf g (l ++ r) ≡ sumOf g l + sumOf g r
 sum-append g [] r = omega arith
 sum-append g (x ∷ l) r = omega (arith, sum-append g l r)
 
@@ -55,7 +64,7 @@ set-at (a ∷ l) zero y x e = let q : a ≡ y = cc in omega (arith, ap contentRo
 set-at (a ∷ l) (suc i) y x e = omega (arith, set-at l i y x e)
 
 -- An interface without a value is one row.
-valueless-rows : (l : List InterfaceDecl) → sumOf interfaceRows (map noValue l) ≡ length l
+pub valueless-rows : (l : List InterfaceDecl) → sumOf interfaceRows (map noValue l) ≡ length l
 valueless-rows [] = refl
 valueless-rows (d ∷ l) = omega (arith, valueless-rows l)
 
@@ -64,23 +73,23 @@ blank-rows : contentRows blank ≡ 0
 unfolding contentRows
 blank-rows = refl
 
-abbrev optionRow : {A : Type 0} → Option A → ℕ
+abbrev pub optionRow : {A : Type 0} → Option A → ℕ
 optionRow none = 0
 optionRow (some a) = 1
 
-abbrev optionField : Option Field → ℕ
+abbrev pub optionField : Option Field → ℕ
 optionField none = 0
 optionField (some f) = fieldRows f
 
 -- The rows of the fields that are kept.
-somes-fields : (l : List (Option Field)) → sumOf fieldRows (somes l) ≡ sumOf optionField l
+pub somes-fields : (l : List (Option Field)) → sumOf fieldRows (somes l) ≡ sumOf optionField l
 unfolding somes
 somes-fields [] = refl
 somes-fields (none ∷ l) = omega (arith, somes-fields l)
 somes-fields (some x ∷ l) = omega (arith, somes-fields l)
 
 -- The rows of the statements that are kept.
-somes-rows : {A : Type 0} (l : List (Option A)) → length (somes l) ≡ sumOf optionRow l
+pub somes-rows : {A : Type 0} (l : List (Option A)) → length (somes l) ≡ sumOf optionRow l
 unfolding somes
 somes-rows [] = refl
 somes-rows (none ∷ l) = omega (arith, somes-rows l)
@@ -521,7 +530,7 @@ module _ (I : Input) where
   start-books = record { below = λ x q. absurd (List·Memᴰ·not-nil q); capped = omega arith; covers = omega arith }
 
   -- The charges of an accepted expansion pay for its nodes, externs, scopes, statements, and two rows more; a refusal is one of 4 to 10.
-  pub statements-cov : Outcome Refusal (Covered I) (statements I start)
+  pub statements-cov : Outcome Numbered (Covered I) (statements I start)
   unfolding statements
   statements-cov =
       bindOut (charge-cov 0 nobody 0 start (omega arith) (λ s r. refl) start-books) (λ a s1 h1. bindOut (charge-cov 0 nobody 1 s1 (omega arith) (λ s r. refl) (h1 .books)) (λ b s2 h2. bindOut (openScope-books nobody 2 Scope.Root s2 (λ s r. refl) (h2 .books))

@@ -143,7 +143,7 @@ module _ (root : Document) (library : List File) (L L′ : Limits) (le : Bigger 
       go : (b b′ : Bool) → (T b → st .charges < L .maxRows) → (st .charges < L .maxRows → T b) → (T b′ → st .charges < L′ .maxRows) → (st .charges < L′ .maxRows → T b′) → Run L L′ st (chargeIf b st) (chargeIf b′ st)
       go true true t f t′ f′ = same one
       go true false t f t′ f′ = absurd (f′ (omega (arith, t tt, le .maxRows)))
-      go false true t f t′ f′ = goesOn (ten (omega (arith, f, t′ tt))) one (omega (arith, f))
+      go false true t f t′ f′ = goesOn (ten (omega (arith, f, t′ tt))) one (omega (arith, f, t′ tt))
       go false false t f t′ f′ = refuses
 
   -- a node is added
@@ -159,7 +159,7 @@ module _ (root : Document) (library : List File) (L L′ : Limits) (le : Bigger 
       go true false t f t′ f′ = absurd (f′ (omega (arith, t tt, le .maxNodes)))
       go false true t f t′ f′ =
           let short : L .maxNodes < L′ .maxNodes = omega (arith, f, t′ tt) in
-          cut (eight short) (charge-steps st h) (λ u s1 g1. cut (eight short) (charge-steps s1 (g1 .sound)) (λ v s2 g2. goesOn (eight short) (added (env .scope) i s2 (g2 .sound)) (omega (arith, f, g1 .nodes, g2 .nodes, length-append (s2 .nodes) (blank ∷ [])))))
+          cut (eight short) (charge-steps st h) (λ u s1 g1. cut (eight short) (charge-steps s1 (g1 .sound)) (λ v s2 g2. goesOn (eight short) (added (env .scope) i s2 (g2 .sound)) (omega (arith, f, t′ tt, g1 .nodes, g2 .nodes, length-append (s2 .nodes) (blank ∷ [])))))
       go false false t f t′ f′ = refuses
 
   -- no more scopes than charges, and one more charge is made: so there is room
@@ -180,7 +180,7 @@ module _ (root : Document) (library : List File) (L L′ : Limits) (le : Bigger 
       go : (b b′ : Bool) → (T b → st .charges < L .maxRows) → (st .charges < L .maxRows → T b) → (T b′ → st .charges < L′ .maxRows) → (st .charges < L′ .maxRows → T b′) → Run L L′ st ((chargeIf b >>= (λ u. pushIn words e)) st) ((chargeIf b′ >>= (λ u. pushScope e)) st)
       go true true t f t′ f′ = push (leb (5 * suc (length (st .world .scopes))) words) (le→leb (5 * suc (length (st .world .scopes))) words (omega (arith, t tt, h, entries)))
       go true false t f t′ f′ = absurd (f′ (omega (arith, t tt, le .maxRows)))
-      go false true t f t′ f′ = goesOn (ten (omega (arith, f, t′ tt))) one (omega (arith, f))
+      go false true t f t′ f′ = goesOn (ten (omega (arith, f, t′ tt))) one (omega (arith, f, t′ tt))
       go false false t f t′ f′ = refuses
 
   -- ---- one line for each function

@@ -1,140 +1,43 @@
--- Every accepted call of the definition is a run of the steps.
+-- Every accepted call of the definition is a run of the steps, and every refused one a run up to the place of the refusal.
 use mathlib.Core.Path.{_≡_, refl, ap, sym, _∙_, subst}
-use mathlib.Core.List.{List, [], _∷_, _++_, map, append-assoc, List·Memᴰ, List·Memᴰ·head, List·Memᴰ·tail, List·Memᴰ·cases-cons, List·Memᴰ·not-nil}
+use mathlib.Core.List.{List, [], _∷_, _++_, map, append-assoc, List·Memᴰ, List·Memᴰ·head, List·Memᴰ·tail, List·Memᴰ·cases-cons, List·Memᴰ·not-nil, Memᴰ·cast, Memᴰ·append-right}
 use mathlib.Core.Logic.{_⊎_, inl, inr}
 use mathlib.Core.Option.{Option, none, some}
 use mathlib.Core.Bool.{Bool, true, false, _&&_}
-use Prim.Native.Nat.{ℕ, zero, suc, _+_}
+use Prim.Native.Nat.{ℕ, zero, suc, _+_, _≤_, _<_}
 use native.Mathlib.Omega.{arith}
-use lib.ListN.{length, getElem?, length-append, length-map}
-use lib.Dec.{T, ltb, eqb, eqb→eq, eqb-refl}
+use lib.ListN.{length, getElem?, set, length-append, length-map, length-set}
+use lib.Dec.{T, ltb, eqb, ltb→lt, lt→ltb, eqb→eq, eqb-refl}
 use Rattle.ast.proofs.Basics.{map-append}
-use Rattle.ast.specs.Ast.{NodeOrigin, FieldData, FieldValue, FieldBinding, Field, InterfaceDecl, Route, Statement, Association, Node, ProtoDecl, ExternProtoDecl}
+use Rattle.ast.specs.Ast.{NodeOrigin, FieldData, FieldValue, FieldBinding, Field, InterfaceDecl, Route, Statement, Association, ProtoInstance, Node, ProtoDecl, ExternProtoDecl}
 use Rattle.ast.specs.Choice.{choose, andThen}
-use Rattle.ast.specs.Lookups.{externProtoAt}
+use Rattle.ast.specs.Lookups.{nodeAt, externProtoAt}
 use Rattle.picks.specs.Picks.{Pick}
-use Rattle.steps.specs.Steps.{instanceNode, Action, copyId, addMapped, addPlain, addDefault, addBody, Mapped, Task, one, all, Run, mappedStep, plainStep, instanceStep, noAction, thenCopy, thenDefault, WholeRun}
-use Rattle.steps.specs.Laws.{append-run}
+use Rattle.steps.specs.Steps.{instanceNode, Action, copyId, addMapped, addPlain, addDefault, addBody, Mapped, Task, one, all, Run, firstWorld, WholeRun}
+use Rattle.steps.specs.Depth.{Within, mappedWithin, plainWithin, instanceWithin, noWithin, copyWithin, defaultWithin, within-run, append-within}
+use Rattle.steps.specs.Places.{Comes, here, inPlain, inValues, inRoot, inOthers, inCopy, afterCopy, inDefault, afterDefault, comes-left, comes-right}
 use Rattle.steps.specs.Steps
 use Rattle.expansion.specs.Input.{Input, docs, protoOf, lastField}
 use Rattle.expansion.specs.Scopes.{Scope}
 use Rattle.ast.specs.Lists.{flat}
 use Rattle.expansion.specs.Ids.{dataIds, optionIds, bindingIds, statementIds}
-use Rattle.expansion.specs.State.{Entry, World, State, Result, Comp, bindR, _>>=_, _>>_, ret, mapM, foldM, lookup, start}
+use Rattle.expansion.specs.State.{Entry, World, State, Result, refusal, ok, Comp, bindR, _>>=_, _>>_, ret, mapM, foldM, lookup, start}
 use Rattle.expansion.specs.Charges.{chargeIf, charge, chargeEach, paid}
 use Rattle.expansion.specs.Values.{Values, valueOf, Env, src, Copier, copyData, value, clone}
-use Rattle.expansion.specs.Externs.{lookupExtern, declare, externProto}
-use Rattle.expansion.specs.PlainCopy.{reserveIf, reserve, copyOrigin, associate, isValue, isField, copyBinding, copyField, isInterface, copyTarget, copyInterface, copyRoute, copyExtern, copyStatement, contents, copyPlain}
-use Rattle.expansion.specs.Instances.{pushScope, openScope, takeDefault, cloneOr, interfaceValue, store, values, Body, place, bodyStatement, rootOf, recordInstance, instantiate}
+use Rattle.expansion.specs.Externs.{lookupExtern, pushExtern, declare, externProto}
+use Rattle.expansion.specs.PlainCopy.{blank, reserveIf, reserve, copyOrigin, associate, isValue, isField, copyBinding, copyField, isInterface, copyTarget, copyInterface, remapRoute, copyRoute, copyExtern, copyStatement, contents, copyPlain}
+use Rattle.expansion.specs.Instances.{pushScope, openScope, takeDefault, cloneOr, interfaceValue, store, values, Body, place, bodyStatement, rootOf, associationsOf, withInstance, update, recordInstance, instantiate}
 use Rattle.expansion.specs.Copy.{copyNode, mappedOr, copy}
 use Rattle.expansion.specs.Expand.{statement, rootEnv, statements}
 use Rattle.expansion.specs.Reached.{Known, entryOf, bodyIds, defaultIds, declOf, interfaceIds, plainNexts, gives, isSome, nameIfValued, bodyNames, bodyScope, defaultScope, kindBy, kindOf, defaultAction, valueActions, interfaceActions, instanceActions, actionsBy, actionsOf, nodeIn, graph}
-use Rattle.expansion.specs.Proofs.Outcome.{Outcome, refused, accepted, Any, bindOut, mapOut, both}
+use Rattle.expansion.specs.Expanded.{documentIn, PlainAt, InstanceAt, Fault, fourOrigin, fourStatement, fourBody, six, seven, eight, Refusal, atTop, nowhere, tooDeep, atNode}
+use Rattle.expansion.specs.Proofs.Outcome.{Outcome, refused, accepted, Any, bindOut, mapOut, thenOut, turnOut, both}
 use Rattle.expansion.specs.Proofs.Names.{Shows, known, none-shown, values-shown}
-
-abbrev Out : {A : Type 0} → (A → State → Type 0) → Result A → Type 0
-Out P m = Outcome Any P m
-
--- ---- what leaves the world as it is: each step that opens no scope, maps nothing and lists nothing
-
--- the world is the same after the step
-abbrev Keep : {A : Type 0} → Comp A → Type 0
-Keep c = (st : State) → Out (λ a st′. st′ .world ≡ st .world) (c st)
-
-keep-ret : {A : Type 0} (a : A) → Keep (ret a)
-keep-ret a st = accepted refl
-
--- Two steps that keep the world keep it.
-keep-bind : {A B : Type 0} {c : Comp A} {k : A → Comp B} → Keep c → ((a : A) → Keep (k a)) → Keep (c >>= k)
-keep-bind h f st = bindOut (h st) (λ a s e. mapOut (f a s) (λ b s′ e′. e′ ∙ e))
-
-charge-keep : (I : Input) → Keep (charge I)
-unfolding charge chargeIf
-charge-keep I st = go (ltb (st .charges) (I .limits .maxRows))
-  where
-    go : (b : Bool) → Out (λ a st′. st′ .world ≡ st .world) (chargeIf b st)
-    go true = accepted refl
-    go false = refused tt
-
-chargeEach-keep : {A : Type 0} (I : Input) (l : List A) → Keep (chargeEach I l)
-unfolding chargeEach
-chargeEach-keep I [] = keep-ret tt
-chargeEach-keep I (x ∷ l) = keep-bind (charge-keep I) (λ a. chargeEach-keep I l)
-
-paid-keep : {A : Type 0} (I : Input) {m : Comp A} → Keep m → Keep (paid I m)
-unfolding paid
-paid-keep I h = keep-bind h (λ a. keep-bind (charge-keep I) (λ u. keep-ret a))
-
-clone-keep : (I : Input) (v : FieldValue) → Keep (clone I v)
-unfolding clone
-clone-keep I v = keep-bind (chargeEach-keep I (dataIds (v .«data»))) (λ a. keep-ret v)
-
-associate-keep : (I : Input) (env : Env) (a : Association) → Keep (associate I env a)
-unfolding associate
-associate-keep I env a = keep-bind (charge-keep I) (λ u st. accepted refl)
-
-externProto-keep : (I : Input) (env : Env) (x : ℕ) → Keep (externProto I env x)
-unfolding externProto declare
-externProto-keep I env x st = go (lookupExtern (st .externMap) (src env) x) (externProtoAt (docs I) (src env) x) st
-  where
-    go : (o : Option ℕ) (decl : Option ExternProtoDecl) → Keep (declare I (src env) x o decl)
-    go (some n) decl = keep-ret n
-    go none none = λ s. refused tt
-    go none (some decl) = keep-bind (charge-keep I) (λ a. keep-bind (chargeEach-keep I (decl .interface)) (λ b. keep-bind (chargeEach-keep I (decl .urls)) (λ c s. accepted refl)))
-
-copyOrigin-keep : (I : Input) (env : Env) (o : NodeOrigin) → Keep (copyOrigin I env o)
-unfolding copyOrigin
-copyOrigin-keep I env NodeOrigin.Builtin = keep-ret _
-copyOrigin-keep I env (NodeOrigin.Proto p) = keep-ret _
-copyOrigin-keep I env (NodeOrigin.ExternProto x) = keep-bind (externProto-keep I env x) (λ n. keep-ret _)
-copyOrigin-keep I env NodeOrigin.Unknown = keep-ret _
-
-isField-keep : (I : Input) (f : Field) (o : Option (Option FieldValue)) → Keep (isField I f o)
-unfolding isField
-isField-keep I f none = paid-keep I (keep-ret _)
-isField-keep I f (some none) = keep-ret none
-isField-keep I f (some (some v)) = keep-bind (paid-keep I (clone-keep I v)) (λ a. keep-ret _)
-
-isInterface-keep : (I : Input) (d : InterfaceDecl) (target : ℕ) (o : Option (Option FieldValue)) → Keep (isInterface I d target o)
-unfolding isInterface
-isInterface-keep I d target none = keep-ret _
-isInterface-keep I d target (some none) = keep-ret _
-isInterface-keep I d target (some (some v)) = keep-bind (clone-keep I v) (λ a. keep-ret _)
-
-copyRoute-keep : (I : Input) (env : Env) (r : Route) → Keep (copyRoute I env r)
-unfolding copyRoute
-copyRoute-keep I env r = paid-keep I (λ st. accepted refl)
-
-copyExtern-keep : (I : Input) (env : Env) (x : ℕ) → Keep (copyExtern I env x)
-unfolding copyExtern
-copyExtern-keep I env x = keep-bind (paid-keep I (externProto-keep I env x)) (λ n. keep-ret _)
-
-copyStatement-keep : (I : Input) (env : Env) (s : Statement) → Keep (copyStatement I env s)
-unfolding copyStatement
-copyStatement-keep I env (Statement.Node i) = keep-ret none
-copyStatement-keep I env (Statement.Proto p) = keep-ret none
-copyStatement-keep I env (Statement.ExternProto x) = copyExtern-keep I env x
-copyStatement-keep I env (Statement.Route r) = copyRoute-keep I env r
-copyStatement-keep I env (Statement.Other p) = keep-ret none
-
-mapM-keep : {A B : Type 0} (g : A → Comp B) → ((a : A) → Keep (g a)) → (l : List A) → Keep (mapM g l)
-unfolding mapM
-mapM-keep g h [] = keep-ret []
-mapM-keep g h (a ∷ l) = keep-bind (h a) (λ b. keep-bind (mapM-keep g h l) (λ bs. keep-ret (b ∷ bs)))
-
-store-keep : (I : Input) (name : ℕ) (vs : Values) (v : Option FieldValue) → Keep (store I name vs v)
-unfolding store
-store-keep I name vs none = keep-ret vs
-store-keep I name vs (some v) = paid-keep I (keep-ret _)
-
-recordInstance-keep : (name : ℕ) (defName : Option ℕ) (n : ℕ) (b : Body) (o : ℕ) → Keep (recordInstance name defName n b o)
-unfolding recordInstance
-recordInstance-keep name defName n b o st = accepted refl
 
 -- ---- the world that the steps see
 
 -- what the steps see of a map entry
-abbrev key : Entry → ℕ × ℕ
+abbrev pub key : Entry → ℕ × ℕ
 key e = (e .scope, e .id)
 
 -- what no state holds: the instances that opened a body scope, and what is known of each scope
@@ -145,17 +48,6 @@ pub record Unseen : Type 0 where
 abbrev pub see : Unseen → World → Steps.World Known
 see g w = record { mapped = map key (w .map); ledger = w .ledger; openers = g .openers; scopes = g .scopes }
 
--- the state has the entries of the scopes
-abbrev pub Fits : Unseen → World → Type 0
-Fits g w = map entryOf (g .scopes) ≡ w .scopes
-
-fits-from : (g : Unseen) {u v : World} → v ≡ u → Fits g u → Fits g v
-fits-from g q h = h ∙ ap (λ (w : World). w .scopes) (sym q)
-
--- They are as many.
-count-is : (g : Unseen) (w : World) → Fits g w → length (w .scopes) ≡ length (g .scopes)
-count-is g w h = ap length (sym h) ∙ length-map (g .scopes) entryOf
-
 -- a scope more
 abbrev withScope : Known → Unseen → Unseen
 withScope s g = record { openers = g .openers; scopes = g .scopes ++ (s ∷ []) }
@@ -164,7 +56,7 @@ abbrev withOpener : ℕ → ℕ → Unseen → Unseen
 withOpener n i g = record { openers = (n, i) ∷ g .openers; scopes = g .scopes }
 
 -- An id that is found is mapped.
-lookup-here : (m : List Entry) (s i o : ℕ) → lookup m s i ≡ some o → List·Memᴰ (s, i) (map key m)
+pub lookup-here : (m : List Entry) (s i o : ℕ) → lookup m s i ≡ some o → List·Memᴰ (s, i) (map key m)
 unfolding lookup
 lookup-here [] s i o q = absurd (let z : _≡_ {A = ℕ} 0 1 = cc in omega arith)
 lookup-here (e ∷ m) s i o q = go (eqb (e .scope) s) (eqb (e .id) i) (eqb→eq (e .scope) s) (eqb→eq (e .id) i) (lookup-here m s i o) q
@@ -176,7 +68,7 @@ lookup-here (e ∷ m) s i o q = go (eqb (e .scope) s) (eqb (e .id) i) (eqb→eq 
     go false false f g k r = List·Memᴰ·tail (k r)
 
 -- An id that is not found is not mapped.
-lookup-none : (m : List Entry) (s i : ℕ) → lookup m s i ≡ none → List·Memᴰ (s, i) (map key m) → ⊥
+pub lookup-none : (m : List Entry) (s i : ℕ) → lookup m s i ≡ none → List·Memᴰ (s, i) (map key m) → ⊥
 unfolding lookup
 lookup-none [] s i q h = List·Memᴰ·not-nil h
 lookup-none (e ∷ m) s i q h = at (lookup-none m s i) (List·Memᴰ·cases-cons h)
@@ -195,134 +87,458 @@ lookup-none (e ∷ m) s i q h = at (lookup-none m s i) (List·Memᴰ·cases-cons
     at k (inl x) = first (eqb (e .scope) s) (eqb (e .id) i) (rw (ap (λ (y : ℕ × ℕ). y .0) x) (eqb-refl (e .scope))) (rw (ap (λ (y : ℕ × ℕ). y .1) x) (eqb-refl (e .id))) q
     at k (inr x) = k (rest (eqb (e .scope) s && eqb (e .id) i) q) x
 
--- ---- runs: each step is a run of what it copies and opens
+-- the type names of a state's nodes
+abbrev pub typesOf : State → List ℕ
+typesOf st = map (λ x. x .typeName) (st .nodes)
+
+-- A node replaced by one of its type name.
+set-type : (l : List Node) (n : ℕ) (x y : Node) → getElem? l n ≡ some x → y .typeName ≡ x .typeName → map (λ z. z .typeName) (set l n y) ≡ map (λ z. z .typeName) l
+set-type [] n x y e q = refl
+set-type (a ∷ l) zero x y e q = let h : a ≡ x = cc in ap (λ (t : ℕ). t ∷ map (λ z. z .typeName) l) (q ∙ ap (λ (z : Node). z .typeName) (sym h))
+set-type (a ∷ l) (suc n) x y e q = ap (λ (r : List ℕ). a .typeName ∷ r) (set-type l n x y e q)
 
 module _ (I : Input) where
-  -- the task is run, from g on
-  record Ran (t : Task Known) (g : Unseen) (w w′ : World) : Type 0 where
-    after : Unseen
-    fits : Fits after w′
-    run : Run (graph I) t (see g w) (see after w′)
+  -- ---- externs that are declared
 
-  -- the step runs the task, whatever was opened before
-  abbrev Runs : {A : Type 0} → Task Known → Comp A → Type 0
-  Runs t c = (g : Unseen) (st : State) → Fits g (st .world) → Out (λ a st′. Ran t g (st .world) (st′ .world)) (c st)
+  -- an extern id of document d that leads somewhere
+  abbrev pub Fine : ℕ → ℕ → Type 0
+  Fine d x = externProtoAt (docs I) d x ≡ none → ⊥
+
+  -- every extern that is declared does
+  abbrev pub Valid : State → Type 0
+  Valid st = (d x n : ℕ) → lookupExtern (st .externMap) d x ≡ some n → Fine d x
+
+  some-fine : (d x : ℕ) {decl : ExternProtoDecl} → externProtoAt (docs I) d x ≡ some decl → Fine d x
+  some-fine d x p q = let z : _≡_ {A = ℕ} 0 1 = cc in omega arith
+
+  valid-push : (d x : ℕ) (decl : ExternProtoDecl) (st : State) → externProtoAt (docs I) d x ≡ some decl → Valid st → Valid (pushExtern d x decl st)
+  unfolding lookupExtern
+  valid-push d x decl st e h d′ x′ n = go (eqb d d′) (eqb x x′) (eqb→eq d d′) (eqb→eq x x′)
+    where
+      go : (a b : Bool) → (T a → d ≡ d′) → (T b → x ≡ x′) → choose (a && b) (some (length (st .externProtos))) (lookupExtern (st .externMap) d′ x′) ≡ some n → Fine d′ x′
+      go true true p q r = some-fine d′ x′ (ap (λ (y : ℕ). externProtoAt (docs I) y x′) (sym (p tt)) ∙ ap (externProtoAt (docs I) d) (sym (q tt)) ∙ e)
+      go true false p q r = h d′ x′ n r
+      go false true p q r = h d′ x′ n r
+      go false false p q r = h d′ x′ n r
+
+  -- the world is the same after the step, no node is added, each keeps its type name, and an extern that is declared is there
+  pub record Same (st st′ : State) : Type 0 where
+    pub world : st′ .world ≡ st .world
+    pub size : length (st′ .nodes) ≡ length (st .nodes)
+    pub types : typesOf st′ ≡ typesOf st
+    pub valid : Valid st → Valid st′
+
+  same-then : {a b c : State} → Same a b → Same b c → Same a c
+  same-then p q = record { world = q .world ∙ p .world; size = q .size ∙ p .size; types = q .types ∙ p .types; valid = λ h. q .valid (p .valid h) }
+
+  itself : (st : State) → Same st st
+  itself st = record { world = refl; size = refl; types = refl; valid = λ h. h }
+
+  -- ---- what leaves the world as it is: each step that opens no scope, maps nothing and lists nothing
+
+  -- what stops such a step: a charge too many, or one of the extern ids X of document d, which leads nowhere
+  pub data Short (d : ℕ) (X : ℕ → Type 0) : ℕ → ℕ → ℕ → Type 0 where
+    rows : Short d X 10 0 0
+    extern : (x : ℕ) → X x → externProtoAt (docs I) d x ≡ none → Short d X 4 d x
+
+  abbrev pub Keep : {A : Type 0} → ℕ → (ℕ → Type 0) → Comp A → Type 0
+  Keep d X c = (st : State) → Outcome (Short d X) (λ a st′. Same st st′) (c st)
+
+  module _ {d : ℕ} {X : ℕ → Type 0} where
+    pub keep-ret : {A : Type 0} (a : A) → Keep d X (ret a)
+    keep-ret a st = accepted (itself st)
+
+    -- Two steps that keep the world keep it.
+    pub keep-bind : {A B : Type 0} {c : Comp A} {k : A → Comp B} → Keep d X c → ((a : A) → Keep d X (k a)) → Keep d X (c >>= k)
+    keep-bind h f st = bindOut (h st) (λ a s e. mapOut (f a s) (λ b s′ e′. same-then e e′))
+
+    pub charge-keep : Keep d X (charge I)
+    unfolding charge chargeIf
+    charge-keep st = go (ltb (st .charges) (I .limits .maxRows))
+      where
+        go : (b : Bool) → Outcome (Short d X) (λ a st′. Same st st′) (chargeIf b st)
+        go true = accepted (record { world = refl; size = refl; types = refl; valid = λ h. h })
+        go false = refused rows
+
+    pub chargeEach-keep : {A : Type 0} (l : List A) → Keep d X (chargeEach I l)
+    unfolding chargeEach
+    chargeEach-keep [] = keep-ret tt
+    chargeEach-keep (x ∷ l) = keep-bind charge-keep (λ a. chargeEach-keep l)
+
+    pub paid-keep : {A : Type 0} {m : Comp A} → Keep d X m → Keep d X (paid I m)
+    unfolding paid
+    paid-keep h = keep-bind h (λ a. keep-bind charge-keep (λ u. keep-ret a))
+
+    pub clone-keep : (v : FieldValue) → Keep d X (clone I v)
+    unfolding clone
+    clone-keep v = keep-bind (chargeEach-keep (dataIds (v .«data»))) (λ a. keep-ret v)
+
+    pub associate-keep : (env : Env) (a : Association) → Keep d X (associate I env a)
+    unfolding associate
+    associate-keep env a = keep-bind charge-keep (λ u st. accepted (record { world = refl; size = refl; types = refl; valid = λ h. h }))
+
+    pub externProto-keep : (env : Env) → src env ≡ d → (x : ℕ) → X x → Keep d X (externProto I env x)
+    unfolding externProto declare
+    externProto-keep env q x hx st = go (lookupExtern (st .externMap) (src env) x) (externProtoAt (docs I) (src env) x) refl st
+      where
+        go : (o : Option ℕ) (decl : Option ExternProtoDecl) → externProtoAt (docs I) (src env) x ≡ decl → Keep d X (declare I (src env) x o decl)
+        go (some n) decl e = keep-ret n
+        go none none e = λ s. refused (subst (λ (y : ℕ). Short y X 4 (src env) x) q (extern x hx e))
+        go none (some decl) e = keep-bind charge-keep (λ a. keep-bind (chargeEach-keep (decl .interface)) (λ b. keep-bind (chargeEach-keep (decl .urls)) (λ c s. accepted (record { world = refl; size = refl; types = refl; valid = valid-push (src env) x decl s e }))))
+
+    pub copyOrigin-keep : (env : Env) → src env ≡ d → (o : NodeOrigin) → ((x : ℕ) → o ≡ NodeOrigin.ExternProto x → X x) → Keep d X (copyOrigin I env o)
+    unfolding copyOrigin
+    copyOrigin-keep env q NodeOrigin.Builtin h = keep-ret _
+    copyOrigin-keep env q (NodeOrigin.Proto p) h = keep-ret _
+    copyOrigin-keep env q (NodeOrigin.ExternProto x) h = keep-bind (externProto-keep env q x (h x refl)) (λ n. keep-ret _)
+    copyOrigin-keep env q NodeOrigin.Unknown h = keep-ret _
+
+    pub isField-keep : (f : Field) (o : Option (Option FieldValue)) → Keep d X (isField I f o)
+    unfolding isField
+    isField-keep f none = paid-keep (keep-ret _)
+    isField-keep f (some none) = keep-ret none
+    isField-keep f (some (some v)) = keep-bind (paid-keep (clone-keep v)) (λ a. keep-ret _)
+
+    pub isInterface-keep : (i : InterfaceDecl) (target : ℕ) (o : Option (Option FieldValue)) → Keep d X (isInterface I i target o)
+    unfolding isInterface
+    isInterface-keep i target none = keep-ret _
+    isInterface-keep i target (some none) = keep-ret _
+    isInterface-keep i target (some (some v)) = keep-bind (clone-keep v) (λ a. keep-ret _)
+
+    pub copyRoute-keep : (env : Env) (r : Route) → Keep d X (copyRoute I env r)
+    unfolding copyRoute
+    copyRoute-keep env r = paid-keep (λ st. accepted (itself st))
+
+    pub copyExtern-keep : (env : Env) → src env ≡ d → (x : ℕ) → X x → Keep d X (copyExtern I env x)
+    unfolding copyExtern
+    copyExtern-keep env q x hx = keep-bind (paid-keep (externProto-keep env q x hx)) (λ n. keep-ret _)
+
+    pub copyStatement-keep : (env : Env) → src env ≡ d → (s : Statement) → ((x : ℕ) → s ≡ Statement.ExternProto x → X x) → Keep d X (copyStatement I env s)
+    unfolding copyStatement
+    copyStatement-keep env q (Statement.Node i) h = keep-ret none
+    copyStatement-keep env q (Statement.Proto p) h = keep-ret none
+    copyStatement-keep env q (Statement.ExternProto x) h = copyExtern-keep env q x (h x refl)
+    copyStatement-keep env q (Statement.Route r) h = copyRoute-keep env r
+    copyStatement-keep env q (Statement.Other p) h = keep-ret none
+
+    pub mapM-keep : {A B : Type 0} (g : A → Comp B) (l : List A) → ((a : A) → List·Memᴰ a l → Keep d X (g a)) → Keep d X (mapM g l)
+    unfolding mapM
+    mapM-keep g [] h = keep-ret []
+    mapM-keep g (a ∷ l) h = keep-bind (h a (List·Memᴰ·head refl)) (λ b. keep-bind (mapM-keep g l (λ x m. h x (List·Memᴰ·tail m))) (λ bs. keep-ret (b ∷ bs)))
+
+    pub store-keep : (name : ℕ) (vs : Values) (v : Option FieldValue) → Keep d X (store I name vs v)
+    unfolding store
+    store-keep name vs none = keep-ret vs
+    store-keep name vs (some v) = paid-keep (keep-ret _)
+
+    pub recordInstance-keep : (name : ℕ) (defName : Option ℕ) (n : ℕ) (b : Body) (o : ℕ) → Keep d X (recordInstance name defName n b o)
+    unfolding recordInstance
+    recordInstance-keep name defName n b o st = accepted (record { world = refl; size = go (getElem? (st .nodes) o); types = kept (getElem? (st .nodes) o) refl; valid = λ h. h })
+      where
+        x : ProtoInstance
+        x = record { protoName = name; extraRoots = b .extraRoots; routes = map (remapRoute (st .world) n) (b .routes); isMap = associationsOf n (st .isMap) }
+
+        go : (y : Option Node) → length (update (st .nodes) o (withInstance defName x) y) ≡ length (st .nodes)
+        go none = refl
+        go (some y) = length-set (st .nodes) o (withInstance defName x y)
+
+        kept : (y : Option Node) → getElem? (st .nodes) o ≡ y → map (λ z. z .typeName) (update (st .nodes) o (withInstance defName x) y) ≡ typesOf st
+        kept none e = refl
+        kept (some y) e = set-type (st .nodes) o y (withInstance defName x y) e refl
+
+  -- ---- what is met in an accepted step is there
+
+  anything : {A : Type 0} (m : Result A) → Outcome Any (λ a s. Unit {0}) m
+  anything (refusal c d i) = refused tt
+  anything (ok a s) = accepted tt
+
+  extern-fine : (env : Env) (x : ℕ) (st : State) → Valid st → Outcome Any (λ a s. Fine (src env) x) (externProto I env x st)
+  unfolding externProto declare
+  extern-fine env x st h = go (lookupExtern (st .externMap) (src env) x) refl (externProtoAt (docs I) (src env) x) refl
+    where
+      go : (o : Option ℕ) → lookupExtern (st .externMap) (src env) x ≡ o → (decl : Option ExternProtoDecl) → externProtoAt (docs I) (src env) x ≡ decl → Outcome Any (λ a s. Fine (src env) x) (declare I (src env) x o decl st)
+      go (some n) q decl e = accepted (h (src env) x n q)
+      go none q none e = refused tt
+      go none q (some decl) e = bindOut (anything _) (λ a s1 u. bindOut (anything _) (λ b s2 u. bindOut (anything _) (λ c s3 u. accepted (some-fine (src env) x e))))
+
+  abbrev OriginFine : ℕ → NodeOrigin → Type 0
+  OriginFine d o = (x : ℕ) → o ≡ NodeOrigin.ExternProto x → Fine d x
+
+  origin-fine : (env : Env) (o : NodeOrigin) (st : State) → Valid st → Outcome Any (λ a s. OriginFine (src env) o) (copyOrigin I env o st)
+  unfolding copyOrigin
+  origin-fine env NodeOrigin.Builtin st h = accepted (λ x q. absurd (let z : _≡_ {A = ℕ} 0 1 = cc in omega arith))
+  origin-fine env (NodeOrigin.Proto p) st h = accepted (λ x q. absurd (let z : _≡_ {A = ℕ} 0 1 = cc in omega arith))
+  origin-fine env (NodeOrigin.ExternProto y) st h = bindOut (extern-fine env y st h) (λ n s f. accepted (λ x q. let e : y ≡ x = cc in rw (← e) f))
+  origin-fine env NodeOrigin.Unknown st h = accepted (λ x q. absurd (let z : _≡_ {A = ℕ} 0 1 = cc in omega arith))
+
+  abbrev StatementFine : ℕ → Statement → Type 0
+  StatementFine d s = (x : ℕ) → s ≡ Statement.ExternProto x → Fine d x
+
+  copyExtern-fine : (env : Env) (y : ℕ) (st : State) → Valid st → Outcome Any (λ a s. StatementFine (src env) (Statement.ExternProto y)) (copyExtern I env y st)
+  unfolding copyExtern paid
+  copyExtern-fine env y st h = bindOut (bindOut (extern-fine env y st h) (λ n s f. bindOut (anything (charge I s)) (λ u s2 v. accepted f))) (λ n s f. accepted (λ x q. let e : y ≡ x = cc in rw (← e) f))
+
+  statement-fine : (env : Env) (s : Statement) (st : State) → Valid st → Outcome Any (λ a t. StatementFine (src env) s) (copyStatement I env s st)
+  unfolding copyStatement
+  statement-fine env (Statement.Node i) st h = accepted (λ x q. absurd (let z : _≡_ {A = ℕ} 0 1 = cc in omega arith))
+  statement-fine env (Statement.Proto p) st h = accepted (λ x q. absurd (let z : _≡_ {A = ℕ} 0 1 = cc in omega arith))
+  statement-fine env (Statement.ExternProto y) st h = copyExtern-fine env y st h
+  statement-fine env (Statement.Route r) st h = mapOut (anything _) (λ a s u x q. absurd (let z : _≡_ {A = ℕ} 0 1 = cc in omega arith))
+  statement-fine env (Statement.Other p) st h = accepted (λ x q. absurd (let z : _≡_ {A = ℕ} 0 1 = cc in omega arith))
+
+  abbrev AllFine : ℕ → List Statement → Type 0
+  AllFine d l = (x : ℕ) → List·Memᴰ (Statement.ExternProto x) l → Fine d x
+
+  none-fine : (d : ℕ) → AllFine d []
+  none-fine d x m = absurd (List·Memᴰ·not-nil m)
+
+  cons-fine : (d : ℕ) {s : Statement} {l : List Statement} → StatementFine d s → AllFine d l → AllFine d (s ∷ l)
+  cons-fine d {s} {l} f g x m = at (List·Memᴰ·cases-cons m)
+    where
+      at : (Statement.ExternProto x ≡ s) ⊎ List·Memᴰ (Statement.ExternProto x) l → Fine d x
+      at (inl e) = f x (sym e)
+      at (inr h) = g x h
+
+  statements-fine : (env : Env) (l : List Statement) (st : State) → Valid st → Outcome Any (λ a t. AllFine (src env) l) (mapM (copyStatement I env) l st)
+  unfolding mapM
+  statements-fine env [] st h = accepted (none-fine (src env))
+  statements-fine env (s ∷ l) st h =
+      bindOut (both _ (statement-fine env s st h) (copyStatement-keep {d = src env} {X = λ x. Unit {0}} env refl s (λ x q. tt) st)) (λ a s1 f. bindOut (statements-fine env l s1 (f .1 .valid h)) (λ bs s2 g. accepted (cons-fine (src env) (f .0) g)))
+
+  -- ---- runs: each step is a run of what it copies and opens
+
+  -- the state has the entries of the scopes, a ledger entry to a node, and at most N nodes
+  pub record Fits (g : Unseen) (st : State) : Type 0 where
+    pub entries : map entryOf (g .scopes) ≡ st .world .scopes
+    pub listed : length (st .nodes) ≡ length (st .world .ledger)
+    pub room : length (st .nodes) ≤ I .limits .maxNodes
+    pub valid : Valid st
+
+  fits-from : (g : Unseen) {u v : State} → Same u v → Fits g u → Fits g v
+  fits-from g q h = record { entries = h .entries ∙ ap (λ (w : World). w .scopes) (sym (q .world)); listed = q .size ∙ h .listed ∙ ap (λ (w : World). length (w .ledger)) (sym (q .world)); room = rw (q .size) (h .room); valid = q .valid (h .valid) }
+
+  -- They are as many.
+  count-is : (g : Unseen) (st : State) → Fits g st → length (st .world .scopes) ≡ length (g .scopes)
+  count-is g st h = ap length (sym (h .entries)) ∙ length-map (g .scopes) entryOf
+
+  -- an extern id that stands in a node
+  abbrev pub ExternOf : Node → ℕ → Type 0
+  ExternOf node x = (node .origin ≡ NodeOrigin.ExternProto x) ⊎ List·Memᴰ (Statement.ExternProto x) (node .statements)
+
+  -- the extern ids that stand in a plain node, or in the body of an instance's PROTO, lead somewhere
+  pub record Fair (s : Known) (i : ℕ) : Type 0 where
+    pub ofPlain : (node : Node) → PlainAt I s i node → (x : ℕ) → ExternOf node x → Fine (documentIn s) x
+    pub ofInstance : (p : Pick) → InstanceAt I s i p → (decl : ProtoDecl) → declOf I p ≡ some decl → AllFine (p .document) (decl .body)
+
+  -- the task is run, from g on, with at most so many nodes open
+  record Ran (left : ℕ) (t : Task Known) (g : Unseen) (st st′ : State) : Type 0 where
+    after : Unseen
+    fits : Fits after st′
+    run : Within (graph I) Fair left t (see g (st .world)) (see after (st′ .world))
+
+  -- what stops a task that is begun in the world w, where so many nodes may still be opened: the step's own reason; an id that leads nowhere; a node that it comes to with so many open; a node at fault
+  data Stop (left d : ℕ) (X : ℕ → Type 0) (t : Task Known) (w : Steps.World Known) : ℕ → ℕ → ℕ → Type 0 where
+    own : {c f x : ℕ} → Short d X c f x → Stop left d X t w c f x
+    lost : {k m i : ℕ} {s : Known} {v : Steps.World Known} → Comes (graph I) t w k m s i v → (Mapped v m i → ⊥) → k ≤ left → nodeAt (docs I) (documentIn s) i ≡ none → Stop left d X t w 5 (documentIn s) i
+    deep : {m i : ℕ} {s : Known} {v : Steps.World Known} → Comes (graph I) t w left m s i v → (Mapped v m i → ⊥) → (node : Node) → nodeAt (docs I) (documentIn s) i ≡ some node → Stop left d X t w 9 0 0
+    fault : {c f x k m i : ℕ} {s : Known} {v : Steps.World Known} → Comes (graph I) t w k m s i v → (Mapped v m i → ⊥) → k < left → Fault I m s i v c f x → Stop left d X t w c f x
+
+  -- The task stops where a part of it does,
+  shift : {left d : ℕ} {X : ℕ → Type 0} {t t′ : Task Known} {w w′ : Steps.World Known} → ((k m : ℕ) (s : Known) (i : ℕ) (v : Steps.World Known) → Comes (graph I) t w k m s i v → Comes (graph I) t′ w′ k m s i v) → (c f x : ℕ) → Stop left d X t w c f x → Stop left d X t′ w′ c f x
+  shift h c f x (own r) = own r
+  shift h c f x (lost y un l e) = lost (h _ _ _ _ _ y) un l e
+  shift h c f x (deep y un node e) = deep (h _ _ _ _ _ y) un node e
+  shift h c f x (fault y un l e) = fault (h _ _ _ _ _ y) un l e
+
+  -- also where the part is inside a further node; a reason of the part's own is told apart.
+  deeper : {left d d′ : ℕ} {X X′ : ℕ → Type 0} {t t′ : Task Known} {w w′ : Steps.World Known} → ((k m : ℕ) (s : Known) (i : ℕ) (v : Steps.World Known) → Comes (graph I) t w k m s i v → Comes (graph I) t′ w′ (suc k) m s i v)
+      → ((c f x : ℕ) → Short d X c f x → Stop (suc left) d′ X′ t′ w′ c f x) → (c f x : ℕ) → Stop left d X t w c f x → Stop (suc left) d′ X′ t′ w′ c f x
+  deeper h o c f x (own r) = o c f x r
+  deeper h o c f x (lost y un l e) = lost (h _ _ _ _ _ y) un (omega arith) e
+  deeper h o c f x (deep y un node e) = deep (h _ _ _ _ _ y) un node e
+  deeper h o c f x (fault y un l e) = fault (h _ _ _ _ _ y) un (omega arith) e
+
+  -- the step runs the task, whatever was opened before, or stops on the way
+  abbrev Runs : {A : Type 0} → ℕ → ℕ → (ℕ → Type 0) → Task Known → Comp A → Type 0
+  Runs left d X t c = (g : Unseen) (st : State) → Fits g st → Outcome (Stop left d X t (see g (st .world))) (λ a st′. Ran left t g st st′) (c st)
 
   -- A run from an equal world.
-  from : {t : Task Known} {g : Unseen} {u v w : World} → v ≡ u → Ran t g v w → Ran t g u w
-  from {t} {g} {w = w} q r = record { after = r .after; fits = r .fits; run = subst (λ (x : World). Run (graph I) t (see g x) (see (r .after) w)) q (r .run) }
+  from : {left : ℕ} {t : Task Known} {g : Unseen} {u v w : State} → Same u v → Ran left t g v w → Ran left t g u w
+  from {left} {t} {g} {w = w} q r = record { after = r .after; fits = r .fits; run = subst (λ (x : World). Within (graph I) Fair left t (see g x) (see (r .after) (w .world))) (q .world) (r .run) }
 
   -- A run to an equal world.
-  upto : {t : Task Known} {g : Unseen} {u v w : World} → w ≡ v → Ran t g u v → Ran t g u w
-  upto {t} {g} {u = u} q r = record { after = r .after; fits = fits-from (r .after) q (r .fits); run = subst (λ (x : World). Run (graph I) t (see g u) (see (r .after) x)) (sym q) (r .run) }
+  upto : {left : ℕ} {t : Task Known} {g : Unseen} {u v w : State} → Same v w → Ran left t g u v → Ran left t g u w
+  upto {left} {t} {g} {u = u} q r = record { after = r .after; fits = fits-from (r .after) q (r .fits); run = subst (λ (x : World). Within (graph I) Fair left t (see g (u .world)) (see (r .after) x)) (sym (q .world)) (r .run) }
 
-  -- A step that keeps the world, then a run.
-  keep-then : {A B : Type 0} {t : Task Known} {c : Comp A} {k : A → Comp B} → Keep c → ((a : A) → Runs t (k a)) → Runs t (c >>= k)
-  keep-then h f g st ft = bindOut (h st) (λ a s q. mapOut (f a g s (fits-from g q ft)) (λ b s′ r. from q r))
+  -- ids copied in order, and nothing else
+  abbrev Copies : {A : Type 0} → ℕ → ℕ → (ℕ → Type 0) → ℕ → Known → List ℕ → Comp A → Type 0
+  Copies left d X n e l c = Runs left d X (all n e (map copyId l)) c
 
-  -- A run, then a step that keeps the world.
-  then-keep : {A B : Type 0} {t : Task Known} {c : Comp A} {k : A → Comp B} → Runs t c → ((a : A) → Keep (k a)) → Runs t (c >>= k)
-  then-keep h f g st ft = bindOut (h g st ft) (λ a s r. mapOut (f a s) (λ b s′ q. upto q r))
+  -- the same, and F holds where it is run to its end
+  abbrev RunsAnd : {A : Type 0} → ℕ → ℕ → (ℕ → Type 0) → Task Known → Type 0 → Comp A → Type 0
+  RunsAnd left d X t F c = (g : Unseen) (st : State) → Fits g st → Outcome (Stop left d X t (see g (st .world))) (λ a st′. Ran left t g st st′ × F) (c st)
 
-  -- A charge after a run adds nothing to it.
-  paid-run : {A : Type 0} {t : Task Known} {m : Comp A} → Runs t m → Runs t (paid I m)
-  unfolding paid
-  paid-run h = then-keep h (λ a. keep-bind (charge-keep I) (λ u. keep-ret a))
+  module _ {left d : ℕ} {X : ℕ → Type 0} where
+    -- A stop from an equal world.
+    stop-from : {t : Task Known} (g : Unseen) {u v : State} → Same u v → (c f x : ℕ) → Stop left d X t (see g (v .world)) c f x → Stop left d X t (see g (u .world)) c f x
+    stop-from {t} g q c f x r = subst (λ (y : World). Stop left d X t (see g y) c f x) (q .world) r
 
-  module _ (n : ℕ) (e : Known) where
-    -- ids copied in order, and nothing else
-    abbrev Copies : {A : Type 0} → List ℕ → Comp A → Type 0
-    Copies l c = Runs (all n e (map copyId l)) c
+    -- A step that keeps the world, then a run.
+    keep-then : {A B : Type 0} {t : Task Known} {c : Comp A} {k : A → Comp B} → Keep d X c → ((a : A) → Runs left d X t (k a)) → Runs left d X t (c >>= k)
+    keep-then h f g st ft = thenOut (h st) (λ c e x r. own r) (λ a s q. turnOut (f a g s (fits-from g q ft)) (stop-from g q) (λ b s′ r. from q r))
 
-    -- A step that keeps the world runs no action.
-    no-run : {A : Type 0} {c : Comp A} → Keep c → Runs (all n e []) c
-    no-run h g st ft = mapOut (h st) (λ a s q. upto q (record { after = g; fits = ft; run = noAction }))
+    -- A run, then a step that keeps the world.
+    then-keep : {A B : Type 0} {t : Task Known} {c : Comp A} {k : A → Comp B} → Runs left d X t c → ((a : A) → Keep d X (k a)) → Runs left d X t (c >>= k)
+    then-keep h f g st ft = bindOut (h g st ft) (λ a s r. turnOut (f a s) (λ c e x y. own y) (λ b s′ q. upto q r))
 
-    -- Two runs of actions, one after the other.
-    then-run : {A B : Type 0} {l k : List (Action Known)} {c : Comp A} {f : A → Comp B} → Runs (all n e l) c → ((a : A) → Runs (all n e k) (f a)) → Runs (all n e (l ++ k)) (c >>= f)
-    then-run h f g st ft = bindOut (h g st ft) (λ a s r. mapOut (f a (r .after) s (r .fits)) (λ b s′ r′. record { after = r′ .after; fits = r′ .fits; run = append-run (r .run) (r′ .run) }))
+    -- A run, with nothing to hold besides.
+    run-only : {A : Type 0} {t : Task Known} {c : Comp A} → Runs left d X t c → RunsAnd left d X t (Unit {0}) c
+    run-only h g st ft = mapOut (h g st ft) (λ a s r. (r, tt))
 
-    -- Ids copied, then others.
-    then-copies : {A B : Type 0} (l k : List ℕ) {c : Comp A} {f : A → Comp B} → Copies l c → ((a : A) → Copies k (f a)) → Copies (l ++ k) (c >>= f)
-    then-copies l k {c} {f} h g = subst (λ (x : List (Action Known)). Runs (all n e x) (c >>= f)) (sym (map-append copyId l k)) (then-run h g)
+    -- A run, then a step that keeps the world and has F.
+    then-keep-and : {A B : Type 0} {t : Task Known} {E F : Type 0} {c : Comp A} {k : A → Comp B} → RunsAnd left d X t E c → ((a : A) → Keep d X (k a)) → ((a : A) (st : State) → Valid st → Outcome Any (λ b s. F) (k a st)) → RunsAnd left d X t (E × F) (c >>= k)
+    then-keep-and h f y g st ft = bindOut (h g st ft) (λ a s r. turnOut (both _ (f a s) (y a s (r .0 .fits .valid))) (λ c e x z. own z) (λ b s′ q. (upto (q .0) (r .0), (r .1, q .1))))
 
-    -- One id copied, then actions.
-    one-run : {A B : Type 0} {i : ℕ} {l : List (Action Known)} {c : Comp A} {f : A → Comp B} → Runs (one n e i) c → ((a : A) → Runs (all n e l) (f a)) → Runs (all n e (copyId i ∷ l)) (c >>= f)
-    one-run h f g st ft = bindOut (h g st ft) (λ a s r. mapOut (f a (r .after) s (r .fits)) (λ b s′ r′. record { after = r′ .after; fits = r′ .fits; run = thenCopy (r .run) (r′ .run) }))
+    -- A step that keeps the world and has E, then a run.
+    keep-then-and : {A B : Type 0} {t : Task Known} {E F : Type 0} {c : Comp A} {k : A → Comp B} → Keep d X c → ((st : State) → Valid st → Outcome Any (λ a s. E) (c st)) → ((a : A) → RunsAnd left d X t F (k a)) → RunsAnd left d X t (E × F) (c >>= k)
+    keep-then-and h y f g st ft = thenOut (both _ (h st) (y st (ft .valid))) (λ c e x r. own r) (λ a s q. turnOut (f a g s (fits-from g (q .0) ft)) (stop-from g (q .0)) (λ b s′ r. (from (q .0) (r .0), (q .1, r .1))))
 
-    -- Ids copied for each element, in order.
-    mapM-run : {A B : Type 0} (g : A → Comp B) (ids : A → List ℕ) → ((a : A) → Copies (ids a) (g a)) → (l : List A) → Copies (flat ids l) (mapM g l)
-    unfolding mapM
-    mapM-run g ids h [] = no-run (keep-ret [])
-    mapM-run g ids h (a ∷ l) = then-copies (ids a) (flat ids l) (h a) (λ b. then-keep (mapM-run g ids h l) (λ bs. keep-ret (b ∷ bs)))
+    -- A charge after a run adds nothing to it.
+    paid-run : {A : Type 0} {t : Task Known} {m : Comp A} → Runs left d X t m → Runs left d X t (paid I m)
+    unfolding paid
+    paid-run h = then-keep h (λ a. keep-bind charge-keep (λ u. keep-ret a))
 
-    module _ (c : Copier) (hc : (i : ℕ) → Runs (one n e i) (c i)) where
-      -- A list of ids copied, each charged after its copy.
-      ids-run : (l : List ℕ) → Copies l (mapM (λ i. paid I (c i)) l)
+    module _ (n : ℕ) (e : Known) where
+      -- A step that keeps the world runs no action.
+      no-run : {A : Type 0} {c : Comp A} → Keep d X c → Runs left d X (all n e []) c
+      no-run h g st ft = turnOut (h st) (λ c f x r. own r) (λ a s q. upto q (record { after = g; fits = ft; run = noWithin }))
+
+      -- Two runs of actions, one after the other.
+      then-run : {A B : Type 0} {l k : List (Action Known)} {c : Comp A} {f : A → Comp B} → Runs left d X (all n e l) c → ((a : A) → Runs left d X (all n e k) (f a)) → Runs left d X (all n e (l ++ k)) (c >>= f)
+      then-run {k = k} h f g st ft =
+          thenOut (h g st ft) (shift (λ k′ m s i v y. comes-left k y)) (λ a s r. turnOut (f a (r .after) s (r .fits)) (shift (λ k′ m s′ i v y. comes-right (within-run (r .run)) y)) (λ b s′ r′. record { after = r′ .after; fits = r′ .fits; run = append-within (r .run) (r′ .run) }))
+
+      -- Ids copied, then others.
+      then-copies : {A B : Type 0} (l k : List ℕ) {c : Comp A} {f : A → Comp B} → Copies left d X n e l c → ((a : A) → Copies left d X n e k (f a)) → Copies left d X n e (l ++ k) (c >>= f)
+      then-copies l k {c} {f} h g = subst (λ (x : List (Action Known)). Runs left d X (all n e x) (c >>= f)) (sym (map-append copyId l k)) (then-run h g)
+
+      -- A run of actions, then one with F.
+      then-run-and : {A B : Type 0} {l k : List (Action Known)} {E F : Type 0} {c : Comp A} {f : A → Comp B} → RunsAnd left d X (all n e l) E c → ((a : A) → RunsAnd left d X (all n e k) F (f a)) → RunsAnd left d X (all n e (l ++ k)) (E × F) (c >>= f)
+      then-run-and {k = k} h f g st ft =
+          thenOut (h g st ft) (shift (λ k′ m s i v y. comes-left k y)) (λ a s r. turnOut (f a (r .0 .after) s (r .0 .fits)) (shift (λ k′ m s′ i v y. comes-right (within-run (r .0 .run)) y)) (λ b s′ r′. (record { after = r′ .0 .after; fits = r′ .0 .fits; run = append-within (r .0 .run) (r′ .0 .run) }, (r .1, r′ .1))))
+
+      then-copies-and : {A B : Type 0} (l k : List ℕ) {E F : Type 0} {c : Comp A} {f : A → Comp B} → RunsAnd left d X (all n e (map copyId l)) E c → ((a : A) → RunsAnd left d X (all n e (map copyId k)) F (f a)) → RunsAnd left d X (all n e (map copyId (l ++ k))) (E × F) (c >>= f)
+      then-copies-and l k {E} {F} {c} {f} h g = subst (λ (x : List (Action Known)). RunsAnd left d X (all n e x) (E × F) (c >>= f)) (sym (map-append copyId l k)) (then-run-and h g)
+
+      -- One id copied, then actions.
+      one-run : {A B : Type 0} {i : ℕ} {l : List (Action Known)} {c : Comp A} {f : A → Comp B} → Runs left d X (one n e i) c → ((a : A) → Runs left d X (all n e l) (f a)) → Runs left d X (all n e (copyId i ∷ l)) (c >>= f)
+      one-run h f g st ft =
+          thenOut (h g st ft) (shift (λ k m s j v y. inCopy y)) (λ a s r. turnOut (f a (r .after) s (r .fits)) (shift (λ k m s′ j v y. afterCopy (within-run (r .run)) y)) (λ b s′ r′. record { after = r′ .after; fits = r′ .fits; run = copyWithin (r .run) (r′ .run) }))
+
+      -- Ids copied for each element, in order.
+      mapM-run : {A B : Type 0} (g : A → Comp B) (ids : A → List ℕ) (l : List A) → ((a : A) → List·Memᴰ a l → Copies left d X n e (ids a) (g a)) → Copies left d X n e (flat ids l) (mapM g l)
       unfolding mapM
-      ids-run [] = no-run (keep-ret [])
-      ids-run (i ∷ l) = one-run (paid-run (hc i)) (λ o. then-keep (ids-run l) (λ os. keep-ret (o ∷ os)))
+      mapM-run g ids [] h = no-run (keep-ret [])
+      mapM-run g ids (a ∷ l) h = then-copies (ids a) (flat ids l) (h a (List·Memᴰ·head refl)) (λ b. then-keep (mapM-run g ids l (λ x m. h x (List·Memᴰ·tail m))) (λ bs. keep-ret (b ∷ bs)))
 
-      copyData-run : (d : FieldData) → Copies (dataIds d) (copyData I c d)
-      unfolding copyData
-      copyData-run (FieldData.Payload p) = no-run (keep-ret _)
-      copyData-run (FieldData.Nodes ids) = then-keep (ids-run ids) (λ os. keep-ret _)
+      module _ (c : Copier) (hc : (i : ℕ) → Runs left d X (one n e i) (c i)) where
+        -- A list of ids copied, each charged after its copy.
+        ids-run : (l : List ℕ) → Copies left d X n e l (mapM (λ i. paid I (c i)) l)
+        unfolding mapM
+        ids-run [] = no-run (keep-ret [])
+        ids-run (i ∷ l) = one-run (paid-run (hc i)) (λ o. then-keep (ids-run l) (λ os. keep-ret (o ∷ os)))
 
-      value-run : (v : FieldValue) → Copies (dataIds (v .«data»)) (value I c v)
-      unfolding value
-      value-run v = then-keep (copyData-run (v .«data»)) (λ x. keep-ret _)
+        copyData-run : (x : FieldData) → Copies left d X n e (dataIds x) (copyData I c x)
+        unfolding copyData
+        copyData-run (FieldData.Payload p) = no-run (keep-ret _)
+        copyData-run (FieldData.Nodes ids) = then-keep (ids-run ids) (λ os. keep-ret _)
 
-      copyField-run : (env : Env) (new : ℕ) (f : Field) → Copies (bindingIds (f .binding)) (copyField I c env new f)
-      unfolding copyField copyBinding
-      copyField-run env new f = go (f .binding)
-        where
-          go : (b : FieldBinding) → Copies (bindingIds b) (copyBinding I c env new f b)
-          go (FieldBinding.Value v) = then-keep (paid-run (value-run v)) (λ v′. keep-ret _)
-          go (FieldBinding.Is target) = no-run (keep-bind (associate-keep I env _) (λ u. isField-keep I f (isValue env target)))
+        value-run : (v : FieldValue) → Copies left d X n e (dataIds (v .«data»)) (value I c v)
+        unfolding value
+        value-run v = then-keep (copyData-run (v .«data»)) (λ x. keep-ret _)
 
-      copyInterface-run : (env : Env) (new : ℕ) (d : InterfaceDecl) → Copies (interfaceIds (d .is) (d .value)) (copyInterface I c env new d)
-      unfolding copyInterface copyTarget
-      copyInterface-run env new d = paid-run (go (d .is) (d .value))
-        where
-          go : (target : Option ℕ) (v : Option FieldValue) → Copies (interfaceIds target v) (copyTarget I c env new d target v)
-          go (some target) v = no-run (keep-bind (associate-keep I env _) (λ u. isInterface-keep I d target (isValue env target)))
-          go none none = no-run (keep-ret _)
-          go none (some v) = then-keep (value-run v) (λ v′. keep-ret _)
+        copyField-run : (env : Env) (new : ℕ) (f : Field) → Copies left d X n e (bindingIds (f .binding)) (copyField I c env new f)
+        unfolding copyField copyBinding
+        copyField-run env new f = go (f .binding)
+          where
+            go : (b : FieldBinding) → Copies left d X n e (bindingIds b) (copyBinding I c env new f b)
+            go (FieldBinding.Value v) = then-keep (paid-run (value-run v)) (λ v′. keep-ret _)
+            go (FieldBinding.Is target) = no-run (keep-bind (associate-keep env _) (λ u. isField-keep f (isValue env target)))
 
-      -- The contents of a plain node copy where its steps lead.
-      contents-run : (env : Env) (new : ℕ) (node : Node) → Copies (plainNexts node) (contents I c env new node)
-      unfolding contents
-      contents-run env new node =
-          keep-then (copyOrigin-keep I env (node .origin)) (λ origin. then-copies (flat (λ f. bindingIds (f .binding)) (node .fields)) (flat (λ d. interfaceIds (d .is) (d .value)) (node .interface)) (mapM-run _ _ (copyField-run env new) (node .fields)) (λ fields. then-keep (mapM-run _ _ (copyInterface-run env new) (node .interface))
-          (λ interface. keep-bind (mapM-keep _ (copyStatement-keep I env) (node .statements)) (λ statements. keep-bind (chargeEach-keep I _) (λ u. keep-ret _)))))
+        copyInterface-run : (env : Env) (new : ℕ) (i : InterfaceDecl) → Copies left d X n e (interfaceIds (i .is) (i .value)) (copyInterface I c env new i)
+        unfolding copyInterface copyTarget
+        copyInterface-run env new i = paid-run (go (i .is) (i .value))
+          where
+            go : (target : Option ℕ) (v : Option FieldValue) → Copies left d X n e (interfaceIds target v) (copyTarget I c env new i target v)
+            go (some target) v = no-run (keep-bind (associate-keep env _) (λ u. isInterface-keep i target (isValue env target)))
+            go none none = no-run (keep-ret _)
+            go none (some v) = then-keep (value-run v) (λ v′. keep-ret _)
 
-      statement-run : (env : Env) (s : Statement) → Copies (statementIds s) (statement I c env s)
-      unfolding statement
-      statement-run env (Statement.Node i) = one-run (paid-run (hc i)) (λ o. no-run (keep-ret _))
-      statement-run env (Statement.Proto p) = no-run (keep-ret _)
-      statement-run env (Statement.ExternProto x) = no-run (copyExtern-keep I env x)
-      statement-run env (Statement.Route r) = no-run (copyRoute-keep I env r)
-      statement-run env (Statement.Other p) = no-run (paid-keep I (keep-ret _))
+        -- The contents of a plain node copy where its steps lead, and its externs are there.
+        contents-run : (env : Env) → src env ≡ d → (new : ℕ) (node : Node) → ((x : ℕ) → node .origin ≡ NodeOrigin.ExternProto x → X x) → ((x : ℕ) → List·Memᴰ (Statement.ExternProto x) (node .statements) → X x)
+            → RunsAnd left d X (all n e (map copyId (plainNexts node))) (OriginFine (src env) (node .origin) × (Unit {0} × (Unit {0} × AllFine (src env) (node .statements)))) (contents I c env new node)
+        unfolding contents
+        contents-run env q new node ho hs =
+            keep-then-and (copyOrigin-keep env q (node .origin) ho) (origin-fine env (node .origin)) (λ origin. then-copies-and (flat (λ f. bindingIds (f .binding)) (node .fields)) (flat (λ i. interfaceIds (i .is) (i .value)) (node .interface)) (run-only (mapM-run _ _ (node .fields) (λ f m. copyField-run env new f))) (λ fields. then-keep-and (run-only (mapM-run _ _ (node .interface) (λ i m. copyInterface-run env new i)))
+            (λ interface. keep-bind (mapM-keep _ (node .statements) (λ s m. copyStatement-keep env q s (λ x r. hs x (Memᴰ·cast (sym r) m)))) (λ statements. keep-bind (chargeEach-keep _) (λ u. keep-ret _)))
+            (λ interface st h. bindOut (statements-fine env (node .statements) st h) (λ ss s1 f. bindOut (anything _) (λ u s2 v. accepted f)))))
+
+        statement-run : (env : Env) → src env ≡ d → (s : Statement) → ((x : ℕ) → s ≡ Statement.ExternProto x → X x) → Copies left d X n e (statementIds s) (statement I c env s)
+        unfolding statement
+        statement-run env q (Statement.Node i) h = one-run (paid-run (hc i)) (λ o. no-run (keep-ret _))
+        statement-run env q (Statement.Proto p) h = no-run (keep-ret _)
+        statement-run env q (Statement.ExternProto x) h = no-run (copyExtern-keep env q x (h x refl))
+        statement-run env q (Statement.Route r) h = no-run (copyRoute-keep env r)
+        statement-run env q (Statement.Other p) h = no-run (paid-keep (keep-ret _))
+
+        -- The top statements, whose externs are there.
+        top-run : (env : Env) → src env ≡ d → (s : Statement) → ((x : ℕ) → s ≡ Statement.ExternProto x → X x) → RunsAnd left d X (all n e (map copyId (statementIds s))) (StatementFine (src env) s) (statement I c env s)
+        unfolding statement
+        top-run env q s h g st ft = turnOut (both _ (statement-run env q s h g st ft) (fine s)) (λ c f x r. r) (λ a s′ r. r)
+          where
+            fine : (s : Statement) → Outcome Any (λ a t. StatementFine (src env) s) (statement I c env s st)
+            fine (Statement.Node i) = mapOut (anything _) (λ a t u x q. absurd (let z : _≡_ {A = ℕ} 0 1 = cc in omega arith))
+            fine (Statement.Proto p) = mapOut (anything _) (λ a t u x q. absurd (let z : _≡_ {A = ℕ} 0 1 = cc in omega arith))
+            fine (Statement.ExternProto y) = copyExtern-fine env y st (ft .valid)
+            fine (Statement.Route r) = mapOut (anything _) (λ a t u x q. absurd (let z : _≡_ {A = ℕ} 0 1 = cc in omega arith))
+            fine (Statement.Other p) = mapOut (anything _) (λ a t u x q. absurd (let z : _≡_ {A = ℕ} 0 1 = cc in omega arith))
+
+        tops-run : (env : Env) → src env ≡ d → (l : List Statement) → ((x : ℕ) → List·Memᴰ (Statement.ExternProto x) l → X x) → RunsAnd left d X (all n e (map copyId (flat statementIds l))) (AllFine (src env) l) (mapM (statement I c env) l)
+        unfolding mapM
+        tops-run env q [] h g st ft = mapOut (no-run (keep-ret []) g st ft) (λ a s r. (r, none-fine (src env)))
+        tops-run env q (s ∷ l) h g st ft =
+            mapOut (then-copies-and (statementIds s) (flat statementIds l) (top-run env q s (λ x r. h x (List·Memᴰ·head (sym r)))) (λ b. then-keep-and (tops-run env q l (λ x m. h x (List·Memᴰ·tail m))) (λ bs. keep-ret (b ∷ bs)) (λ bs st′ v. accepted (tt {0}))) g st ft) (λ a s′ r. (r .0, cons-fine (src env) (r .1 .0) (r .1 .1 .0)))
 
   -- ---- plain nodes
 
   -- a node is reserved: mapped and listed, and no scope is opened
-  record Reserved (n i : ℕ) (g : Unseen) (w w′ : World) : Type 0 where
-    seen : see g w′ ≡ addPlain n i (see g w)
-    scopes : w′ .scopes ≡ w .scopes
+  record Reserved (n i : ℕ) (g : Unseen) (st st′ : State) : Type 0 where
+    seen : see g (st′ .world) ≡ addPlain n i (see g (st .world))
+    fits : Fits g st′
+    below : length (st .world .ledger) < I .limits .maxNodes
 
-  -- A reserved node is mapped and listed.
-  reserve-world : (env : Env) (i : ℕ) (g : Unseen) (st : State) → Out (λ o st′. Reserved (env .scope) i g (st .world) (st′ .world)) (reserve I env i st)
+  -- A reserved node is mapped and listed; it is refused where N nodes are listed, or by a charge.
+  reserve-world : {R : ℕ → ℕ → ℕ → Type 0} (env : Env) (i : ℕ) (g : Unseen) (st : State) → Fits g st → (length (st .world .ledger) ≡ I .limits .maxNodes → R 8 0 0) → ((c f x : ℕ) → Short 0 (λ x. ⊥) c f x → R c f x) → Outcome R (λ o st′. Reserved (env .scope) i g st st′) (reserve I env i st)
   unfolding reserve reserveIf
-  reserve-world env i g st = go (ltb (length (st .nodes)) (I .limits .maxNodes))
+  reserve-world {R} env i g st ft full short = go (ltb (length (st .nodes)) (I .limits .maxNodes)) (ltb→lt (length (st .nodes)) (I .limits .maxNodes)) (lt→ltb (length (st .nodes)) (I .limits .maxNodes))
     where
-      go : (b : Bool) → Out (λ o st′. Reserved (env .scope) i g (st .world) (st′ .world)) (reserveIf b I env i st)
-      go false = refused tt
-      go true = bindOut (charge-keep I st) (λ u s1 e1. bindOut (charge-keep I s1) (λ u2 s2 e2. accepted (record { seen = ap (λ (x : World). addPlain (env .scope) i (see g x)) (e2 ∙ e1); scopes = ap (λ (x : World). x .scopes) (e2 ∙ e1) })))
+      go : (b : Bool) → (T b → length (st .nodes) < I .limits .maxNodes) → (length (st .nodes) < I .limits .maxNodes → T b) → Outcome R (λ o st′. Reserved (env .scope) i g st st′) (reserveIf b I env i st)
+      go false to back = let least : (length (st .nodes) < I .limits .maxNodes) → ⊥ = back in refused (full (omega (arith, ft .listed, ft .room)))
+      go true to back =
+          thenOut (charge-keep st) short (λ u s1 e1. thenOut (charge-keep s1) short (λ u2 s2 e2. let e : Same st s2 = same-then e1 e2 in accepted (record {
+            seen = ap (λ (x : World). addPlain (env .scope) i (see g x)) (e .world);
+            fits = record {
+              entries = ft .entries ∙ ap (λ (x : World). x .scopes) (sym (e .world));
+              listed = omega (arith, length-append (s2 .nodes) (blank ∷ []), length-append (s2 .world .ledger) ((env .scope, i) ∷ []), fits-from g e ft .listed);
+              room = omega (arith, length-append (s2 .nodes) (blank ∷ []), e .size, to tt);
+              valid = e .valid (ft .valid);
+            };
+            below = omega (arith, to tt, ft .listed);
+          })))
 
   -- a copier runs the copy of every id, in every scope
-  abbrev Copying : (Env → Copier) → Type 0
-  Copying f = (env : Env) (names : List ℕ) → Shows env names → (i : ℕ) → Runs (one (env .scope) (known env names) i) (f env i)
+  abbrev Copying : ℕ → (Env → Copier) → Type 1
+  Copying left f = (d : ℕ) (X : ℕ → Type 0) (env : Env) (names : List ℕ) → Shows env names → (i : ℕ) → Runs left d X (one (env .scope) (known env names) i) (f env i)
 
   -- what the documents say of the node: it is there, and p is its PROTO, if it is an instance
   record Node′ (env : Env) (i : ℕ) (node : Node) (p : Option Pick) : Type 0 where
@@ -339,40 +555,88 @@ module _ (I : Input) where
     actions-are = ap (actionsOf I (known env names)) (h .there) ∙ ap (actionsBy I names node) (h .proto)
 
   -- A plain node.
-  copyPlain-run : (f : Env → Copier) → Copying f → (env : Env) (names : List ℕ) → Shows env names → (i : ℕ) (node : Node) → Node′ env i node none → (g : Unseen) (st : State) → Fits g (st .world) → (Mapped (see g (st .world)) (env .scope) i → ⊥)
-      → Out (λ o st′. Ran (one (env .scope) (known env names) i) g (st .world) (st′ .world)) (copyPlain I (f env) env i node st)
+  copyPlain-run : (left : ℕ) (f : Env → Copier) → Copying left f → (d : ℕ) (X : ℕ → Type 0) (env : Env) (names : List ℕ) → Shows env names → (i : ℕ) (node : Node) → Node′ env i node none → (g : Unseen) (st : State) → Fits g st → (Mapped (see g (st .world)) (env .scope) i → ⊥)
+      → Outcome (Stop (suc left) d X (one (env .scope) (known env names) i) (see g (st .world))) (λ o st′. Ran (suc left) (one (env .scope) (known env names) i) g st st′) (copyPlain I (f env) env i node st)
   unfolding copyPlain
-  copyPlain-run f hf env names hn i node h g st ft un =
-      bindOut (reserve-world env i g st) (λ new s1 e1. bindOut (contents-run (env .scope) (known env names) (f env) (hf env names hn) env new node g s1 (ft ∙ sym (e1 .scopes)))
-      (λ x s2 r. accepted (record { after = r .after; fits = r .fits; run = plainStep un (kind-is env names i node none h) (inner s1 s2 (r .after) (e1 .seen) (r .run)) })))
+  copyPlain-run left f hf d X env names hn i node h g st ft un =
+      bindOut (reserve-world env i g st ft (λ q. fault here un (omega arith) (eight node at q)) short)
+      (λ new s1 e1. thenOut (contents-run (env .scope) (known env names) (f env) (hf (src env) (ExternOf node) env names hn) env refl new node (λ x q. inl q) (λ x q. inr q) g s1 (e1 .fits))
+      (deeper (λ k m s j v y. inPlain un (kind-is env names i node none h) (inner (λ t w. Comes (graph I) t w k m s j v) s1 (e1 .seen) y)) (mine (e1 .below)))
+      (λ x s2 y. let r : Ran left (all (env .scope) (known env names) (map copyId (plainNexts node))) g s1 s2 = y .0 in accepted (record {
+        after = r .after;
+        fits = record { entries = r .fits .entries; listed = length-set (s2 .nodes) new x ∙ r .fits .listed; room = rw length-set (r .fits .room); valid = r .fits .valid };
+        run = plainWithin un (kind-is env names i node none h) (fair (y .1 .0) (y .1 .1 .1 .1)) (inner (λ t w. Within (graph I) Fair left t w (see (r .after) (s2 .world))) s1 (e1 .seen) (r .run));
+      })))
     where
-      inner : (s1 s2 : State) (k : Unseen) → see g (s1 .world) ≡ addPlain (env .scope) i (see g (st .world)) → Run (graph I) (all (env .scope) (known env names) (map copyId (plainNexts node))) (see g (s1 .world)) (see k (s2 .world))
-          → Run (graph I) (all (env .scope) (known env names) (graph I .actions (known env names) i)) (addPlain (env .scope) i (see g (st .world))) (see k (s2 .world))
-      inner s1 s2 k e1 r = rw (actions-are env names i node none h, ← e1) r
+      at : PlainAt I (known env names) i node
+      at = record { there = h .there; plain = h .proto }
+
+      fair : OriginFine (src env) (node .origin) → AllFine (src env) (node .statements) → Fair (known env names) i
+      fair fo fs = record {
+        ofPlain = λ node′ a x. either node′ (same-node node′ (a .there)) x;
+        ofInstance = λ p a. absurd (other (a .node) (same-node (a .node) (a .there)) p (a .instance));
+      }
+        where
+          same-node : (node′ : Node) → nodeAt (docs I) (src env) i ≡ some node′ → node ≡ node′
+          same-node node′ e = one-node (h .there) e
+            where
+              one-node : {o : Option Node} {a b : Node} → o ≡ some a → o ≡ some b → a ≡ b
+              one-node p q = cc
+
+          either : (node′ : Node) → node ≡ node′ → (x : ℕ) → ExternOf node′ x → Fine (src env) x
+          either node′ e x (inl q) = fo x (ap (λ (y : Node). y .origin) e ∙ q)
+          either node′ e x (inr q) = fs x (rw e q)
+
+          other : (node′ : Node) → node ≡ node′ → (p : Pick) → protoOf I (src env) (node′ .origin) ≡ some p → ⊥
+          other node′ e p q = clash (h .proto) (ap (λ (y : Node). protoOf I (src env) (y .origin)) e ∙ q)
+            where
+              clash : {o : Option Pick} → o ≡ none → o ≡ some p → ⊥
+              clash a b = let z : _≡_ {A = ℕ} 0 1 = cc in omega arith
+
+      inner : (P : Task Known → Steps.World Known → Type 0) (s1 : State) → see g (s1 .world) ≡ addPlain (env .scope) i (see g (st .world)) → P (all (env .scope) (known env names) (map copyId (plainNexts node))) (see g (s1 .world))
+          → P (all (env .scope) (known env names) (graph I .actions (known env names) i)) (addPlain (env .scope) i (see g (st .world)))
+      inner P s1 e1 r = rw (actions-are env names i node none h, ← e1) r
+
+      short : (c f x : ℕ) → Short 0 (λ x. ⊥) c f x → Stop (suc left) d X (one (env .scope) (known env names) i) (see g (st .world)) c f x
+      short c f x rows = own rows
+      short c f x (extern y none-is e) = absurd none-is
+
+      mine : length (st .world .ledger) < I .limits .maxNodes → (c f x : ℕ) → Short (src env) (ExternOf node) c f x → Stop (suc left) d X (one (env .scope) (known env names) i) (see g (st .world)) c f x
+      mine l c f x rows = own rows
+      mine l c f x (extern y (inl q) e) = fault here un (omega arith) (fourOrigin node at l y q e)
+      mine l c f x (extern y (inr q) e) = fault here un (omega arith) (fourStatement node at l y q e)
 
   -- ---- instances
 
   -- a scope is opened
-  record Opens (e : Scope) (w : World) (n : ℕ) (w′ : World) : Type 0 where
-    number : n ≡ length (w .scopes)
-    after : w′ ≡ record { map = w .map; ledger = w .ledger; scopes = w .scopes ++ (e ∷ []) }
+  record Opens (e : Scope) (st : State) (n : ℕ) (st′ : State) : Type 0 where
+    number : n ≡ length (st .world .scopes)
+    after : st′ .world ≡ record { map = st .world .map; ledger = st .world .ledger; scopes = st .world .scopes ++ (e ∷ []) }
+    size : length (st′ .nodes) ≡ length (st .nodes)
+    valid : Valid st → Valid st′
 
   -- A scope is opened at the end of the list.
-  openScope-world : (e : Scope) (st : State) → Out (λ n st′. Opens e (st .world) n (st′ .world)) (openScope I e st)
+  openScope-world : {d : ℕ} {X : ℕ → Type 0} (e : Scope) (st : State) → Outcome (Short d X) (λ n st′. Opens e st n st′) (openScope I e st)
   unfolding openScope pushScope
-  openScope-world e st = bindOut (charge-keep I st) (λ u s q. accepted (record { number = ap (λ (w : World). length (w .scopes)) q; after = ap (λ (w : World). record { map = w .map; ledger = w .ledger; scopes = w .scopes ++ (e ∷ []) }) q }))
+  openScope-world e st = bindOut (charge-keep st) (λ u s q. accepted (record { number = ap (λ (w : World). length (w .scopes)) (q .world); after = ap (λ (w : World). record { map = w .map; ledger = w .ledger; scopes = w .scopes ++ (e ∷ []) }) (q .world); size = q .size; valid = q .valid }))
 
   -- The state has its entry.
-  opened-fits : (s : Known) (g : Unseen) (w : World) (n : ℕ) (w′ : World) → Fits g w → Opens (s .entry) w n w′ → Fits (withScope s g) w′
-  opened-fits s g w n w′ ft q = map-append entryOf (g .scopes) (s ∷ []) ∙ ap (λ (l : List Scope). l ++ (s .entry ∷ [])) ft ∙ ap (λ (x : World). x .scopes) (sym (q .after))
+  opened-fits : (s : Known) (g : Unseen) (st : State) (n : ℕ) (st′ : State) → Fits g st → Opens (s .entry) st n st′ → Fits (withScope s g) st′
+  opened-fits s g st n st′ ft q = record {
+    entries = map-append entryOf (g .scopes) (s ∷ []) ∙ ap (λ (l : List Scope). l ++ (s .entry ∷ [])) (ft .entries) ∙ ap (λ (x : World). x .scopes) (sym (q .after));
+    listed = q .size ∙ ft .listed ∙ ap (λ (x : World). length (x .ledger)) (sym (q .after));
+    room = rw (q .size) (ft .room);
+    valid = q .valid (ft .valid);
+  }
 
   -- A default, in its own scope, if there is one.
-  takeDefault-run : (f : Env → Copier) → Copying f → (n : ℕ) (e : Known) (p : Pick) (k : ℕ) (v : Option FieldValue) → defaultIds k (declOf I p) ≡ optionIds v → Runs (all n e (defaultAction (defaultScope p k) v)) (takeDefault I f (Scope.Default p k n) v)
+  takeDefault-run : {left d : ℕ} {X : ℕ → Type 0} (f : Env → Copier) → Copying left f → (n : ℕ) (e : Known) (p : Pick) (k : ℕ) (v : Option FieldValue) → defaultIds k (declOf I p) ≡ optionIds v → Runs left d X (all n e (defaultAction (defaultScope p k) v)) (takeDefault I f (Scope.Default p k n) v)
   unfolding takeDefault
-  takeDefault-run f hf n e p k none eb g st ft = accepted (record { after = g; fits = ft; run = noAction })
-  takeDefault-run f hf n e p k (some v) eb g st ft =
-      bindOut (openScope-world (b .entry) st) (λ m s1 q. bindOut (value-run m b (f (denv m)) (hf (denv m) [] none-shown) v (withScope b g) s1 (opened-fits b g (st .world) m (s1 .world) ft q))
-      (λ v′ s2 r. accepted (record { after = r .after; fits = r .fits; run = thenDefault (defaultScope p k) refl (inner m s1 s2 (r .after) (q .number ∙ count-is g (st .world) ft) (q .after) (r .run)) noAction })))
+  takeDefault-run f hf n e p k none eb g st ft = accepted (record { after = g; fits = ft; run = noWithin })
+  takeDefault-run {left} {d} {X} f hf n e p k (some v) eb g st ft =
+      thenOut (openScope-world (b .entry) st) (λ c y x r. own r) (λ m s1 q. thenOut (value-run m b (f (denv m)) (hf d X (denv m) [] none-shown) v (withScope b g) s1 (opened-fits b g st m s1 ft q))
+      (shift (λ k′ m′ s j u y. inDefault (defaultScope p k) refl (inner (λ t w. Comes (graph I) t w k′ m′ s j u) m s1 (q .number ∙ count-is g st ft) (q .after) y)))
+      (λ v′ s2 r. accepted (record { after = r .after; fits = r .fits; run = defaultWithin (defaultScope p k) refl (inner (λ t w. Within (graph I) Fair left t w (see (r .after) (s2 .world))) m s1 (q .number ∙ count-is g st ft) (q .after) (r .run)) noWithin })))
     where
       b : Known
       b = defaultScope p k n
@@ -380,36 +644,36 @@ module _ (I : Input) where
       denv : ℕ → Env
       denv m = record { scope = m; entry = b .entry; isValues = none }
 
-      inner : (m : ℕ) (s1 s2 : State) (u : Unseen) → m ≡ length (g .scopes) → s1 .world ≡ record { map = st .world .map; ledger = st .world .ledger; scopes = st .world .scopes ++ (b .entry ∷ []) }
-          → Run (graph I) (all m b (map copyId (dataIds (v .«data»)))) (see (withScope b g) (s1 .world)) (see u (s2 .world)) → Run (graph I) (all (length (g .scopes)) b (map copyId (defaultIds k (declOf I p)))) (addDefault b (see g (st .world))) (see u (s2 .world))
-      inner m s1 s2 u em ew r =
-          rw eb (subst (λ (x : ℕ). Run (graph I) (all x b (map copyId (dataIds (v .«data»)))) (addDefault b (see g (st .world))) (see u (s2 .world))) em (subst (λ (x : World). Run (graph I) (all m b (map copyId (dataIds (v .«data»)))) (see (withScope b g) x) (see u (s2 .world))) ew r))
+      inner : (P : Task Known → Steps.World Known → Type 0) (m : ℕ) (s1 : State) → m ≡ length (g .scopes) → s1 .world ≡ record { map = st .world .map; ledger = st .world .ledger; scopes = st .world .scopes ++ (b .entry ∷ []) }
+          → P (all m b (map copyId (dataIds (v .«data»)))) (see (withScope b g) (s1 .world)) → P (all (length (g .scopes)) b (map copyId (defaultIds k (declOf I p)))) (addDefault b (see g (st .world)))
+      inner P m s1 em ew r =
+          rw eb (subst (λ (x : ℕ). P (all x b (map copyId (dataIds (v .«data»)))) (addDefault b (see g (st .world)))) em (subst (λ (x : World). P (all m b (map copyId (dataIds (v .«data»)))) (see (withScope b g) x)) ew r))
 
   -- The value of one interface: a default is taken exactly where the field gives none.
-  interfaceValue-run : (f : Env → Copier) → Copying f → (env : Env) (names : List ℕ) → Shows env names → (p : Pick) (k : ℕ) (default : Option FieldValue) → defaultIds k (declOf I p) ≡ optionIds default → (given : Option FieldBinding)
-      → Runs (all (env .scope) (known env names) (valueActions (gives names given) (defaultScope p k) default given)) (interfaceValue I f env (Scope.Default p k (env .scope)) default given)
+  interfaceValue-run : {left d : ℕ} {X : ℕ → Type 0} (f : Env → Copier) → Copying left f → (env : Env) (names : List ℕ) → Shows env names → (p : Pick) (k : ℕ) (default : Option FieldValue) → defaultIds k (declOf I p) ≡ optionIds default → (given : Option FieldBinding)
+      → Runs left d X (all (env .scope) (known env names) (valueActions (gives names given) (defaultScope p k) default given)) (interfaceValue I f env (Scope.Default p k (env .scope)) default given)
   unfolding interfaceValue cloneOr
-  interfaceValue-run f hf env names hn p k default eb (some (FieldBinding.Value v)) = then-keep (value-run (env .scope) (known env names) (f env) (hf env names hn) v) (λ v′. keep-ret _)
-  interfaceValue-run f hf env names hn p k default eb (some (FieldBinding.Is t)) = rw (hn t) (is (andThen (env .isValues) (valueOf t)))
+  interfaceValue-run {d = d} {X} f hf env names hn p k default eb (some (FieldBinding.Value v)) = then-keep (value-run (env .scope) (known env names) (f env) (hf d X env names hn) v) (λ v′. keep-ret _)
+  interfaceValue-run {left} {d} {X} f hf env names hn p k default eb (some (FieldBinding.Is t)) = rw (hn t) (is (andThen (env .isValues) (valueOf t)))
     where
-      is : (o : Option FieldValue) → Runs (all (env .scope) (known env names) (valueActions (isSome o) (defaultScope p k) default (some (FieldBinding.Is t)))) (cloneOr I (takeDefault I f (Scope.Default p k (env .scope)) default) o)
+      is : (o : Option FieldValue) → Runs left d X (all (env .scope) (known env names) (valueActions (isSome o) (defaultScope p k) default (some (FieldBinding.Is t)))) (cloneOr I (takeDefault I f (Scope.Default p k (env .scope)) default) o)
       is none = takeDefault-run f hf (env .scope) (known env names) p k default eb
-      is (some v) = no-run (env .scope) (known env names) (keep-bind (clone-keep I v) (λ a. keep-ret _))
+      is (some v) = no-run (env .scope) (known env names) (keep-bind (clone-keep v) (λ a. keep-ret _))
   interfaceValue-run f hf env names hn p k default eb none = takeDefault-run f hf (env .scope) (known env names) p k default eb
 
   -- The element behind a list stands at its length.
-  at-length : {A : Type 0} (l : List A) (x : A) (r : List A) → getElem? (l ++ (x ∷ r)) (length l) ≡ some x
+  pub at-length : {A : Type 0} (l : List A) (x : A) (r : List A) → getElem? (l ++ (x ∷ r)) (length l) ≡ some x
   at-length [] x r = refl
   at-length (y ∷ l) x r = at-length l x r
 
   -- pre: the interfaces before these
-  values-run : (f : Env → Copier) → Copying f → (env : Env) (names : List ℕ) → Shows env names → (p : Pick) (fields : List Field) (decl : ProtoDecl) → declOf I p ≡ some decl → (l pre : List InterfaceDecl) (k : ℕ) (vs : Values) → pre ++ l ≡ decl .interface → length pre ≡ k
-      → Runs (all (env .scope) (known env names) (interfaceActions names p fields k l)) (values I f env p fields k l vs)
+  values-run : {left d : ℕ} {X : ℕ → Type 0} (f : Env → Copier) → Copying left f → (env : Env) (names : List ℕ) → Shows env names → (p : Pick) (fields : List Field) (decl : ProtoDecl) → declOf I p ≡ some decl → (l pre : List InterfaceDecl) (k : ℕ) (vs : Values) → pre ++ l ≡ decl .interface → length pre ≡ k
+      → Runs left d X (all (env .scope) (known env names) (interfaceActions names p fields k l)) (values I f env p fields k l vs)
   unfolding values
   values-run f hf env names hn p fields decl ep [] pre k vs el ek = no-run (env .scope) (known env names) (keep-ret vs)
   values-run f hf env names hn p fields decl ep (d ∷ l) pre k vs el ek =
       then-run (env .scope) (known env names) (interfaceValue-run f hf env names hn p k (d .value) ids (lastField (d .name) fields))
-      (λ v. keep-then (store-keep I (d .name) vs v) (λ vs′. values-run f hf env names hn p fields decl ep l (pre ++ (d ∷ [])) (suc k) vs′ (append-assoc pre (d ∷ []) l ∙ el) (omega (arith, length-append pre (d ∷ [])))))
+      (λ v. keep-then (store-keep (d .name) vs v) (λ vs′. values-run f hf env names hn p fields decl ep l (pre ++ (d ∷ [])) (suc k) vs′ (append-assoc pre (d ∷ []) l ∙ el) (omega (arith, length-append pre (d ∷ [])))))
     where
       this : getElem? (decl .interface) k ≡ some d
       this = rw (← el, ← ek) (at-length pre d l)
@@ -417,123 +681,185 @@ module _ (I : Input) where
       ids : defaultIds k (declOf I p) ≡ optionIds (d .value)
       ids = ap (defaultIds k) ep ∙ ap (λ (x : Option InterfaceDecl). optionIds (andThen x (λ y. y .value))) this
 
-  -- ---- the body of the instance i of env's scope, in the scope inner, where these names have a value
+  -- ---- the body of the instance i of env's scope, in the scope inner, where these names have a value; X: the extern ids that stand in it
 
-  module _ (f : Env → Copier) (hf : Copying f) (env : Env) (i : ℕ) (inner : Env) (names : List ℕ) (hn : Shows inner names) where
+  module _ (left : ℕ) (f : Env → Copier) (hf : Copying left f) (env : Env) (i : ℕ) (inner : Env) (names : List ℕ) (hn : Shows inner names) (X : ℕ → Type 0) where
+    abbrev Own : ℕ → ℕ → ℕ → Type 0
+    Own c d x = Short (src inner) X c d x
+
     -- a statement that is no Node leaves the root and the world as they are
-    record Passed (root : Option ℕ) (w : World) (b : Body) (w′ : World) : Type 0 where
+    record Passed (root : Option ℕ) (st : State) (b : Body) (st′ : State) : Type 0 where
       root′ : b .root ≡ root
-      world : w′ ≡ w
+      same : Same st st′
 
     -- An ExternProto statement of a body.
-    externBody : (x : ℕ) (b : Body) (root : Option ℕ) → b .root ≡ root → (st : State) → Out (λ c st′. Passed root (st .world) c (st′ .world)) (bodyStatement I f env i inner b (Statement.ExternProto x) st)
+    externBody : (x : ℕ) → X x → (b : Body) (root : Option ℕ) → b .root ≡ root → (st : State) → Valid st → Outcome Own (λ c st′. Passed root st c st′ × StatementFine (src inner) (Statement.ExternProto x)) (bodyStatement I f env i inner b (Statement.ExternProto x) st)
     unfolding bodyStatement
-    externBody x b root q st = bindOut (externProto-keep I inner x st) (λ m s1 h. accepted (record { root′ = q; world = h }))
+    externBody x hx b root q st v = bindOut (both _ (externProto-keep inner refl x hx st) (extern-fine inner x st v)) (λ m s1 h. accepted (record { root′ = q; same = h .0 }, λ y r. let e : x ≡ y = cc in rw (← e) (h .1)))
 
     -- A Route of a body.
-    routeBody : (r : Route) (b : Body) (root : Option ℕ) → b .root ≡ root → (st : State) → Out (λ c st′. Passed root (st .world) c (st′ .world)) (bodyStatement I f env i inner b (Statement.Route r) st)
+    routeBody : (r : Route) (b : Body) (root : Option ℕ) → b .root ≡ root → (st : State) → Outcome Own (λ c st′. Passed root st c st′) (bodyStatement I f env i inner b (Statement.Route r) st)
     unfolding bodyStatement paid bindR
-    routeBody r b root q st = bindOut (charge-keep I st) (λ m s1 h. accepted (record { root′ = q; world = h }))
+    routeBody r b root q st = bindOut (charge-keep st) (λ m s1 h. accepted (record { root′ = q; same = h }))
+
+    abbrev Others : List ℕ → Task Known
+    Others l = all (inner .scope) (known inner names) (map copyId l)
 
     -- once the root stands, the body copies its other Nodes
-    record More (o : ℕ) (l : List ℕ) (g : Unseen) (w : World) (b : Body) (w′ : World) : Type 0 where
+    record More (o : ℕ) (l : List ℕ) (F : Type 0) (g : Unseen) (st : State) (b : Body) (st′ : State) : Type 0 where
       root : b .root ≡ some o
-      ran : Ran (all (inner .scope) (known inner names) (map copyId l)) g w w′
+      ran : Ran left (Others l) g st st′
+      fine : F
 
     -- A further Node of a body is no new root.
-    place-more : (o new : ℕ) (b : Body) (root : Option ℕ) → root ≡ some o → (st : State) → Out (λ c st′. Passed (some o) (st .world) c (st′ .world)) (place I env i new b root st)
+    place-more : (o new : ℕ) (b : Body) (root : Option ℕ) → root ≡ some o → (st : State) → Outcome Own (λ c st′. Passed (some o) st c st′) (place I env i new b root st)
     unfolding place paid bindR
     place-more o new b none q st = absurd (let z : _≡_ {A = ℕ} 0 1 = cc in omega arith)
-    place-more o new b (some root) q st = bindOut (charge-keep I st) (λ u s1 h. accepted (record { root′ = q; world = h }))
+    place-more o new b (some root) q st = bindOut (charge-keep st) (λ u s1 h. accepted (record { root′ = q; same = h }))
 
     -- A statement that is no Node copies nothing.
-    passed-more : {o : ℕ} {g : Unseen} {w w′ : World} {b : Body} → Fits g w → Passed (some o) w b w′ → More o [] g w b w′
-    passed-more {g = g} ft h = record { root = h .root′; ran = upto (h .world) (record { after = g; fits = ft; run = noAction }) }
+    passed-more : {o : ℕ} {F : Type 0} {g : Unseen} {st st′ : State} {b : Body} → Fits g st → F → Passed (some o) st b st′ → More o [] F g st b st′
+    passed-more {g = g} ft k h = record { fine = k; root = h .root′; ran = upto (h .same) (record { after = g; fits = ft; run = noWithin }) }
+
+    abbrev MoreStop : List ℕ → Steps.World Known → ℕ → ℕ → ℕ → Type 0
+    MoreStop l w c d x = Stop left (src inner) X (Others l) w c d x
 
     -- One statement, once the root stands.
-    statement-more : (o : ℕ) (b : Body) → b .root ≡ some o → (s : Statement) (g : Unseen) (st : State) → Fits g (st .world) → Out (λ c st′. More o (statementIds s) g (st .world) c (st′ .world)) (bodyStatement I f env i inner b s st)
+    statement-more : (o : ℕ) (b : Body) → b .root ≡ some o → (s : Statement) → ((x : ℕ) → s ≡ Statement.ExternProto x → X x) → (g : Unseen) (st : State) → Fits g st → Outcome (MoreStop (statementIds s) (see g (st .world))) (λ c st′. More o (statementIds s) (StatementFine (src inner) s) g st c st′) (bodyStatement I f env i inner b s st)
     unfolding bodyStatement
-    statement-more o b q (Statement.Node j) g st ft =
-        bindOut (hf inner names hn j g st ft) (λ new s1 r. mapOut (place-more o new b (b .root) q s1) (λ c s2 h. record { root = h .root′; ran = upto (h .world) (record { after = r .after; fits = r .fits; run = thenCopy (r .run) noAction }) }))
-    statement-more o b q (Statement.Proto p) g st ft = accepted (passed-more ft (record { root′ = q; world = refl }))
-    statement-more o b q (Statement.ExternProto x) g st ft = mapOut (externBody x b (some o) q st) (λ c s h. passed-more ft h)
-    statement-more o b q (Statement.Route r) g st ft = mapOut (routeBody r b (some o) q st) (λ c s h. passed-more ft h)
-    statement-more o b q (Statement.Other p) g st ft = accepted (passed-more ft (record { root′ = q; world = refl }))
+    statement-more o b q (Statement.Node j) hx g st ft =
+        thenOut (hf (src inner) X inner names hn j g st ft) (shift (λ k m s i′ v y. inCopy y)) (λ new s1 r. turnOut (place-more o new b (b .root) q s1) (λ c d x y. own y) (λ c s2 h. record { fine = λ x q. absurd (let z : _≡_ {A = ℕ} 0 1 = cc in omega arith); root = h .root′; ran = upto (h .same) (record { after = r .after; fits = r .fits; run = copyWithin (r .run) noWithin }) }))
+    statement-more o b q (Statement.Proto p) hx g st ft = accepted (passed-more ft (λ x y. absurd (let z : _≡_ {A = ℕ} 0 1 = cc in omega arith)) (record { root′ = q; same = itself st }))
+    statement-more o b q (Statement.ExternProto x) hx g st ft = turnOut (externBody x (hx x refl) b (some o) q st (ft .valid)) (λ c d x y. own y) (λ c s h. passed-more ft (h .1) (h .0))
+    statement-more o b q (Statement.Route r) hx g st ft = turnOut (routeBody r b (some o) q st) (λ c d x y. own y) (λ c s h. passed-more ft (λ x y. absurd (let z : _≡_ {A = ℕ} 0 1 = cc in omega arith)) h)
+    statement-more o b q (Statement.Other p) hx g st ft = accepted (passed-more ft (λ x y. absurd (let z : _≡_ {A = ℕ} 0 1 = cc in omega arith)) (record { root′ = q; same = itself st }))
+
+    -- the extern ids of these statements
+    abbrev Externs : List Statement → Type 0
+    Externs l = (x : ℕ) → List·Memᴰ (Statement.ExternProto x) l → X x
 
     -- The statements left, once the root stands.
-    body-more : (o : ℕ) (b : Body) → b .root ≡ some o → (l : List Statement) (g : Unseen) (st : State) → Fits g (st .world) → Out (λ c st′. More o (flat statementIds l) g (st .world) c (st′ .world)) (foldM (bodyStatement I f env i inner) b l st)
+    body-more : (o : ℕ) (b : Body) → b .root ≡ some o → (l : List Statement) → Externs l → (g : Unseen) (st : State) → Fits g st → Outcome (MoreStop (flat statementIds l) (see g (st .world))) (λ c st′. More o (flat statementIds l) (AllFine (src inner) l) g st c st′) (foldM (bodyStatement I f env i inner) b l st)
     unfolding foldM
-    body-more o b q [] g st ft = accepted (record { root = q; ran = record { after = g; fits = ft; run = noAction } })
-    body-more o b q (s ∷ l) g st ft = bindOut (statement-more o b q s g st ft) (λ c s1 h. mapOut (body-more o c (h .root) l (h .ran .after) s1 (h .ran .fits)) (λ c′ s2 k. record {
-      root = k .root;
-      ran = record { after = k .ran .after; fits = k .ran .fits; run = rw map-append (append-run (h .ran .run) (k .ran .run)) };
-    }))
+    body-more o b q [] hx g st ft = accepted (record { fine = none-fine (src inner); root = q; ran = record { after = g; fits = ft; run = noWithin } })
+    body-more o b q (s ∷ l) hx g st ft =
+        thenOut (statement-more o b q s (λ x e. hx x (List·Memᴰ·head (sym e))) g st ft) (shift (λ k m s′ j v y. rw map-append (comes-left (map copyId (flat statementIds l)) y)))
+        (λ c s1 h. turnOut (body-more o c (h .root) l (λ x m. hx x (List·Memᴰ·tail m)) (h .ran .after) s1 (h .ran .fits)) (shift (λ k m s′ j v y. rw map-append (comes-right (within-run (h .ran .run)) y))) (λ c′ s2 k. record {
+          fine = cons-fine (src inner) (h .fine) (k .fine);
+          root = k .root;
+          ran = record { after = k .ran .after; fits = k .ran .fits; run = rw map-append (append-within (h .ran .run) (k .ran .run)) };
+        }))
 
     -- the first Node of the body: its copy, then the instance's map entry
-    record FirstNode (j : ℕ) (g : Unseen) (w : World) (b : Body) (w′ : World) : Type 0 where
+    record FirstNode (j : ℕ) (g : Unseen) (st : State) (b : Body) (st′ : State) : Type 0 where
       out : ℕ
       root : b .root ≡ some out
       mid : World
       after : Unseen
-      fits : Fits after w′
-      run : Run (graph I) (one (inner .scope) (known inner names) j) (see g w) (see after mid)
-      mapped : see after w′ ≡ addMapped (env .scope) i (see after mid)
+      fits : Fits after st′
+      run : Within (graph I) Fair left (one (inner .scope) (known inner names) j) (see g (st .world)) (see after mid)
+      mapped : see after (st′ .world) ≡ addMapped (env .scope) i (see after mid)
 
     -- The first Node is the root, and the instance is mapped.
-    place-first : (j new : ℕ) (b : Body) (root : Option ℕ) → root ≡ none → (g : Unseen) (w : World) (st : State) → Ran (one (inner .scope) (known inner names) j) g w (st .world) → Out (λ c st′. FirstNode j g w c (st′ .world)) (place I env i new b root st)
+    place-first : (j new : ℕ) (b : Body) (root : Option ℕ) → root ≡ none → (g : Unseen) (w st : State) → Ran left (one (inner .scope) (known inner names) j) g w st → Outcome Own (λ c st′. FirstNode j g w c st′) (place I env i new b root st)
     unfolding place
     place-first j new b (some root) q g w st r = absurd (let z : _≡_ {A = ℕ} 0 1 = cc in omega arith)
     place-first j new b none q g w st r =
-        bindOut (charge-keep I st) (λ u s1 h. accepted (record { out = new; root = refl; mid = st .world; after = r .after; fits = r .fits ∙ ap (λ (x : World). x .scopes) (sym h); run = r .run; mapped = ap (λ (x : World). addMapped (env .scope) i (see (r .after) x)) h }))
+        bindOut (charge-keep st) (λ u s1 h. accepted (record {
+          out = new;
+          root = refl;
+          mid = st .world;
+          after = r .after;
+          fits = let k : Fits (r .after) s1 = fits-from (r .after) h (r .fits) in record { entries = k .entries; listed = k .listed; room = k .room; valid = k .valid };
+          run = r .run;
+          mapped = ap (λ (x : World). addMapped (env .scope) i (see (r .after) x)) (h .world);
+        }))
 
     -- a body that has a root: its first Node, the instance's map entry, its other Nodes
-    record Rooted (l : List ℕ) (g : Unseen) (w w′ : World) : Type 0 where
+    record Rooted (l : List ℕ) (g : Unseen) (st st′ : State) : Type 0 where
       r : ℕ
       rs : List ℕ
       mid : World
       between : Unseen
       after : Unseen
-      fits : Fits after w′
+      fits : Fits after st′
       ids : l ≡ r ∷ rs
-      first : Run (graph I) (one (inner .scope) (known inner names) r) (see g w) (see between mid)
-      others : Run (graph I) (all (inner .scope) (known inner names) (map copyId rs)) (addMapped (env .scope) i (see between mid)) (see after w′)
+      first : Within (graph I) Fair left (one (inner .scope) (known inner names) r) (see g (st .world)) (see between mid)
+      others : Within (graph I) Fair left (Others rs) (addMapped (env .scope) i (see between mid)) (see after (st′ .world))
 
     -- The same, from an equal world.
-    rooted-from : {l : List ℕ} {g : Unseen} {u v w : World} → v ≡ u → Rooted l g v w → Rooted l g u w
-    rooted-from {g = g} q x = record { r = x .r; rs = x .rs; mid = x .mid; between = x .between; after = x .after; fits = x .fits; ids = x .ids; first = subst (λ (y : World). Run (graph I) (one (inner .scope) (known inner names) (x .r)) (see g y) (see (x .between) (x .mid))) q (x .first); others = x .others }
+    rooted-from : {l : List ℕ} {g : Unseen} {u v w : State} → Same u v → Rooted l g v w → Rooted l g u w
+    rooted-from {g = g} q x = record { r = x .r; rs = x .rs; mid = x .mid; between = x .between; after = x .after; fits = x .fits; ids = x .ids; first = subst (λ (y : World). Within (graph I) Fair left (one (inner .scope) (known inner names) (x .r)) (see g y) (see (x .between) (x .mid))) (q .world) (x .first); others = x .others }
 
-    data BodyRan (l : List ℕ) (g : Unseen) (w : World) (b : Body) (w′ : World) : Type 0 where
-      rootless : b .root ≡ none → BodyRan l g w b w′
-      rooted : Rooted l g w w′ → BodyRan l g w b w′
+    data BodyRan (l : List ℕ) (F : Type 0) (g : Unseen) (st : State) (b : Body) (st′ : State) : Type 0 where
+      rootless : b .root ≡ none → l ≡ [] → BodyRan l F g st b st′
+      rooted : (o : ℕ) → b .root ≡ some o → F → Rooted l g st st′ → BodyRan l F g st b st′
 
     -- The same of any body.
-    ran-from : {l : List ℕ} {g : Unseen} {u v w : World} {b : Body} → v ≡ u → BodyRan l g v b w → BodyRan l g u b w
-    ran-from q (rootless h) = rootless h
-    ran-from q (rooted x) = rooted (rooted-from q x)
+    ran-from : {l : List ℕ} {E F : Type 0} {g : Unseen} {u v w : State} {b : Body} → (E → F) → Same u v → BodyRan l E g v b w → BodyRan l F g u b w
+    ran-from k q (rootless h e) = rootless h e
+    ran-from k q (rooted o h y x) = rooted o h (k y) (rooted-from q x)
+
+    -- what stops a body: its own reason, or its first Node, or another
+    data BodyStop (l : List ℕ) (w : Steps.World Known) : ℕ → ℕ → ℕ → Type 0 where
+      ownStop : {c d x : ℕ} → Own c d x → BodyStop l w c d x
+      firstStop : {c d x : ℕ} (r : ℕ) (rs : List ℕ) → l ≡ r ∷ rs → Stop left (src inner) X (one (inner .scope) (known inner names) r) w c d x → BodyStop l w c d x
+      otherStop : {c d x : ℕ} (r : ℕ) (rs : List ℕ) → l ≡ r ∷ rs → (mid : Steps.World Known) → Run (graph I) (one (inner .scope) (known inner names) r) w mid → MoreStop rs (addMapped (env .scope) i mid) c d x → BodyStop l w c d x
+
+    -- The same, from an equal world.
+    body-stop-from : {l : List ℕ} (g : Unseen) {u v : State} → Same u v → (c d x : ℕ) → BodyStop l (see g (v .world)) c d x → BodyStop l (see g (u .world)) c d x
+    body-stop-from {l} g q c d x r = subst (λ (y : World). BodyStop l (see g y) c d x) (q .world) r
 
     -- A body from its start on.
-    body-first : (b : Body) → b .root ≡ none → (l : List Statement) (g : Unseen) (st : State) → Fits g (st .world) → Out (λ c st′. BodyRan (flat statementIds l) g (st .world) c (st′ .world)) (foldM (bodyStatement I f env i inner) b l st)
+    body-first : (b : Body) → b .root ≡ none → (l : List Statement) → Externs l → (g : Unseen) (st : State) → Fits g st → Outcome (BodyStop (flat statementIds l) (see g (st .world))) (λ c st′. BodyRan (flat statementIds l) (AllFine (src inner) l) g st c st′) (foldM (bodyStatement I f env i inner) b l st)
     unfolding foldM bodyStatement bindR
-    body-first b q [] g st ft = accepted (rootless q)
-    body-first b q (Statement.Node j ∷ l) g st ft =
-        bindOut (bindOut (hf inner names hn j g st ft) (λ new s1 r. place-first j new b (b .root) q g (st .world) s1 r)) (λ c s2 h. mapOut (body-more (h .out) c (h .root) l (h .after) s2 (h .fits))
-        (λ c′ s3 k. rooted (record { r = j; rs = flat statementIds l; mid = h .mid; between = h .after; after = k .ran .after; fits = k .ran .fits; ids = refl; first = h .run; others = rw (h .mapped) at (k .ran .run) })))
-    body-first b q (Statement.Proto p ∷ l) g st ft = body-first b q l g st ft
-    body-first b q (Statement.ExternProto x ∷ l) g st ft = bindOut (externBody x b none q st) (λ c s1 h. mapOut (body-first c (h .root′) l g s1 (fits-from g (h .world) ft)) (λ c′ s2 k. ran-from (h .world) k))
-    body-first b q (Statement.Route r ∷ l) g st ft = bindOut (routeBody r b none q st) (λ c s1 h. mapOut (body-first c (h .root′) l g s1 (fits-from g (h .world) ft)) (λ c′ s2 k. ran-from (h .world) k))
-    body-first b q (Statement.Other p ∷ l) g st ft = body-first b q l g st ft
+    body-first b q [] hx g st ft = accepted (rootless q refl)
+    body-first b q (Statement.Node j ∷ l) hx g st ft =
+        bindOut (thenOut (hf (src inner) X inner names hn j g st ft) (λ c d x y. firstStop j (flat statementIds l) refl y) (λ new s1 r. turnOut (place-first j new b (b .root) q g st s1 r) (λ c d x y. ownStop y) (λ c s2 h. h))) (λ c s2 h. turnOut (body-more (h .out) c (h .root) l (λ x m. hx x (List·Memᴰ·tail m)) (h .after) s2 (h .fits))
+        (λ c′ d x y. otherStop j (flat statementIds l) refl (see (h .after) (h .mid)) (within-run (h .run)) (rw (h .mapped) at y))
+        (λ c′ s3 k. rooted (h .out) (k .root) (cons-fine (src inner) (λ x y. absurd (let z : _≡_ {A = ℕ} 0 1 = cc in omega arith)) (k .fine)) (record { r = j; rs = flat statementIds l; mid = h .mid; between = h .after; after = k .ran .after; fits = k .ran .fits; ids = refl; first = h .run; others = rw (h .mapped) at (k .ran .run) })))
+    body-first b q (Statement.Proto p ∷ l) hx g st ft = mapOut (body-first b q l (λ x m. hx x (List·Memᴰ·tail m)) g st ft) (λ c s k. ran-from (λ y. (cons-fine (src inner) (λ x y. absurd (let z : _≡_ {A = ℕ} 0 1 = cc in omega arith)) y)) (itself st) k)
+    body-first b q (Statement.ExternProto x ∷ l) hx g st ft =
+        thenOut (externBody x (hx x (List·Memᴰ·head refl)) b none q st (ft .valid)) (λ c d y r. ownStop r) (λ c s1 h. turnOut (body-first c (h .0 .root′) l (λ y m. hx y (List·Memᴰ·tail m)) g s1 (fits-from g (h .0 .same) ft)) (body-stop-from g (h .0 .same)) (λ c′ s2 k. ran-from (λ y. cons-fine (src inner) (h .1) y) (h .0 .same) k))
+    body-first b q (Statement.Route r ∷ l) hx g st ft =
+        thenOut (routeBody r b none q st) (λ c d y r. ownStop r) (λ c s1 h. turnOut (body-first c (h .root′) l (λ y m. hx y (List·Memᴰ·tail m)) g s1 (fits-from g (h .same) ft)) (body-stop-from g (h .same)) (λ c′ s2 k. ran-from (λ y. (cons-fine (src inner) (λ x y. absurd (let z : _≡_ {A = ℕ} 0 1 = cc in omega arith)) y)) (h .same) k))
+    body-first b q (Statement.Other p ∷ l) hx g st ft = mapOut (body-first b q l (λ x m. hx x (List·Memᴰ·tail m)) g st ft) (λ c s k. ran-from (λ y. (cons-fine (src inner) (λ x y. absurd (let z : _≡_ {A = ℕ} 0 1 = cc in omega arith)) y)) (itself st) k)
+
+  -- A body that starts from no id has no Node statement.
+  no-node : (l : List Statement) → flat statementIds l ≡ [] → (j : ℕ) → List·Memᴰ (Statement.Node j) l → ⊥
+  no-node l q j m = List·Memᴰ·not-nil (rw q at (in-flat l m))
+    where
+      in-flat : (l : List Statement) → List·Memᴰ (Statement.Node j) l → List·Memᴰ j (flat statementIds l)
+      in-flat [] m = absurd (List·Memᴰ·not-nil m)
+      in-flat (s ∷ l) m = at (in-flat l) (List·Memᴰ·cases-cons m)
+        where
+          at : (List·Memᴰ (Statement.Node j) l → List·Memᴰ j (flat statementIds l)) → (Statement.Node j ≡ s) ⊎ List·Memᴰ (Statement.Node j) l → List·Memᴰ j (statementIds s ++ flat statementIds l)
+          at k (inl e) = subst (λ (x : Statement). List·Memᴰ j (statementIds x ++ flat statementIds l)) e (List·Memᴰ·head refl)
+          at k (inr h) = Memᴰ·append-right (statementIds s) (k h)
 
   -- An instance.
-  instantiate-run : (f : Env → Copier) → Copying f → (env : Env) (names : List ℕ) → Shows env names → (i : ℕ) (node : Node) (p : Pick) → Node′ env i node (some p) → (g : Unseen) (st : State) → Fits g (st .world) → (Mapped (see g (st .world)) (env .scope) i → ⊥)
-      → (decl : Option ProtoDecl) → declOf I p ≡ decl → Out (λ o st′. Ran (one (env .scope) (known env names) i) g (st .world) (st′ .world)) (instantiate I f env i node p decl st)
+  instantiate-run : (left : ℕ) (f : Env → Copier) → Copying left f → (d : ℕ) (X : ℕ → Type 0) (env : Env) (names : List ℕ) → Shows env names → (i : ℕ) (node : Node) (p : Pick) → Node′ env i node (some p) → (g : Unseen) (st : State) → Fits g st → (Mapped (see g (st .world)) (env .scope) i → ⊥)
+      → (decl : Option ProtoDecl) → declOf I p ≡ decl → Outcome (Stop (suc left) d X (one (env .scope) (known env names) i) (see g (st .world))) (λ o st′. Ran (suc left) (one (env .scope) (known env names) i) g st st′) (instantiate I f env i node p decl st)
   unfolding instantiate rootOf bindR
-  instantiate-run f hf env names hn i node p h g st ft un none ep = refused tt
-  instantiate-run f hf env names hn i node p h g st ft un (some decl) ep =
-      bindOut (both _ (values-run f hf env names hn p (node .fields) decl ep (decl .interface) [] 0 [] refl refl g st ft) (values-shown I f env names hn p (node .fields) (decl .interface) st))
-      (λ vs s1 x. bindOut (openScope-world (b .entry) s1)
-      (λ n s2 q. bindOut (body-first f hf env i (inner n vs) ns (x .1) (record { root = none; extraRoots = []; routes = [] }) refl (decl .body) (begun s1 (x .0)) s2 (opened-fits b (x .0 .after) (s1 .world) n (s2 .world) (x .0 .fits) q))
+  instantiate-run left f hf d X env names hn i node p h g st ft un none ep = refused (fault here un (omega arith) (six p (record { node = node; there = h .there; instance = h .proto }) ep))
+  instantiate-run left f hf d X env names hn i node p h g st ft un (some decl) ep =
+      thenOut (both _ (values-run {d = d} {X = X} f hf env names hn p (node .fields) decl ep (decl .interface) [] 0 [] refl refl g st ft) (values-shown I f env names hn p (node .fields) (decl .interface) st))
+      (deeper (λ k m s j v y. inValues (bodyScope p ns) un kind (rw acts y)) (λ c e x r. own r))
+      (λ vs s1 x. thenOut (openScope-world (b .entry) s1) (λ c e x r. own r)
+      (λ n s2 q. thenOut (body-first left f hf env i (inner n vs) ns (x .1) Inside (record { root = none; extraRoots = []; routes = [] }) refl (decl .body) (λ y m. m) (begun s1 (x .0)) s2 (opener-fits (opened-fits b (x .0 .after) s1 n s2 (x .0 .fits) q)))
+      (stops n vs (x .1) s1 s2 (x .0) q)
       (λ c s3 rb. last n vs (x .1) s1 s2 (x .0) q c s3 rb (c .root) refl)))
     where
+      Target : ℕ → ℕ → ℕ → Type 0
+      Target c f x = Stop (suc left) d X (one (env .scope) (known env names) i) (see g (st .world)) c f x
+
+      at : InstanceAt I (known env names) i p
+      at = record { node = node; there = h .there; instance = h .proto }
+
+      -- the extern ids that stand in the body
+      Inside : ℕ → Type 0
+      Inside x = List·Memᴰ (Statement.ExternProto x) (decl .body)
+
       ns : List ℕ
       ns = flat (nameIfValued names (node .fields)) (decl .interface)
 
@@ -550,83 +876,143 @@ module _ (I : Input) where
       kind = kind-is env names i node (some p) h ∙ ap (λ (x : Option ProtoDecl). instanceNode (bodyScope p (bodyNames names (node .fields) x))) ep
 
       Valued : State → Type 0
-      Valued s1 = Ran (all (env .scope) (known env names) (interfaceActions names p (node .fields) 0 (decl .interface))) g (st .world) (s1 .world)
+      Valued s1 = Ran left (all (env .scope) (known env names) (interfaceActions names p (node .fields) 0 (decl .interface))) g st s1
 
       -- the instance is the opener of its body's scope
       begun : (s1 : State) → Valued s1 → Unseen
       begun s1 rv = withOpener (env .scope) i (withScope b (rv .after))
 
+      opener-fits : {u : Unseen} {s : State} → Fits u s → Fits (withOpener (env .scope) i u) s
+      opener-fits k = record { entries = k .entries; listed = k .listed; room = k .room; valid = k .valid }
+
+      vals : (s1 : State) (rv : Valued s1) → Within (graph I) Fair left (all (env .scope) (known env names) (graph I .actions (known env names) i)) (see g (st .world)) (see (rv .after) (s1 .world))
+      vals s1 rv = rw acts (rv .run)
+
+      starts : {r : ℕ} {rs : List ℕ} → flat statementIds (decl .body) ≡ r ∷ rs → bodyIds (declOf I p) ≡ r ∷ rs
+      starts q = ap bodyIds ep ∙ q
+
+      -- a task of the body, in the world that it starts from
+      enter : (P : Task Known → Steps.World Known → Type 0) (n : ℕ) (s1 s2 : State) (rv : Valued s1) → Opens (b .entry) s1 n s2 → (r : ℕ) → P (one n b r) (see (begun s1 rv) (s2 .world)) → P (one (length (rv .after .scopes)) b r) (addBody (env .scope) i b (see (rv .after) (s1 .world)))
+      enter P n s1 s2 rv q r y =
+          subst (λ (m : ℕ). P (one m b r) (addBody (env .scope) i b (see (rv .after) (s1 .world)))) (q .number ∙ count-is (rv .after) s1 (rv .fits)) (subst (λ (w : World). P (one n b r) (see (begun s1 rv) w)) (q .after) y)
+
+      renumber : (P : Task Known → Type 0) (n : ℕ) (s1 s2 : State) (rv : Valued s1) → Opens (b .entry) s1 n s2 → (rs : List ℕ) → P (all n b (map copyId rs)) → P (all (length (rv .after .scopes)) b (map copyId rs))
+      renumber P n s1 s2 rv q rs y = subst (λ (m : ℕ). P (all m b (map copyId rs))) (q .number ∙ count-is (rv .after) s1 (rv .fits)) y
+
+      -- the body's own reasons
+      mine : (s1 : State) → Valued s1 → (c f x : ℕ) → Short (p .document) Inside c f x → Target c f x
+      mine s1 rv c f x rows = own rows
+      mine s1 rv c f x (extern y m e) = fault here un (omega arith) (fourBody p at decl ep (see (rv .after) (s1 .world)) (within-run (vals s1 rv)) y m e)
+
+      -- where the body stops, the instance does
+      stops : (n : ℕ) (vs : Values) (hv : Shows (inner n vs) ns) (s1 s2 : State) (rv : Valued s1) → Opens (b .entry) s1 n s2
+          → (c e x : ℕ) → BodyStop left f hf env i (inner n vs) ns hv Inside (flat statementIds (decl .body)) (see (begun s1 rv) (s2 .world)) c e x → Target c e x
+      stops n vs hv s1 s2 rv q c e x (ownStop r) = mine s1 rv c e x r
+      stops n vs hv s1 s2 rv q c e x (firstStop r rs z y) = deeper (λ k m s j v u. inRoot (bodyScope p ns) r rs un kind refl (starts z) (within-run (vals s1 rv)) (enter (λ t w. Comes (graph I) t w k m s j v) n s1 s2 rv q r u)) (mine s1 rv) c e x y
+      stops n vs hv s1 s2 rv q c e x (otherStop r rs z mid a y) =
+          deeper (λ k m s j v u. inOthers (bodyScope p ns) r rs un kind refl (starts z) (within-run (vals s1 rv)) (enter (λ t w. Run (graph I) t w mid) n s1 s2 rv q r a) (renumber (λ t. Comes (graph I) t (addMapped (env .scope) i mid) k m s j v) n s1 s2 rv q rs u)) (mine s1 rv) c e x y
+
       -- the values, the scope, the body
-      whole : (n : ℕ) (vs : Values) (hv : Shows (inner n vs) ns) (s1 s2 : State) (w : World) (rv : Valued s1) → Opens (b .entry) (s1 .world) n (s2 .world)
-          → Rooted f hf env i (inner n vs) ns hv (flat statementIds (decl .body)) (begun s1 rv) (s2 .world) w → Ran (one (env .scope) (known env names) i) g (st .world) w
-      whole n vs hv s1 s2 w rv q x = record {
-        after = x .after;
-        fits = x .fits;
-        run = instanceStep (bodyScope p ns) (x .r) (x .rs) un kind refl (ap bodyIds ep ∙ x .ids) vals first others;
+      fair : AllFine (p .document) (decl .body) → Fair (known env names) i
+      fair fb = record {
+        ofPlain = λ node′ a. absurd (other node′ (one-node (h .there) (a .there)) (a .plain));
+        ofInstance = λ p′ a decl′ e. at-once p′ (one-pick (h .proto) (ap (λ (y : Node). protoOf I (src env) (y .origin)) (one-node (h .there) (a .there)) ∙ a .instance)) decl′ e;
       }
         where
-          number : n ≡ length (rv .after .scopes)
-          number = q .number ∙ count-is (rv .after) (s1 .world) (rv .fits)
+          one-node : {o : Option Node} {a b : Node} → o ≡ some a → o ≡ some b → a ≡ b
+          one-node p q = cc
 
-          vals : Run (graph I) (all (env .scope) (known env names) (graph I .actions (known env names) i)) (see g (st .world)) (see (rv .after) (s1 .world))
-          vals = rw acts (rv .run)
+          one-pick : {o : Option Pick} {a b : Pick} → o ≡ some a → o ≡ some b → a ≡ b
+          one-pick p q = cc
 
-          first : Run (graph I) (one (length (rv .after .scopes)) b (x .r)) (addBody (env .scope) i b (see (rv .after) (s1 .world))) (see (x .between) (x .mid))
-          first = subst (λ (y : ℕ). Run (graph I) (one y b (x .r)) (addBody (env .scope) i b (see (rv .after) (s1 .world))) (see (x .between) (x .mid))) number (subst (λ (y : World). Run (graph I) (one n b (x .r)) (see (begun s1 rv) y) (see (x .between) (x .mid))) (q .after) (x .first))
+          one-decl : {o : Option ProtoDecl} {a b : ProtoDecl} → o ≡ some a → o ≡ some b → a ≡ b
+          one-decl p q = cc
 
-          others : Run (graph I) (all (length (rv .after .scopes)) b (map copyId (x .rs))) (addMapped (env .scope) i (see (x .between) (x .mid))) (see (x .after) w)
-          others = subst (λ (y : ℕ). Run (graph I) (all y b (map copyId (x .rs))) (addMapped (env .scope) i (see (x .between) (x .mid))) (see (x .after) w)) number (x .others)
+          other : (node′ : Node) → node ≡ node′ → protoOf I (src env) (node′ .origin) ≡ none → ⊥
+          other node′ e q = clash (h .proto) (ap (λ (y : Node). protoOf I (src env) (y .origin)) e ∙ q)
+            where
+              clash : {o : Option Pick} {a : Pick} → o ≡ some a → o ≡ none → ⊥
+              clash a b = let z : _≡_ {A = ℕ} 0 1 = cc in omega arith
+
+          at-once : (p′ : Pick) → p ≡ p′ → (decl′ : ProtoDecl) → declOf I p′ ≡ some decl′ → AllFine (p′ .document) (decl′ .body)
+          at-once p′ e decl′ q = let d : decl ≡ decl′ = one-decl ep (ap (declOf I) e ∙ q) in subst (λ (y : Pick). AllFine (y .document) (decl′ .body)) e (subst (λ (y : ProtoDecl). AllFine (p .document) (y .body)) d fb)
+
+      whole : (n : ℕ) (vs : Values) (hv : Shows (inner n vs) ns) → AllFine (p .document) (decl .body) → (s1 s2 w : State) (rv : Valued s1) → Opens (b .entry) s1 n s2
+          → Rooted left f hf env i (inner n vs) ns hv Inside (flat statementIds (decl .body)) (begun s1 rv) s2 w → Ran (suc left) (one (env .scope) (known env names) i) g st w
+      whole n vs hv fb s1 s2 w rv q x = record {
+        after = x .after;
+        fits = x .fits;
+        run =
+            instanceWithin (bodyScope p ns) (x .r) (x .rs) un kind refl (starts (x .ids)) (fair fb) (vals s1 rv) (enter (λ t y. Within (graph I) Fair left t y (see (x .between) (x .mid))) n s1 s2 rv q (x .r) (x .first))
+            (renumber (λ t. Within (graph I) Fair left t (addMapped (env .scope) i (see (x .between) (x .mid))) (see (x .after) (w .world))) n s1 s2 rv q (x .rs) (x .others));
+      }
 
       -- 7 where there is no root; else the record, which leaves the world as it is
-      last : (n : ℕ) (vs : Values) (hv : Shows (inner n vs) ns) (s1 s2 : State) (rv : Valued s1) → Opens (b .entry) (s1 .world) n (s2 .world)
-          → (x : Body) (s3 : State) → BodyRan f hf env i (inner n vs) ns hv (flat statementIds (decl .body)) (begun s1 rv) (s2 .world) x (s3 .world) → (root : Option ℕ) → x .root ≡ root
-          → Out (λ o st′. Ran (one (env .scope) (known env names) i) g (st .world) (st′ .world)) ((rootOf p root >>= (λ o. charge I >>= (λ u. recordInstance (decl .name) (node .defName) n x o))) s3)
-      last n vs hv s1 s2 rv q x s3 (rootless y) none er = refused tt
-      last n vs hv s1 s2 rv q x s3 (rootless y) (some root) er = absurd (let z : _≡_ {A = ℕ} 0 1 = cc in omega arith)
-      last n vs hv s1 s2 rv q x s3 (rooted y) none er = refused tt
-      last n vs hv s1 s2 rv q x s3 (rooted y) (some root) er =
-          bindOut (charge-keep I s3) (λ u s4 q4. mapOut (recordInstance-keep (decl .name) (node .defName) n x root s4) (λ o s5 q5. upto (q5 ∙ q4) (whole n vs hv s1 s2 (s3 .world) rv q y)))
+      last : (n : ℕ) (vs : Values) (hv : Shows (inner n vs) ns) (s1 s2 : State) (rv : Valued s1) → Opens (b .entry) s1 n s2
+          → (x : Body) (s3 : State) → BodyRan left f hf env i (inner n vs) ns hv Inside (flat statementIds (decl .body)) (AllFine (p .document) (decl .body)) (begun s1 rv) s2 x s3 → (root : Option ℕ) → x .root ≡ root
+          → Outcome Target (λ o st′. Ran (suc left) (one (env .scope) (known env names) i) g st st′) ((rootOf p root >>= (λ o. charge I >>= (λ u. recordInstance (decl .name) (node .defName) n x o))) s3)
+      last n vs hv s1 s2 rv q x s3 (rootless y z) none er = refused (fault here un (omega arith) (seven p at decl ep (see (rv .after) (s1 .world)) (within-run (vals s1 rv)) (no-node (decl .body) z)))
+      last n vs hv s1 s2 rv q x s3 (rootless y z) (some root) er = absurd (let z : _≡_ {A = ℕ} 0 1 = cc in omega arith)
+      last n vs hv s1 s2 rv q x s3 (rooted o z fb y) none er = absurd (let z : _≡_ {A = ℕ} 0 1 = cc in omega arith)
+      last n vs hv s1 s2 rv q x s3 (rooted o z fb y) (some root) er =
+          thenOut (charge-keep s3) (λ c e x r. own r) (λ u s4 q4. turnOut (recordInstance-keep (decl .name) (node .defName) n x root s4) (λ c e x r. own r) (λ o′ s5 q5. upto (same-then q4 q5) (whole n vs hv fb s1 s2 s3 rv q y)))
 
   -- ---- the copier
 
   -- A node that is not mapped.
-  copyNode-run : (f : Env → Copier) → Copying f → (env : Env) (names : List ℕ) → Shows env names → (i : ℕ) (node : Node) → nodeIn I (env .entry) i ≡ some node → (g : Unseen) (st : State) → Fits g (st .world) → (Mapped (see g (st .world)) (env .scope) i → ⊥)
-      → (p : Option Pick) → protoOf I (src env) (node .origin) ≡ p → Out (λ o st′. Ran (one (env .scope) (known env names) i) g (st .world) (st′ .world)) (copyNode I f env i node p st)
+  copyNode-run : (left : ℕ) (f : Env → Copier) → Copying left f → (d : ℕ) (X : ℕ → Type 0) (env : Env) (names : List ℕ) → Shows env names → (i : ℕ) (node : Node) → nodeIn I (env .entry) i ≡ some node → (g : Unseen) (st : State) → Fits g st → (Mapped (see g (st .world)) (env .scope) i → ⊥)
+      → (p : Option Pick) → protoOf I (src env) (node .origin) ≡ p → Outcome (Stop (suc left) d X (one (env .scope) (known env names) i) (see g (st .world))) (λ o st′. Ran (suc left) (one (env .scope) (known env names) i) g st st′) (copyNode I f env i node p st)
   unfolding copyNode
-  copyNode-run f hf env names hn i node en g st ft un none ep = copyPlain-run f hf env names hn i node (record { there = en; proto = ep }) g st ft un
-  copyNode-run f hf env names hn i node en g st ft un (some p) ep = instantiate-run f hf env names hn i node p (record { there = en; proto = ep }) g st ft un (declOf I p) refl
+  copyNode-run left f hf d X env names hn i node en g st ft un none ep = copyPlain-run left f hf d X env names hn i node (record { there = en; proto = ep }) g st ft un
+  copyNode-run left f hf d X env names hn i node en g st ft un (some p) ep = instantiate-run left f hf d X env names hn i node p (record { there = en; proto = ep }) g st ft un (declOf I p) refl
 
   -- A mapped id answers; a node is copied.
-  mappedOr-run : (env : Env) (names : List ℕ) (i : ℕ) (next : Node → Comp ℕ) (g : Unseen) (st : State) → Fits g (st .world)
-      → ((node : Node) → nodeIn I (env .entry) i ≡ some node → (Mapped (see g (st .world)) (env .scope) i → ⊥) → Out (λ o st′. Ran (one (env .scope) (known env names) i) g (st .world) (st′ .world)) (next node st))
+  mappedOr-run : (left d : ℕ) (X : ℕ → Type 0) (env : Env) (names : List ℕ) (i : ℕ) (next : Node → Comp ℕ) (g : Unseen) (st : State) → Fits g st
+      → ((node : Node) → nodeIn I (env .entry) i ≡ some node → (Mapped (see g (st .world)) (env .scope) i → ⊥) → Outcome (Stop left d X (one (env .scope) (known env names) i) (see g (st .world))) (λ o st′. Ran left (one (env .scope) (known env names) i) g st st′) (next node st))
       → (o : Option ℕ) → lookup (st .world .map) (env .scope) i ≡ o → (node : Option Node) → nodeIn I (env .entry) i ≡ node
-      → Out (λ o′ st′. Ran (one (env .scope) (known env names) i) g (st .world) (st′ .world)) (mappedOr env i next o node st)
+      → Outcome (Stop left d X (one (env .scope) (known env names) i) (see g (st .world))) (λ o′ st′. Ran left (one (env .scope) (known env names) i) g st st′) (mappedOr env i next o node st)
   unfolding mappedOr
-  mappedOr-run env names i next g st ft h (some o) el node en = accepted (record { after = g; fits = ft; run = mappedStep (lookup-here (st .world .map) (env .scope) i o el) })
-  mappedOr-run env names i next g st ft h none el none en = refused tt
-  mappedOr-run env names i next g st ft h none el (some node) en = h node en (lookup-none (st .world .map) (env .scope) i el)
+  mappedOr-run left d X env names i next g st ft h (some o) el node en = accepted (record { after = g; fits = ft; run = mappedWithin (lookup-here (st .world .map) (env .scope) i o el) })
+  mappedOr-run left d X env names i next g st ft h none el none en = refused (lost here (lookup-none (st .world .map) (env .scope) i el) (omega arith) en)
+  mappedOr-run left d X env names i next g st ft h none el (some node) en = h node en (lookup-none (st .world .map) (env .scope) i el)
 
   -- The copier, at every depth.
-  copy-run : (left : ℕ) → Copying (copy I left)
+  copy-run : (left : ℕ) → Copying left (copy I left)
   unfolding copy
-  copy-run zero env names hn i g st ft = mappedOr-run env names i _ g st ft (λ node en un. refused tt) _ refl _ refl
-  copy-run (suc left) env names hn i g st ft = mappedOr-run env names i _ g st ft (λ node en un. copyNode-run (copy I left) (copy-run left) env names hn i node en g st ft un _ refl) _ refl _ refl
+  copy-run zero d X env names hn i g st ft = mappedOr-run zero d X env names i _ g st ft (λ node en un. refused (deep here un node en)) _ refl _ refl
+  copy-run (suc left) d X env names hn i g st ft = mappedOr-run (suc left) d X env names i _ g st ft (λ node en un. copyNode-run left (copy I left) (copy-run left) d X env names hn i node en g st ft un _ refl) _ refl _ refl
+
+  -- ---- the whole
 
   -- An accepted expansion is a whole run of the steps, and the state has the entries of its scopes; nothing is mapped before.
   pub record Whole (w : World) : Type 0 where
     pub after : Unseen
-    pub fits : Fits after w
-    pub run : WholeRun (graph I) (see after w)
+    pub fits : map entryOf (after .scopes) ≡ w .scopes
+    pub externs : AllFine 0 (I .root .statements)
+    pub within : Within (graph I) Fair (I .limits .maxDepth) (all 0 (graph I .root) (map copyId (graph I .starts (graph I .root)))) (firstWorld (graph I .root)) (see after w)
 
-  pub statements-run : Out (λ l st′. Whole (st′ .world)) (statements I start)
-  unfolding statements
+  pub whole-run : {w : World} (h : Whole w) → WholeRun (graph I) (see (h .after) w)
+  whole-run h = within-run (h .within)
+
+  -- A refused one stops on the way: a row too many, or what `Refusal` says.
+  pub data Halt : ℕ → ℕ → ℕ → Type 0 where
+    noRow : Halt 10 0 0
+    because : {c d i : ℕ} → Refusal I c d i → Halt c d i
+
+  pub statements-run : Outcome Halt (λ l st′. Whole (st′ .world)) (statements I start)
+  unfolding statements lookupExtern
   statements-run =
-      bindOut (charge-keep I start) (λ a s1 e1. bindOut (charge-keep I s1) (λ b s2 e2. bindOut (openScope-world Scope.Root s2)
-      (λ n s3 q. bindOut (mapM-run 0 top _ statementIds (statement-run 0 top (copy I (I .limits .maxDepth) rootEnv) (copy-run (I .limits .maxDepth) rootEnv [] none-shown) rootEnv) (I .root .statements) g s3 (fits-from g (root-open s2 s3 (e2 ∙ e1) (q .after)) refl))
-      (λ l s4 r. accepted (record { after = r .after; fits = r .fits; run = whole s3 s4 (r .after) (root-open s2 s3 (e2 ∙ e1) (q .after)) (r .run) })))))
+      thenOut (charge-keep start) short (λ a s1 e1. thenOut (charge-keep s1) short (λ b s2 e2. thenOut (openScope-world Scope.Root s2) short
+      (λ n s3 q. thenOut (tops-run 0 top (copy I (I .limits .maxDepth) rootEnv) (copy-run (I .limits .maxDepth) 0 Outside rootEnv [] none-shown) rootEnv refl (I .root .statements) (λ x m. m) g s3 (fits n s2 s3 (same-then e1 e2) q))
+      (λ c d x r. halt c d x (subst (λ (w : World). Stop (I .limits .maxDepth) 0 Outside (all 0 top (map copyId (flat statementIds (I .root .statements)))) (see g w) c d x) (root-open s2 s3 ((same-then e1 e2) .world) (q .after)) r))
+      (λ l s4 r. accepted (record { after = r .0 .after; fits = r .0 .fits .entries; externs = r .1; within = whole s3 s4 (r .0 .after) (root-open s2 s3 ((same-then e1 e2) .world) (q .after)) (r .0 .run) })))))
     where
       top : Known
       top = graph I .root
+
+      -- the extern ids of the top statements
+      Outside : ℕ → Type 0
+      Outside x = List·Memᴰ (Statement.ExternProto x) (I .root .statements)
 
       g : Unseen
       g = record { openers = []; scopes = top ∷ [] }
@@ -637,5 +1023,28 @@ module _ (I : Input) where
       root-open : (s2 s3 : State) → s2 .world ≡ start .world → s3 .world ≡ record { map = s2 .world .map; ledger = s2 .world .ledger; scopes = s2 .world .scopes ++ (Scope.Root ∷ []) } → s3 .world ≡ first
       root-open s2 s3 e q = q ∙ ap (λ (w : World). record { map = w .map; ledger = w .ledger; scopes = w .scopes ++ (Scope.Root ∷ []) }) e
 
-      whole : (s3 s4 : State) (k : Unseen) → s3 .world ≡ first → Run (graph I) (all 0 top (map copyId (flat statementIds (I .root .statements)))) (see g (s3 .world)) (see k (s4 .world)) → WholeRun (graph I) (see k (s4 .world))
-      whole s3 s4 k e r = subst (λ (w : World). Run (graph I) (all 0 top (map copyId (flat statementIds (I .root .statements)))) (see g w) (see k (s4 .world))) e r
+      nothing : Valid start
+      nothing d x n q = absurd (nowhere-yet d x n q)
+        where
+          nowhere-yet : (d x n : ℕ) → lookupExtern [] d x ≡ some n → ⊥
+          nowhere-yet d x n q = let z : _≡_ {A = ℕ} 0 1 = cc in omega arith
+
+      none-yet : Fits (record { openers = []; scopes = [] }) start
+      none-yet = record { entries = refl; listed = refl; room = omega arith; valid = nothing }
+
+      fits : (n : ℕ) (s2 s3 : State) → Same start s2 → Opens Scope.Root s2 n s3 → Fits g s3
+      fits n s2 s3 e q = opened-fits top (record { openers = []; scopes = [] }) s2 n s3 (fits-from _ e none-yet) q
+
+      short : (c d x : ℕ) → Short 0 (λ x. ⊥) c d x → Halt c d x
+      short c d x rows = noRow
+      short c d x (extern y none-is e) = absurd none-is
+
+      halt : (c d x : ℕ) → Stop (I .limits .maxDepth) 0 Outside (all 0 top (map copyId (flat statementIds (I .root .statements)))) (see g first) c d x → Halt c d x
+      halt c d x (own rows) = noRow
+      halt c d x (own (extern y m e)) = because (atTop y m e)
+      halt c d x (lost {k} {m} {i} {s} {v} y un l e) = because (nowhere (record { depth = k; number = m; scope = s; id = i; world = v; comes = y; unmapped = un }) l e)
+      halt c d x (deep {m} {i} {s} {v} y un node e) = because (tooDeep (record { depth = I .limits .maxDepth; number = m; scope = s; id = i; world = v; comes = y; unmapped = un }) refl node e)
+      halt c d x (fault {k = k} {m} {i} {s} {v} y un l r) = because (atNode (record { depth = k; number = m; scope = s; id = i; world = v; comes = y; unmapped = un }) l r)
+
+      whole : (s3 s4 : State) (k : Unseen) → s3 .world ≡ first → Within (graph I) Fair (I .limits .maxDepth) (all 0 top (map copyId (flat statementIds (I .root .statements)))) (see g (s3 .world)) (see k (s4 .world)) → Within (graph I) Fair (I .limits .maxDepth) (all 0 top (map copyId (flat statementIds (I .root .statements)))) (see g first) (see k (s4 .world))
+      whole s3 s4 k e r = subst (λ (w : World). Within (graph I) Fair (I .limits .maxDepth) (all 0 top (map copyId (flat statementIds (I .root .statements)))) (see g w) (see k (s4 .world))) e r

@@ -20,13 +20,13 @@ enum-told : tie.Need-enum-told
 enum-told c = search needs
 
 returns : tie.Need-returns
-returns c = named-none (rows (now (c .before .before .before .before .before .args .sheet))) (c .before .before .before .before .before .args .protos .from) (c .before .before .before .before .before .args .id) (c .before .before .before .before .before .args .name) (c .before .before .proto-row .ensures) (c .enum-told .given .1)
+returns c = named-none (rows (now (c .before .before .before .before .before .args .sheet))) (c .before .before .before .before .before .args .protos .from) (c .before .before .before .before .before .args .id .0) (c .before .before .before .before .before .args .name) (c .before .before .proto-row .ensures) (c .enum-told .given .1)
 
 row-at-requires : tie.Need-row-at-requires
 row-at-requires c κs = search needs
 
 returns-2 : tie.Need-returns-2
-returns-2 c = named-at (rows (now (c .before .before .before .before .before .before .before .before .args .sheet))) (c .before .before .before .before .before .before .before .before .args .protos .from) (c .before .before .before .before .before .before .before .before .args .id) (c .before .before .before .before .before .before .before .before .args .name) (c .before .before .before .before .before .proto-row .ensures) (c .before .before .before .q .given .1) (c .before .row-at .ensures)
+returns-2 c = named-at (rows (now (c .before .before .before .before .before .before .before .before .args .sheet))) (c .before .before .before .before .before .before .before .before .args .protos .from) (c .before .before .before .before .before .before .before .before .args .id .0) (c .before .before .before .before .before .before .before .before .args .name) (c .before .before .before .before .before .proto-row .ensures) (c .before .before .before .q .given .1) (c .before .row-at .ensures)
 
 pub is-named-spec : {M : Type 1} → statement M
 is-named-spec =

@@ -11,8 +11,11 @@ use Rattle.sheet.specs.Rows.{rows}
 use Rattle.file.proofs.FileLaws.{nth-past}
 use native.Mathlib.Omega.{arith}
 
+cast-if1 : tie.Need-cast-if1
+cast-if1 c = search needs
+
 returns : tie.Need-returns
-returns c = nth-past Protos (rows (now (c .before .before .before .before .args .sheet))) (c .before .before .before .before .args .protos .from) (c .before .before .before .before .args .id) (omega (arith, c .before .before .before .before .pre .count))
+returns c = nth-past Protos (rows (now (c .before .before .before .before .args .sheet))) (c .before .before .before .before .args .protos .from) (c .before .before .before .before .args .id .0) (omega (arith, c .before .before .before .before .pre .count))
 
 find-requires : tie.Need-find-requires
 find-requires c κs = c .before .before .before .before .pre .filled
@@ -21,4 +24,4 @@ returns-2 : tie.Need-returns-2
 returns-2 c = search needs
 
 pub proto-row-spec : {M : Type 1} → statement M
-proto-row-spec = tie.close (tie.spec returns find-requires returns-2)
+proto-row-spec = tie.close (tie.spec cast-if1 returns find-requires returns-2)

@@ -4,6 +4,7 @@ use Rattle.parts.proofs.extern_proto.Statement.{statement}
 use Rattle.parts.proofs.extern_proto.Tie as tie
 use Rattle.parts.proofs.extern_proto.Reads as reads
 use Rattle.parts.proofs.extern_proto.Lts as lts
+use Rattle.directory.proofs.number.Reads as number-reads
 use Rattle.journal.proofs.enter.Reads as enter-reads
 use Rattle.journal.proofs.find.Reads as find-reads
 use Rattle.journal.proofs.paid.Reads as paid-reads
@@ -11,7 +12,6 @@ use Rattle.journal.proofs.word.Reads as word-reads
 use Rattle.lookup.proofs.rows.select.Reads as select-reads
 use Rattle.parts.proofs.count.Reads as count-reads
 use Rattle.refine.proofs.too_many.Reads as too-many-reads
-use Rattle.directory.proofs.number.Reads as number-reads
 use Rattle.source.proofs.extern_proto.Reads as extern-proto-reads
 use mathlib.Core.Path.{_≡_, refl}
 use Prim.Native.Nat.{_+_, _≤_, _<_}
@@ -94,11 +94,11 @@ returns-3 c = extern-full _ _ _ _ _ _ _ _ _ (c .before .before .before .before .
 cast-out : tie.Need-cast-out
 cast-out c = omega (arith, externs-few (c .before .before .before .before .before .before .before .before .before .before .before .before .before .before .before .before .before .before .before .before .before .pre .0 .sound), c .before .before .before .before .before .before .before .before .before .before .before .before .before .before .before .before .before .before .before .before .before .pre .0 .sound .charges, c .before .before .before .before .before .before .before .before .before .before .before .before .before .before .before .before .before .before .before .before .before .pre .0 .ready .rows)
 
+cast-row : tie.Need-cast-row
+cast-row c = omega (arith, rows-few (c .before .before .before .before .before .before .before .before .before .before .before .before .before .before .before .before .before .before .before .before .before .pre .1 .0) (c .before .before .before .before .before .before .before .before .before .before .before .before .before .before .before .before .number .result) (c .before .before .before .before .before .select .ensures), extern-row (c .before .before .before .before .before .before .before .before .before .before .before .before .before .before .before .before .before .before .before .before .before .pre .1 .0) (c .before .before .before .before .before .before .before .before .before .before .before .before .before .before .before .before .number .result) (c .before .before .before .before .before .select .ensures) (c .before .before .before .before .before .before .before .before .before .before .before .before .before .before .before .before .before .before .before .before .before .args .slot) (c .before .before .before .before .before .before .before .before .before .before .before .before .before .before .before .before .number .ensures) (c .before .before .before .before .before .before .before .before .before .extern-proto .ensures) (c .before .before .before .before .before .before .before .at .given .1))
+
 mul-enter : tie.Need-mul-enter
 mul-enter c = omega (arith, c .before .before .before .before .before .before .before .before .before .before .before .before .before .before .before .before .before .before .before .before .before .before .before .pre .0 .ready .rows)
-
-cast-t37 : tie.Need-cast-t37
-cast-t37 c = omega (arith, rows-few (c .before .before .before .before .before .before .before .before .before .before .before .before .before .before .before .before .before .before .before .before .before .before .before .pre .1 .0) (c .before .before .before .before .before .before .before .before .before .before .before .before .before .before .before .before .before .before .number .result) (c .before .before .before .before .before .before .before .select .ensures), extern-row (c .before .before .before .before .before .before .before .before .before .before .before .before .before .before .before .before .before .before .before .before .before .before .before .pre .1 .0) (c .before .before .before .before .before .before .before .before .before .before .before .before .before .before .before .before .before .before .number .result) (c .before .before .before .before .before .before .before .select .ensures) (c .before .before .before .before .before .before .before .before .before .before .before .before .before .before .before .before .before .before .before .before .before .before .before .args .slot) (c .before .before .before .before .before .before .before .before .before .before .before .before .before .before .before .before .before .before .number .ensures) (c .before .before .before .before .before .before .before .before .before .before .before .extern-proto .ensures) (c .before .before .before .before .before .before .before .before .before .at .given .1))
 
 enter-requires : tie.Need-enter-requires
 enter-requires c κs = enterable (c .before .before .before .before .before .before .before .before .before .before .before .before .before .before .before .before .before .before .before .before .before .before .before .pre .0) (omega (arith, c .before .before .before .if1 .left, c .before .before .before .before .before .before .before .before .before .before .before .before .before .before .before .before .before .before .before .before .before .before .before .pre .0 .sound .charges)) _ refl
@@ -109,14 +109,14 @@ add-paid c = omega (arith, c .before .before .before .before .before .before .be
 paid-requires : tie.Need-paid-requires
 paid-requires c κs = omega (arith, c .before .before .before .before .before .before .before .if1 .left, c .before .before .before .before .before .before .before .before .before .before .before .before .before .before .before .before .before .before .before .before .before .before .before .before .before .before .before .pre .0 .sound .charges, c .before .before .before .before .before .before .before .before .before .before .before .before .before .before .before .before .before .before .before .before .before .before .before .before .before .before .before .pre .0 .ready .room, c .before .before .before .enter .kept .0)
 
-add-t30 : tie.Need-add-t30
-add-t30 c = omega (arith, externs-few (c .before .before .before .before .before .before .before .before .before .before .before .before .before .before .before .before .before .before .before .before .before .before .before .before .before .before .before .before .before .before .before .pre .0 .sound), c .before .before .before .before .before .before .before .before .before .before .before .before .before .before .before .before .before .before .before .before .before .before .before .before .before .before .before .before .before .before .before .pre .0 .sound .charges, c .before .before .before .before .before .before .before .before .before .before .before .before .before .before .before .before .before .before .before .before .before .before .before .before .before .before .before .before .before .before .before .pre .0 .ready .rows)
+add-externs : tie.Need-add-externs
+add-externs c = omega (arith, externs-few (c .before .before .before .before .before .before .before .before .before .before .before .before .before .before .before .before .before .before .before .before .before .before .before .before .before .before .before .before .before .before .before .pre .0 .sound), c .before .before .before .before .before .before .before .before .before .before .before .before .before .before .before .before .before .before .before .before .before .before .before .before .before .before .before .before .before .before .before .pre .0 .sound .charges, c .before .before .before .before .before .before .before .before .before .before .before .before .before .before .before .before .before .before .before .before .before .before .before .before .before .before .before .before .before .before .before .pre .0 .ready .rows)
 
-add-t29 : tie.Need-add-t29
-add-t29 c = omega (arith, c .before .before .before .before .before .before .before .before .before .before .before .if1 .left, c .before .before .before .before .before .before .before .before .before .before .before .before .before .before .before .before .before .before .before .before .before .before .before .before .before .before .before .before .before .before .before .pre .0 .sound .charges, c .before .before .before .before .before .before .before .before .before .before .before .before .before .before .before .before .before .before .before .before .before .before .before .before .before .before .before .before .before .before .before .pre .0 .ready .rows)
+add-charges : tie.Need-add-charges
+add-charges c = omega (arith, c .before .before .before .before .before .before .before .before .before .before .before .if1 .left, c .before .before .before .before .before .before .before .before .before .before .before .before .before .before .before .before .before .before .before .before .before .before .before .before .before .before .before .before .before .before .before .pre .0 .sound .charges, c .before .before .before .before .before .before .before .before .before .before .before .before .before .before .before .before .before .before .before .before .before .before .before .before .before .before .before .before .before .before .before .pre .0 .ready .rows)
 
-add-t20 : tie.Need-add-t20
-add-t20 c = omega (arith, c .before .before .before .before .before .before .before .before .before .before .before .if1 .left, c .before .before .before .before .before .before .before .before .before .before .before .before .before .before .before .before .before .before .before .before .before .before .before .before .before .before .before .before .before .before .before .pre .0 .sound .charges, c .before .before .before .before .before .before .before .before .before .before .before .before .before .before .before .before .before .before .before .before .before .before .before .before .before .before .before .before .before .before .before .pre .0 .ready .rows)
+add-charges-2 : tie.Need-add-charges-2
+add-charges-2 c = omega (arith, c .before .before .before .before .before .before .before .before .before .before .before .if1 .left, c .before .before .before .before .before .before .before .before .before .before .before .before .before .before .before .before .before .before .before .before .before .before .before .before .before .before .before .before .before .before .before .pre .0 .sound .charges, c .before .before .before .before .before .before .before .before .before .before .before .before .before .before .before .before .before .before .before .before .before .before .before .before .before .before .before .before .before .before .before .pre .0 .ready .rows)
 
 same-length-4 : tie.Need-same-length-4
 same-length-4 c = search needs
@@ -152,13 +152,13 @@ extern-proto-spec =
     same-length-3
     returns-3
     cast-out
+    cast-row
     mul-enter
-    cast-t37
     enter-requires
     add-paid
     paid-requires
-    add-t30
-    add-t29
-    add-t20
+    add-externs
+    add-charges
+    add-charges-2
     same-length-4
     returns-4)

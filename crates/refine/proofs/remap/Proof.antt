@@ -13,7 +13,7 @@ returns : tie.Need-returns
 returns c = end-none _ _ _ _ (c .if1 .taken)
 
 look-requires : tie.Need-look-requires
-look-requires c κs = c .before .before .pre
+look-requires c κs = c .before .before .before .pre
 
 enum-known-r : tie.Need-enum-known-r
 enum-known-r c = search needs
@@ -22,13 +22,13 @@ enum-told : tie.Need-enum-told
 enum-told c = search needs
 
 returns-2 : tie.Need-returns-2
-returns-2 c = end-nothing _ _ _ _ _ (c .before .before .before .before .before .pre .0) (c .before .before .before .if1 .left) _ (c .before .before .look .ensures) (c .enum-told .given .1)
+returns-2 c = end-nothing _ _ _ _ _ (c .before .before .before .before .before .before .pre .0) (c .before .before .before .if1 .left) _ (c .before .before .look .ensures) (c .enum-told .given .1)
 
 word-requires : tie.Need-word-requires
-word-requires c κs = (end-room _ _ _ _ _ (c .before .before .before .before .before .before .pre .0) (c .before .before .before .before .if1 .left) _ (c .before .before .before .look .ensures) _ (c .before .r .given .1), omega arith)
+word-requires c κs = (end-room _ _ _ _ _ (c .before .before .before .before .before .before .before .pre .0) (c .before .before .before .before .if1 .left) _ (c .before .before .before .look .ensures) _ (c .before .r .given .1), omega arith)
 
 returns-3 : tie.Need-returns-3
-returns-3 c = end-here _ _ _ _ _ (c .before .before .before .before .before .before .before .pre .0) (c .before .before .before .before .before .if1 .left) _ (c .before .before .before .before .look .ensures) _ (c .before .before .r .given .1) _ (c .word .ensures)
+returns-3 c = end-here _ _ _ _ _ (c .before .before .before .before .before .before .before .before .pre .0) (c .before .before .before .before .before .if1 .left) _ (c .before .before .before .before .look .ensures) _ (c .before .before .r .given .1) _ (c .word .ensures)
 
 pub remap-spec : {M : Type 1} → statement M
 remap-spec =

@@ -83,7 +83,7 @@ use native.Mathlib.Omega.{arith}
 use borrow.Author.Needs.{needs}
 
 abbrev pub body-Inv-loop : body-lts.InvT-loop
-body-Inv-loop root library dir work₀ lim env id inner decl depth cur₀ out₀ place₀ at₀ work cur out place at = Bodying root library dir work₀ lim cur₀ env id inner decl depth work cur out place at
+body-Inv-loop root library dir work₀ lim env id inner decl depth cur₀ out₀ place₀ at₀ work cur out place at = Bodying root library dir work₀ lim cur₀ env (id .0) inner decl depth work cur out place at
 
 abbrev pub body-μ-loop : body-lts.MeasureT-loop
 body-μ-loop root library dir work₀ lim env id inner decl depth cur₀ out₀ place₀ at₀ work cur out place at = length (rowsOf root library dir (inner .slot)) - at
@@ -92,7 +92,7 @@ pub body-add-at : (t : ℕ) → body-lts.Need-add-at (body-cs t) (body-at t) bod
 body-add-at t c = omega (arith, c .before .before .before .before .pre .1 .1 .below, rows-few (c .before .before .before .before .pre .1 .0 .here .lent) (c .before .before .before .before .args .inner .slot))
 
 pub body-loop-holds : (t : ℕ) → body-lts.Need-loop-holds (body-cs t) (body-at t) body.Post body-Inv-loop body-μ-loop
-body-loop-holds t c = body-start _ _ _ _ _ _ _ (c .before .before .before .before .args .id) _ (c .before .before .before .before .args .decl) (c .before .before .before .before .args .depth) (c .before .before .before .before .pre .1 .0)
+body-loop-holds t c = body-start _ _ _ _ _ _ _ (c .before .before .before .before .args .id .0) _ (c .before .before .before .before .args .decl) (c .before .before .before .before .args .depth) (c .before .before .before .before .pre .1 .0)
 
 pub body-next-requires : (t : ℕ) → body-lts.Need-next-requires (body-cs t) (body-at t) body.Post body-Inv-loop body-μ-loop
 body-next-requires t c κs = omega (arith, c .before .before .before .before .before .pre .1 .0 .here .slot .upto, c .before .before .before .before .before .pre .1 .0 .here .lent .sourced .directory .few, c .before .before .before .before .before .pre .1 .0 .here .lent .sourced .directory .long)

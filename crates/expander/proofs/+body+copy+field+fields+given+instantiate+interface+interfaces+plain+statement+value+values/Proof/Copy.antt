@@ -91,7 +91,7 @@ pub copy-same-length : (t : ℕ) → copy-lts.Need-same-length (copy-cs t) (copy
 copy-same-length t c = search needs
 
 pub copy-returns : (t : ℕ) → copy-lts.Need-returns (copy-cs t) (copy-at t) copy.Post
-copy-returns t c = copy-known _ _ _ _ _ _ _ (c .before .before .before .before .before .before .before .before .before .before .before .before .before .args .id) (c .before .before .before .before .before .before .before .before .before .before .before .before .before .args .depth) (c .before .before .before .before .before .before .before .before .before .before .before .before .before .pre .1) (c .before .before .before .before .before .before .before .look .ensures) (c .before .before .before .before .before .r .given .1) (c .before .before .word .ensures) (c .word2 .ensures)
+copy-returns t c = copy-known _ _ _ _ _ _ _ (c .before .before .before .before .before .before .before .before .before .before .before .before .before .args .id .0) (c .before .before .before .before .before .before .before .before .before .before .before .before .before .args .depth) (c .before .before .before .before .before .before .before .before .before .before .before .before .before .pre .1) (c .before .before .before .before .before .before .before .look .ensures) (c .before .before .before .before .before .r .given .1) (c .before .before .word .ensures) (c .word2 .ensures)
 
 pub copy-enum-told : (t : ℕ) → copy-lts.Need-enum-told (copy-cs t) (copy-at t) copy.Post
 copy-enum-told t c = search needs
@@ -112,13 +112,13 @@ pub copy-same-length-2 : (t : ℕ) → copy-lts.Need-same-length-2 (copy-cs t) (
 copy-same-length-2 t c = search needs
 
 pub copy-returns-2 : (t : ℕ) → copy-lts.Need-returns-2 (copy-cs t) (copy-at t) copy.Post
-copy-returns-2 t c = copy-5 _ _ _ _ _ _ _ (c .before .before .before .before .before .before .before .before .before .before .before .before .before .args .id) (c .before .before .before .before .before .before .before .before .before .before .before .before .before .args .depth) (c .before .before .before .before .before .before .before .before .before .before .before .before .before .pre .1) (c .before .before .before .before .before .before .before .look .ensures) (c .before .before .before .before .before .enum-told .given .1) (c .before .before .before .node .ensures) (c .before .enum-told2 .given .1) (c .number .ensures)
+copy-returns-2 t c = copy-5 _ _ _ _ _ _ _ (c .before .before .before .before .before .before .before .before .before .before .before .before .before .args .id .0) (c .before .before .before .before .before .before .before .before .before .before .before .before .before .args .depth) (c .before .before .before .before .before .before .before .before .before .before .before .before .before .pre .1) (c .before .before .before .before .before .before .before .look .ensures) (c .before .before .before .before .before .enum-told .given .1) (c .before .before .before .node .ensures) (c .before .enum-told2 .given .1) (c .number .ensures)
 
 pub copy-same-length-3 : (t : ℕ) → copy-lts.Need-same-length-3 (copy-cs t) (copy-at t) copy.Post
 copy-same-length-3 t c = search needs
 
 pub copy-returns-3 : (t : ℕ) → copy-lts.Need-returns-3 (copy-cs t) (copy-at t) copy.Post
-copy-returns-3 t c = copy-9 _ _ _ _ _ _ _ (c .before .before .before .before .before .before .before .before .before .before .before .before .before .before .args .id) (c .before .before .before .before .before .before .before .before .before .before .before .before .before .before .args .depth) (c .before .before .before .before .before .before .before .before .before .before .before .before .before .before .pre .1) (c .before .before .before .before .before .before .before .before .look .ensures) (c .before .before .before .before .before .before .enum-told .given .1) (c .before .before .before .before .node .ensures) (c .before .before .row .given .1) (c .if1 .taken)
+copy-returns-3 t c = copy-9 _ _ _ _ _ _ _ (c .before .before .before .before .before .before .before .before .before .before .before .before .before .before .args .id .0) (c .before .before .before .before .before .before .before .before .before .before .before .before .before .before .args .depth) (c .before .before .before .before .before .before .before .before .before .before .before .before .before .before .pre .1) (c .before .before .before .before .before .before .before .before .look .ensures) (c .before .before .before .before .before .before .enum-told .given .1) (c .before .before .before .before .node .ensures) (c .before .before .row .given .1) (c .if1 .taken)
 
 pub copy-row-of-requires : (t : ℕ) → copy-lts.Need-row-of-requires (copy-cs t) (copy-at t) copy.Post
 copy-row-of-requires t c κs = slot-within (c .before .before .before .before .before .before .before .before .before .before .before .before .before .before .pre .1 .lent .sourced) (c .before .before .before .before .before .before .before .before .before .before .before .before .before .before .pre .1 .slot)
@@ -136,22 +136,22 @@ pub copy-sub-plain : (t : ℕ) → copy-lts.Need-sub-plain (copy-cs t) (copy-at 
 copy-sub-plain t c = omega (arith, c .before .before .before .before .before .before .if1 .left)
 
 pub copy-plain-requires : (t : ℕ) → copy-lts.Need-plain-requires (copy-cs t) (copy-at t) copy.Post
-copy-plain-requires t c κs = (omega (arith, c .before .before .before .before .before .before .before .before .before .before .before .before .before .before .before .before .before .before .before .before .pre .0, c .before .before .before .before .before .before .if1 .left), (c .before .before .before .before .before .before .before .before .before .before .before .before .before .before .before .before .before .before .before .before .pre .1, copy-row _ _ _ _ _ _ _ (c .before .before .before .before .before .before .before .before .before .before .before .before .before .before .before .before .before .before .before .before .args .id) (c .before .before .before .before .before .before .before .before .before .before .before .before .before .before .before .before .before .before .before .before .args .depth) (c .before .before .before .before .before .before .before .before .before .before .before .before .before .before .before .before .before .before .before .before .pre .1) (c .before .before .before .before .before .before .before .before .before .before .before .before .before .before .look .ensures) (c .before .before .before .before .before .before .before .before .before .before .before .before .enum-told .given .1) (c .before .before .before .before .before .before .before .before .before .before .node .ensures) (c .before .before .before .before .before .before .before .before .row .given .1)))
+copy-plain-requires t c κs = (omega (arith, c .before .before .before .before .before .before .before .before .before .before .before .before .before .before .before .before .before .before .before .before .pre .0, c .before .before .before .before .before .before .if1 .left), (c .before .before .before .before .before .before .before .before .before .before .before .before .before .before .before .before .before .before .before .before .pre .1, copy-row _ _ _ _ _ _ _ (c .before .before .before .before .before .before .before .before .before .before .before .before .before .before .before .before .before .before .before .before .args .id .0) (c .before .before .before .before .before .before .before .before .before .before .before .before .before .before .before .before .before .before .before .before .args .depth) (c .before .before .before .before .before .before .before .before .before .before .before .before .before .before .before .before .before .before .before .before .pre .1) (c .before .before .before .before .before .before .before .before .before .before .before .before .before .before .look .ensures) (c .before .before .before .before .before .before .before .before .before .before .before .before .enum-told .given .1) (c .before .before .before .before .before .before .before .before .before .before .node .ensures) (c .before .before .before .before .before .before .before .before .row .given .1)))
 
 pub copy-same-length-4 : (t : ℕ) → copy-lts.Need-same-length-4 (copy-cs t) (copy-at t) copy.Post
 copy-same-length-4 t c = search needs
 
 pub copy-returns-4 : (t : ℕ) → copy-lts.Need-returns-4 (copy-cs t) (copy-at t) copy.Post
-copy-returns-4 t c = copy-plain _ _ _ _ _ _ _ (c .before .before .before .before .before .before .before .before .before .before .before .before .before .before .before .before .before .before .before .before .before .before .before .args .id) (c .before .before .before .before .before .before .before .before .before .before .before .before .before .before .before .before .before .before .before .before .before .before .before .args .depth) (c .before .before .before .before .before .before .before .before .before .before .before .before .before .before .before .before .before .before .before .before .before .before .before .pre .1) (c .before .before .before .before .before .before .before .before .before .before .before .before .before .before .before .before .before .look .ensures) (c .before .before .before .before .before .before .before .before .before .before .before .before .before .before .before .enum-told .given .1) (c .before .before .before .before .before .before .before .before .before .before .before .before .before .node .ensures) (c .before .before .before .before .before .before .before .before .before .before .before .row .given .1) (c .before .before .before .before .before .before .before .before .before .if1 .left) _ (c .before .before .before .before .before .before .before .before .row-of .ensures) (c .before .before .before .before .before .before .target .ensures) (c .before .before .before .before .enum-told3 .given .1) (c .before .before .plain .ensures)
+copy-returns-4 t c = copy-plain _ _ _ _ _ _ _ (c .before .before .before .before .before .before .before .before .before .before .before .before .before .before .before .before .before .before .before .before .before .before .before .args .id .0) (c .before .before .before .before .before .before .before .before .before .before .before .before .before .before .before .before .before .before .before .before .before .before .before .args .depth) (c .before .before .before .before .before .before .before .before .before .before .before .before .before .before .before .before .before .before .before .before .before .before .before .pre .1) (c .before .before .before .before .before .before .before .before .before .before .before .before .before .before .before .before .before .look .ensures) (c .before .before .before .before .before .before .before .before .before .before .before .before .before .before .before .enum-told .given .1) (c .before .before .before .before .before .before .before .before .before .before .before .before .before .node .ensures) (c .before .before .before .before .before .before .before .before .before .before .before .row .given .1) (c .before .before .before .before .before .before .before .before .before .if1 .left) _ (c .before .before .before .before .before .before .before .before .row-of .ensures) (c .before .before .before .before .before .before .target .ensures) (c .before .before .before .before .enum-told3 .given .1) (c .before .before .plain .ensures)
 
 pub copy-sub-instantiate : (t : ℕ) → copy-lts.Need-sub-instantiate (copy-cs t) (copy-at t) copy.Post
 copy-sub-instantiate t c = omega (arith, c .before .before .before .before .before .before .before .if1 .left)
 
 pub copy-instantiate-requires : (t : ℕ) → copy-lts.Need-instantiate-requires (copy-cs t) (copy-at t) copy.Post
-copy-instantiate-requires t c κs = (omega (arith, c .before .before .before .before .before .before .before .before .before .before .before .before .before .before .before .before .before .before .before .before .before .pre .0, c .before .before .before .before .before .before .before .if1 .left), (c .before .before .before .before .before .before .before .before .before .before .before .before .before .before .before .before .before .before .before .before .before .pre .1, (copy-row _ _ _ _ _ _ _ (c .before .before .before .before .before .before .before .before .before .before .before .before .before .before .before .before .before .before .before .before .before .args .id) (c .before .before .before .before .before .before .before .before .before .before .before .before .before .before .before .before .before .before .before .before .before .args .depth) (c .before .before .before .before .before .before .before .before .before .before .before .before .before .before .before .before .before .before .before .before .before .pre .1) (c .before .before .before .before .before .before .before .before .before .before .before .before .before .before .before .look .ensures) (c .before .before .before .before .before .before .before .before .before .before .before .before .before .enum-told .given .1) (c .before .before .before .before .before .before .before .before .before .before .before .node .ensures) (c .before .before .before .before .before .before .before .before .before .row .given .1), copy-slot _ _ _ _ _ _ _ (c .before .before .before .before .before .before .before .before .before .before .before .before .before .before .before .before .before .before .before .before .before .args .id) (c .before .before .before .before .before .before .before .before .before .before .before .before .before .before .before .before .before .before .before .before .before .args .depth) (c .before .before .before .before .before .before .before .before .before .before .before .before .before .before .before .before .before .before .before .before .before .pre .1) (c .before .before .before .before .before .before .before .before .before .before .before .before .before .before .before .look .ensures) (c .before .before .before .before .before .before .before .before .before .before .before .before .before .enum-told .given .1) (c .before .before .before .before .before .before .before .before .before .before .before .node .ensures) (c .before .before .before .before .before .before .before .before .before .row .given .1) (c .before .before .before .before .before .before .before .if1 .left) _ (c .before .before .before .before .before .before .row-of .ensures) (c .before .before .before .before .target .ensures) (c .before .before .x .given .1))))
+copy-instantiate-requires t c κs = (omega (arith, c .before .before .before .before .before .before .before .before .before .before .before .before .before .before .before .before .before .before .before .before .before .pre .0, c .before .before .before .before .before .before .before .if1 .left), (c .before .before .before .before .before .before .before .before .before .before .before .before .before .before .before .before .before .before .before .before .before .pre .1, (copy-row _ _ _ _ _ _ _ (c .before .before .before .before .before .before .before .before .before .before .before .before .before .before .before .before .before .before .before .before .before .args .id .0) (c .before .before .before .before .before .before .before .before .before .before .before .before .before .before .before .before .before .before .before .before .before .args .depth) (c .before .before .before .before .before .before .before .before .before .before .before .before .before .before .before .before .before .before .before .before .before .pre .1) (c .before .before .before .before .before .before .before .before .before .before .before .before .before .before .before .look .ensures) (c .before .before .before .before .before .before .before .before .before .before .before .before .before .enum-told .given .1) (c .before .before .before .before .before .before .before .before .before .before .before .node .ensures) (c .before .before .before .before .before .before .before .before .before .row .given .1), copy-slot _ _ _ _ _ _ _ (c .before .before .before .before .before .before .before .before .before .before .before .before .before .before .before .before .before .before .before .before .before .args .id .0) (c .before .before .before .before .before .before .before .before .before .before .before .before .before .before .before .before .before .before .before .before .before .args .depth) (c .before .before .before .before .before .before .before .before .before .before .before .before .before .before .before .before .before .before .before .before .before .pre .1) (c .before .before .before .before .before .before .before .before .before .before .before .before .before .before .before .look .ensures) (c .before .before .before .before .before .before .before .before .before .before .before .before .before .enum-told .given .1) (c .before .before .before .before .before .before .before .before .before .before .before .node .ensures) (c .before .before .before .before .before .before .before .before .before .row .given .1) (c .before .before .before .before .before .before .before .if1 .left) _ (c .before .before .before .before .before .before .row-of .ensures) (c .before .before .before .before .target .ensures) (c .before .before .x .given .1))))
 
 pub copy-same-length-5 : (t : ℕ) → copy-lts.Need-same-length-5 (copy-cs t) (copy-at t) copy.Post
 copy-same-length-5 t c = search needs
 
 pub copy-returns-5 : (t : ℕ) → copy-lts.Need-returns-5 (copy-cs t) (copy-at t) copy.Post
-copy-returns-5 t c = copy-instance _ _ _ _ _ _ _ (c .before .before .before .before .before .before .before .before .before .before .before .before .before .before .before .before .before .before .before .before .before .before .before .before .args .id) (c .before .before .before .before .before .before .before .before .before .before .before .before .before .before .before .before .before .before .before .before .before .before .before .before .args .depth) (c .before .before .before .before .before .before .before .before .before .before .before .before .before .before .before .before .before .before .before .before .before .before .before .before .pre .1) (c .before .before .before .before .before .before .before .before .before .before .before .before .before .before .before .before .before .before .look .ensures) (c .before .before .before .before .before .before .before .before .before .before .before .before .before .before .before .before .enum-told .given .1) (c .before .before .before .before .before .before .before .before .before .before .before .before .before .before .node .ensures) (c .before .before .before .before .before .before .before .before .before .before .before .before .row .given .1) (c .before .before .before .before .before .before .before .before .before .before .if1 .left) _ (c .before .before .before .before .before .before .before .before .before .row-of .ensures) (c .before .before .before .before .before .before .before .target .ensures) (c .before .before .before .before .before .x .given .1) (c .before .before .instantiate .ensures)
+copy-returns-5 t c = copy-instance _ _ _ _ _ _ _ (c .before .before .before .before .before .before .before .before .before .before .before .before .before .before .before .before .before .before .before .before .before .before .before .before .args .id .0) (c .before .before .before .before .before .before .before .before .before .before .before .before .before .before .before .before .before .before .before .before .before .before .before .before .args .depth) (c .before .before .before .before .before .before .before .before .before .before .before .before .before .before .before .before .before .before .before .before .before .before .before .before .pre .1) (c .before .before .before .before .before .before .before .before .before .before .before .before .before .before .before .before .before .before .look .ensures) (c .before .before .before .before .before .before .before .before .before .before .before .before .before .before .before .before .enum-told .given .1) (c .before .before .before .before .before .before .before .before .before .before .before .before .before .before .node .ensures) (c .before .before .before .before .before .before .before .before .before .before .before .before .row .given .1) (c .before .before .before .before .before .before .before .before .before .before .if1 .left) _ (c .before .before .before .before .before .before .before .before .before .row-of .ensures) (c .before .before .before .before .before .before .before .target .ensures) (c .before .before .before .before .before .x .given .1) (c .before .before .instantiate .ensures)

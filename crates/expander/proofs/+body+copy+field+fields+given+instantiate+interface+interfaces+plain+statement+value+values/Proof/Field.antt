@@ -91,16 +91,16 @@ pub field-same-length : (t : ℕ) → field-lts.Need-same-length (field-cs t) (f
 field-same-length t c = search needs
 
 pub field-returns : (t : ℕ) → field-lts.Need-returns (field-cs t) (field-at t) field.Post
-field-returns t c = field-is _ _ _ _ _ _ _ (c .before .before .before .before .before .before .before .before .before .before .before .args .new) (c .before .before .before .before .before .before .before .before .before .before .before .args .row) (c .before .before .before .before .before .before .before .before .before .before .before .args .depth) (c .before .before .before .before .before .before .before .before .before .before .before .pre .1 .0) _ (c .before .before .before .before .before .before .row-of .ensures) _ (c .before .before .before .before .if1 .taken) (c .before .before .is-field .ensures)
+field-returns t c = field-is _ _ _ _ _ _ _ (c .before .before .before .before .before .before .before .before .before .before .before .args .new .0) (c .before .before .before .before .before .before .before .before .before .before .before .args .row) (c .before .before .before .before .before .before .before .before .before .before .before .args .depth) (c .before .before .before .before .before .before .before .before .before .before .before .pre .1 .0) _ (c .before .before .before .before .before .before .row-of .ensures) _ (c .before .before .before .before .if1 .taken) (c .before .before .is-field .ensures)
 
 pub field-add-field-requires : (t : ℕ) → field-lts.Need-add-field-requires (field-cs t) (field-at t) field.Post
-field-add-field-requires t c κs = (c .before .before .before .before .before .before .before .before .before .before .pre .1 .0 .standing, field-ready _ _ _ _ _ _ _ (c .before .before .before .before .before .before .before .before .before .before .args .new) (c .before .before .before .before .before .before .before .before .before .before .args .row) (c .before .before .before .before .before .before .before .before .before .before .args .depth) (c .before .before .before .before .before .before .before .before .before .before .pre .1 .0) _ (c .before .before .before .before .before .row-of .ensures) _ (c .before .before .before .if1 .left) (value-payload _ _ _ _ _ _ _ (c .before .before .before .before .before .before .before .before .before .before .args .row) (c .before .before .before .before .before .before .before .before .before .before .args .depth) (c .before .before .before .before .before .before .before .before .before .before .pre .1 .0) (c .before .before .before .before .before .row-of .ensures) (c .before .if2 .taken)) (c .before .before .before .before .before .before .before .before .before .before .pre .1 .1 .1) refl)
+field-add-field-requires t c κs = (c .before .before .before .before .before .before .before .before .before .before .pre .1 .0 .standing, field-ready _ _ _ _ _ _ _ (c .before .before .before .before .before .before .before .before .before .before .args .new .0) (c .before .before .before .before .before .before .before .before .before .before .args .row) (c .before .before .before .before .before .before .before .before .before .before .args .depth) (c .before .before .before .before .before .before .before .before .before .before .pre .1 .0) _ (c .before .before .before .before .before .row-of .ensures) _ (c .before .before .before .if1 .left) (value-payload _ _ _ _ _ _ _ (c .before .before .before .before .before .before .before .before .before .before .args .row) (c .before .before .before .before .before .before .before .before .before .before .args .depth) (c .before .before .before .before .before .before .before .before .before .before .pre .1 .0) (c .before .before .before .before .before .row-of .ensures) (c .before .if2 .taken)) (c .before .before .before .before .before .before .before .before .before .before .pre .1 .1 .1) refl)
 
 pub field-same-length-2 : (t : ℕ) → field-lts.Need-same-length-2 (field-cs t) (field-at t) field.Post
 field-same-length-2 t c = search needs
 
 pub field-returns-2 : (t : ℕ) → field-lts.Need-returns-2 (field-cs t) (field-at t) field.Post
-field-returns-2 t c = field-kept _ _ _ _ _ _ _ (c .before .before .before .before .before .before .before .before .before .before .before .before .before .args .new) (c .before .before .before .before .before .before .before .before .before .before .before .before .before .args .row) (c .before .before .before .before .before .before .before .before .before .before .before .before .before .args .depth) (c .before .before .before .before .before .before .before .before .before .before .before .before .before .pre .1 .0) _ (c .before .before .before .before .before .before .before .before .row-of .ensures) _ (c .before .before .before .before .before .before .if1 .left) (value-payload _ _ _ _ _ _ _ (c .before .before .before .before .before .before .before .before .before .before .before .before .before .args .row) (c .before .before .before .before .before .before .before .before .before .before .before .before .before .args .depth) (c .before .before .before .before .before .before .before .before .before .before .before .before .before .pre .1 .0) (c .before .before .before .before .before .before .before .before .row-of .ensures) (c .before .before .before .before .if2 .taken)) (c .before .before .before .before .before .before .before .before .before .before .before .before .before .pre .1 .1 .1) refl (c .before .before .add-field .ensures)
+field-returns-2 t c = field-kept _ _ _ _ _ _ _ (c .before .before .before .before .before .before .before .before .before .before .before .before .before .args .new .0) (c .before .before .before .before .before .before .before .before .before .before .before .before .before .args .row) (c .before .before .before .before .before .before .before .before .before .before .before .before .before .args .depth) (c .before .before .before .before .before .before .before .before .before .before .before .before .before .pre .1 .0) _ (c .before .before .before .before .before .before .before .before .row-of .ensures) _ (c .before .before .before .before .before .before .if1 .left) (value-payload _ _ _ _ _ _ _ (c .before .before .before .before .before .before .before .before .before .before .before .before .before .args .row) (c .before .before .before .before .before .before .before .before .before .before .before .before .before .args .depth) (c .before .before .before .before .before .before .before .before .before .before .before .before .before .pre .1 .0) (c .before .before .before .before .before .before .before .before .row-of .ensures) (c .before .before .before .before .if2 .taken)) (c .before .before .before .before .before .before .before .before .before .before .before .before .before .pre .1 .1 .1) refl (c .before .before .add-field .ensures)
 
 pub field-add-next : (t : ℕ) → field-lts.Need-add-next (field-cs t) (field-at t) field.Post
 field-add-next t c = omega (arith, c .before .before .before .before .before .before .before .before .before .pre .1 .1 .0 .below, rows-few (c .before .before .before .before .before .before .before .before .before .pre .1 .0 .lent) (c .before .before .before .before .before .before .before .before .before .args .env .slot))
@@ -115,13 +115,13 @@ pub field-enum-told-2 : (t : ℕ) → field-lts.Need-enum-told-2 (field-cs t) (f
 field-enum-told-2 t c = search needs
 
 pub field-add-field-requires-2 : (t : ℕ) → field-lts.Need-add-field-requires-2 (field-cs t) (field-at t) field.Post
-field-add-field-requires-2 t c κs = (c .before .before .before .before .before .before .before .before .before .before .before .before .before .pre .1 .0 .standing, field-ready _ _ _ _ _ _ _ (c .before .before .before .before .before .before .before .before .before .before .before .before .before .args .new) (c .before .before .before .before .before .before .before .before .before .before .before .before .before .args .row) (c .before .before .before .before .before .before .before .before .before .before .before .before .before .args .depth) (c .before .before .before .before .before .before .before .before .before .before .before .before .before .pre .1 .0) _ (c .before .before .before .before .before .before .before .before .row-of .ensures) _ (c .before .before .before .before .before .before .if1 .left) (value-end _ _ _ _ _ _ _ (c .before .before .before .before .before .before .before .before .before .before .before .before .before .args .row) (c .before .before .before .before .before .before .before .before .before .before .before .before .before .args .depth) (c .before .before .before .before .before .before .before .before .before .before .before .before .before .pre .1 .0) (c .before .before .before .before .before .before .before .before .row-of .ensures) (c .before .before .before .before .if2 .left) (value-start _ _ _ _ _ _ _ (c .before .before .before .before .before .before .before .before .before .before .before .before .before .args .row) (c .before .before .before .before .before .before .before .before .before .before .before .before .before .args .depth) (c .before .before .before .before .before .before .before .before .before .before .before .before .before .pre .1 .0) (c .before .before .before .before .before .before .before .before .row-of .ensures) (c .before .before .before .before .if2 .left)) (missing Ids _ _ (c .before .before .before .next .ensures) (c .before .enum-told2 .given .1))) (c .before .before .before .before .before .before .before .before .before .before .before .before .before .pre .1 .1 .1) refl)
+field-add-field-requires-2 t c κs = (c .before .before .before .before .before .before .before .before .before .before .before .before .before .pre .1 .0 .standing, field-ready _ _ _ _ _ _ _ (c .before .before .before .before .before .before .before .before .before .before .before .before .before .args .new .0) (c .before .before .before .before .before .before .before .before .before .before .before .before .before .args .row) (c .before .before .before .before .before .before .before .before .before .before .before .before .before .args .depth) (c .before .before .before .before .before .before .before .before .before .before .before .before .before .pre .1 .0) _ (c .before .before .before .before .before .before .before .before .row-of .ensures) _ (c .before .before .before .before .before .before .if1 .left) (value-end _ _ _ _ _ _ _ (c .before .before .before .before .before .before .before .before .before .before .before .before .before .args .row) (c .before .before .before .before .before .before .before .before .before .before .before .before .before .args .depth) (c .before .before .before .before .before .before .before .before .before .before .before .before .before .pre .1 .0) (c .before .before .before .before .before .before .before .before .row-of .ensures) (c .before .before .before .before .if2 .left) (value-start _ _ _ _ _ _ _ (c .before .before .before .before .before .before .before .before .before .before .before .before .before .args .row) (c .before .before .before .before .before .before .before .before .before .before .before .before .before .args .depth) (c .before .before .before .before .before .before .before .before .before .before .before .before .before .pre .1 .0) (c .before .before .before .before .before .before .before .before .row-of .ensures) (c .before .before .before .before .if2 .left)) (missing Ids _ _ (c .before .before .before .next .ensures) (c .before .enum-told2 .given .1))) (c .before .before .before .before .before .before .before .before .before .before .before .before .before .pre .1 .1 .1) refl)
 
 pub field-same-length-3 : (t : ℕ) → field-lts.Need-same-length-3 (field-cs t) (field-at t) field.Post
 field-same-length-3 t c = search needs
 
 pub field-returns-3 : (t : ℕ) → field-lts.Need-returns-3 (field-cs t) (field-at t) field.Post
-field-returns-3 t c = field-kept _ _ _ _ _ _ _ (c .before .before .before .before .before .before .before .before .before .before .before .before .before .before .before .before .args .new) (c .before .before .before .before .before .before .before .before .before .before .before .before .before .before .before .before .args .row) (c .before .before .before .before .before .before .before .before .before .before .before .before .before .before .before .before .args .depth) (c .before .before .before .before .before .before .before .before .before .before .before .before .before .before .before .before .pre .1 .0) _ (c .before .before .before .before .before .before .before .before .before .before .before .row-of .ensures) _ (c .before .before .before .before .before .before .before .before .before .if1 .left) (value-end _ _ _ _ _ _ _ (c .before .before .before .before .before .before .before .before .before .before .before .before .before .before .before .before .args .row) (c .before .before .before .before .before .before .before .before .before .before .before .before .before .before .before .before .args .depth) (c .before .before .before .before .before .before .before .before .before .before .before .before .before .before .before .before .pre .1 .0) (c .before .before .before .before .before .before .before .before .before .before .before .row-of .ensures) (c .before .before .before .before .before .before .before .if2 .left) (value-start _ _ _ _ _ _ _ (c .before .before .before .before .before .before .before .before .before .before .before .before .before .before .before .before .args .row) (c .before .before .before .before .before .before .before .before .before .before .before .before .before .before .before .before .args .depth) (c .before .before .before .before .before .before .before .before .before .before .before .before .before .before .before .before .pre .1 .0) (c .before .before .before .before .before .before .before .before .before .before .before .row-of .ensures) (c .before .before .before .before .before .before .before .if2 .left)) (missing Ids _ _ (c .before .before .before .before .before .before .next .ensures) (c .before .before .before .before .enum-told2 .given .1))) (c .before .before .before .before .before .before .before .before .before .before .before .before .before .before .before .before .pre .1 .1 .1) refl (c .before .before .add-field2 .ensures)
+field-returns-3 t c = field-kept _ _ _ _ _ _ _ (c .before .before .before .before .before .before .before .before .before .before .before .before .before .before .before .before .args .new .0) (c .before .before .before .before .before .before .before .before .before .before .before .before .before .before .before .before .args .row) (c .before .before .before .before .before .before .before .before .before .before .before .before .before .before .before .before .args .depth) (c .before .before .before .before .before .before .before .before .before .before .before .before .before .before .before .before .pre .1 .0) _ (c .before .before .before .before .before .before .before .before .before .before .before .row-of .ensures) _ (c .before .before .before .before .before .before .before .before .before .if1 .left) (value-end _ _ _ _ _ _ _ (c .before .before .before .before .before .before .before .before .before .before .before .before .before .before .before .before .args .row) (c .before .before .before .before .before .before .before .before .before .before .before .before .before .before .before .before .args .depth) (c .before .before .before .before .before .before .before .before .before .before .before .before .before .before .before .before .pre .1 .0) (c .before .before .before .before .before .before .before .before .before .before .before .row-of .ensures) (c .before .before .before .before .before .before .before .if2 .left) (value-start _ _ _ _ _ _ _ (c .before .before .before .before .before .before .before .before .before .before .before .before .before .before .before .before .args .row) (c .before .before .before .before .before .before .before .before .before .before .before .before .before .before .before .before .args .depth) (c .before .before .before .before .before .before .before .before .before .before .before .before .before .before .before .before .pre .1 .0) (c .before .before .before .before .before .before .before .before .before .before .before .row-of .ensures) (c .before .before .before .before .before .before .before .if2 .left)) (missing Ids _ _ (c .before .before .before .before .before .before .next .ensures) (c .before .before .before .before .enum-told2 .given .1))) (c .before .before .before .before .before .before .before .before .before .before .before .before .before .before .before .before .pre .1 .1 .1) refl (c .before .before .add-field2 .ensures)
 
 pub field-value-requires : (t : ℕ) → field-lts.Need-value-requires (field-cs t) (field-at t) field.Post
 field-value-requires t c κs = (omega (arith, c .before .before .before .before .before .before .before .before .before .before .before .before .before .pre .0), (c .before .before .before .before .before .before .before .before .before .before .before .before .before .pre .1 .0, c .before .before .before .before .before .before .before .before .before .before .before .before .before .pre .1 .1 .0))
@@ -136,13 +136,13 @@ pub field-same-length-4 : (t : ℕ) → field-lts.Need-same-length-4 (field-cs t
 field-same-length-4 t c = search needs
 
 pub field-returns-4 : (t : ℕ) → field-lts.Need-returns-4 (field-cs t) (field-at t) field.Post
-field-returns-4 t c = field-stop _ _ _ _ _ _ _ (c .before .before .before .before .before .before .before .before .before .before .before .before .before .before .before .before .before .before .args .new) (c .before .before .before .before .before .before .before .before .before .before .before .before .before .before .before .before .before .before .args .row) (c .before .before .before .before .before .before .before .before .before .before .before .before .before .before .before .before .before .before .args .depth) (c .before .before .before .before .before .before .before .before .before .before .before .before .before .before .before .before .before .before .pre .1 .0) _ (c .before .before .before .before .before .before .before .before .before .before .before .before .before .row-of .ensures) _ (c .before .before .before .before .before .before .before .before .before .before .before .if1 .left) (c .before .before .before .before .value .ensures) (c .enum-told3 .given .1)
+field-returns-4 t c = field-stop _ _ _ _ _ _ _ (c .before .before .before .before .before .before .before .before .before .before .before .before .before .before .before .before .before .before .args .new .0) (c .before .before .before .before .before .before .before .before .before .before .before .before .before .before .before .before .before .before .args .row) (c .before .before .before .before .before .before .before .before .before .before .before .before .before .before .before .before .before .before .args .depth) (c .before .before .before .before .before .before .before .before .before .before .before .before .before .before .before .before .before .before .pre .1 .0) _ (c .before .before .before .before .before .before .before .before .before .before .before .before .before .row-of .ensures) _ (c .before .before .before .before .before .before .before .before .before .before .before .if1 .left) (c .before .before .before .before .value .ensures) (c .enum-told3 .given .1)
 
 pub field-add-field-requires-3 : (t : ℕ) → field-lts.Need-add-field-requires-3 (field-cs t) (field-at t) field.Post
-field-add-field-requires-3 t c κs = (here-later (went (c .before .before .before .before .before .before .value .ensures) (c .before .before .a .given .1)) (c .before .before .before .before .before .before .before .before .before .before .before .before .before .before .before .before .before .before .before .before .pre .1 .0) .standing, field-ready _ _ _ _ _ _ _ (c .before .before .before .before .before .before .before .before .before .before .before .before .before .before .before .before .before .before .before .before .args .new) (c .before .before .before .before .before .before .before .before .before .before .before .before .before .before .before .before .before .before .before .before .args .row) (c .before .before .before .before .before .before .before .before .before .before .before .before .before .before .before .before .before .before .before .before .args .depth) (c .before .before .before .before .before .before .before .before .before .before .before .before .before .before .before .before .before .before .before .before .pre .1 .0) _ (c .before .before .before .before .before .before .before .before .before .before .before .before .before .before .before .row-of .ensures) _ (c .before .before .before .before .before .before .before .before .before .before .before .before .before .if1 .left) (c .before .before .before .before .before .before .value .ensures) (c .before .before .before .before .before .before .before .before .before .before .before .before .before .before .before .before .before .before .before .before .pre .1 .1 .1) (c .before .before .a .given .1))
+field-add-field-requires-3 t c κs = (here-later (went (c .before .before .before .before .before .before .value .ensures) (c .before .before .a .given .1)) (c .before .before .before .before .before .before .before .before .before .before .before .before .before .before .before .before .before .before .before .before .pre .1 .0) .standing, field-ready _ _ _ _ _ _ _ (c .before .before .before .before .before .before .before .before .before .before .before .before .before .before .before .before .before .before .before .before .args .new .0) (c .before .before .before .before .before .before .before .before .before .before .before .before .before .before .before .before .before .before .before .before .args .row) (c .before .before .before .before .before .before .before .before .before .before .before .before .before .before .before .before .before .before .before .before .args .depth) (c .before .before .before .before .before .before .before .before .before .before .before .before .before .before .before .before .before .before .before .before .pre .1 .0) _ (c .before .before .before .before .before .before .before .before .before .before .before .before .before .before .before .row-of .ensures) _ (c .before .before .before .before .before .before .before .before .before .before .before .before .before .if1 .left) (c .before .before .before .before .before .before .value .ensures) (c .before .before .before .before .before .before .before .before .before .before .before .before .before .before .before .before .before .before .before .before .pre .1 .1 .1) (c .before .before .a .given .1))
 
 pub field-same-length-5 : (t : ℕ) → field-lts.Need-same-length-5 (field-cs t) (field-at t) field.Post
 field-same-length-5 t c = search needs
 
 pub field-returns-5 : (t : ℕ) → field-lts.Need-returns-5 (field-cs t) (field-at t) field.Post
-field-returns-5 t c = field-kept _ _ _ _ _ _ _ (c .before .before .before .before .before .before .before .before .before .before .before .before .before .before .before .before .before .before .before .before .before .before .before .args .new) (c .before .before .before .before .before .before .before .before .before .before .before .before .before .before .before .before .before .before .before .before .before .before .before .args .row) (c .before .before .before .before .before .before .before .before .before .before .before .before .before .before .before .before .before .before .before .before .before .before .before .args .depth) (c .before .before .before .before .before .before .before .before .before .before .before .before .before .before .before .before .before .before .before .before .before .before .before .pre .1 .0) _ (c .before .before .before .before .before .before .before .before .before .before .before .before .before .before .before .before .before .before .row-of .ensures) _ (c .before .before .before .before .before .before .before .before .before .before .before .before .before .before .before .before .if1 .left) (c .before .before .before .before .before .before .before .before .before .value .ensures) (c .before .before .before .before .before .before .before .before .before .before .before .before .before .before .before .before .before .before .before .before .before .before .before .pre .1 .1 .1) (c .before .before .before .before .before .a .given .1) (c .before .before .add-field3 .ensures)
+field-returns-5 t c = field-kept _ _ _ _ _ _ _ (c .before .before .before .before .before .before .before .before .before .before .before .before .before .before .before .before .before .before .before .before .before .before .before .args .new .0) (c .before .before .before .before .before .before .before .before .before .before .before .before .before .before .before .before .before .before .before .before .before .before .before .args .row) (c .before .before .before .before .before .before .before .before .before .before .before .before .before .before .before .before .before .before .before .before .before .before .before .args .depth) (c .before .before .before .before .before .before .before .before .before .before .before .before .before .before .before .before .before .before .before .before .before .before .before .pre .1 .0) _ (c .before .before .before .before .before .before .before .before .before .before .before .before .before .before .before .before .before .before .row-of .ensures) _ (c .before .before .before .before .before .before .before .before .before .before .before .before .before .before .before .before .if1 .left) (c .before .before .before .before .before .before .before .before .before .value .ensures) (c .before .before .before .before .before .before .before .before .before .before .before .before .before .before .before .before .before .before .before .before .before .before .before .pre .1 .1 .1) (c .before .before .before .before .before .a .given .1) (c .before .before .add-field3 .ensures)

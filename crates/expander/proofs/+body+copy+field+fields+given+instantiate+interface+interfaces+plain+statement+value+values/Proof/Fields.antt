@@ -82,7 +82,7 @@ use native.Mathlib.Omega.{arith}
 use borrow.Author.Needs.{needs}
 
 abbrev pub fields-Inv-loop : fields-lts.InvT-loop
-fields-Inv-loop root library dir work₀ lim env new row depth cur₀ h₀ at₀ work cur h at = Fielding root library dir work₀ lim cur₀ env new row depth work cur h at
+fields-Inv-loop root library dir work₀ lim env new row depth cur₀ h₀ at₀ work cur h at = Fielding root library dir work₀ lim cur₀ env (new .0) row depth work cur h at
 
 abbrev pub fields-μ-loop : fields-lts.MeasureT-loop
 fields-μ-loop root library dir work₀ lim env new row depth cur₀ h₀ at₀ work cur h at = length (rowsOf root library dir (env .slot)) - at
@@ -91,7 +91,7 @@ pub fields-add-at : (t : ℕ) → fields-lts.Need-add-at (fields-cs t) (fields-a
 fields-add-at t c = omega (arith, c .before .before .before .before .pre .1 .1 .below, rows-few (c .before .before .before .before .pre .1 .0 .lent) (c .before .before .before .before .args .env .slot))
 
 pub fields-loop-holds : (t : ℕ) → fields-lts.Need-loop-holds (fields-cs t) (fields-at t) fields.Post fields-Inv-loop fields-μ-loop
-fields-loop-holds t c = fields-start _ _ _ _ _ _ _ (c .before .before .before .before .args .new) (c .before .before .before .before .args .row) (c .before .before .before .before .args .depth) (c .before .before .before .before .pre .1 .0)
+fields-loop-holds t c = fields-start _ _ _ _ _ _ _ (c .before .before .before .before .args .new .0) (c .before .before .before .before .args .row) (c .before .before .before .before .args .depth) (c .before .before .before .before .pre .1 .0)
 
 pub fields-next-requires : (t : ℕ) → fields-lts.Need-next-requires (fields-cs t) (fields-at t) fields.Post fields-Inv-loop fields-μ-loop
 fields-next-requires t c κs = slot-within (c .before .before .before .before .before .pre .1 .0 .lent .sourced) (c .before .before .before .before .before .pre .1 .0 .slot)
@@ -106,13 +106,13 @@ pub fields-same-length : (t : ℕ) → fields-lts.Need-same-length (fields-cs t)
 fields-same-length t c = since (c .before .before .before .loop .inv .run) .long
 
 pub fields-returns : (t : ℕ) → fields-lts.Need-returns (fields-cs t) (fields-at t) fields.Post fields-Inv-loop fields-μ-loop
-fields-returns t c = fields-end _ _ _ _ _ _ _ (c .before .before .before .before .before .before .before .before .args .new) (c .before .before .before .before .before .before .before .before .args .row) (c .before .before .before .before .before .before .before .before .args .depth) (c .before .before .before .before .before .before .before .before .pre .1 .0) (c .before .before .before .loop .inv) (missing Fields _ (c .before .before .before .loop .at) (c .before .before .next .ensures) (c .enum-told .given .1))
+fields-returns t c = fields-end _ _ _ _ _ _ _ (c .before .before .before .before .before .before .before .before .args .new .0) (c .before .before .before .before .before .before .before .before .args .row) (c .before .before .before .before .before .before .before .before .args .depth) (c .before .before .before .before .before .before .before .before .pre .1 .0) (c .before .before .before .loop .inv) (missing Fields _ (c .before .before .before .loop .at) (c .before .before .next .ensures) (c .enum-told .given .1))
 
 pub fields-add-at-2 : (t : ℕ) → fields-lts.Need-add-at-2 (fields-cs t) (fields-at t) fields.Post fields-Inv-loop fields-μ-loop
 fields-add-at-2 t c = omega (arith, rows-few (c .before .before .before .before .before .before .before .before .before .pre .1 .0 .lent) (c .before .before .before .before .before .before .before .before .before .args .env .slot), stands Fields _ (c .before .before .before .before .loop .at) (c .before .before .before .next .ensures) (c .before .q .given .1) .below)
 
 pub fields-field-requires : (t : ℕ) → fields-lts.Need-field-requires (fields-cs t) (fields-at t) fields.Post fields-Inv-loop fields-μ-loop
-fields-field-requires t c κs = (omega (arith, c .before .before .before .before .before .before .before .before .before .before .pre .0), (fields-here _ _ _ _ _ _ _ (c .before .before .before .before .before .before .before .before .before .before .args .new) (c .before .before .before .before .before .before .before .before .before .before .args .row) (c .before .before .before .before .before .before .before .before .before .before .args .depth) (c .before .before .before .before .before .before .before .before .before .before .pre .1 .0) (c .before .before .before .before .before .loop .inv), (record { below = stands Fields _ (c .before .before .before .before .before .loop .at) (c .before .before .before .before .next .ensures) (c .before .before .q .given .1) .below }, c .before .before .before .before .before .loop .inv .handle)))
+fields-field-requires t c κs = (omega (arith, c .before .before .before .before .before .before .before .before .before .before .pre .0), (fields-here _ _ _ _ _ _ _ (c .before .before .before .before .before .before .before .before .before .before .args .new .0) (c .before .before .before .before .before .before .before .before .before .before .args .row) (c .before .before .before .before .before .before .before .before .before .before .args .depth) (c .before .before .before .before .before .before .before .before .before .before .pre .1 .0) (c .before .before .before .before .before .loop .inv), (record { below = stands Fields _ (c .before .before .before .before .before .loop .at) (c .before .before .before .before .next .ensures) (c .before .before .q .given .1) .below }, c .before .before .before .before .before .loop .inv .handle)))
 
 pub fields-enum-known-a : (t : ℕ) → fields-lts.Need-enum-known-a (fields-cs t) (fields-at t) fields.Post fields-Inv-loop fields-μ-loop
 fields-enum-known-a t c = search needs
@@ -124,10 +124,10 @@ pub fields-same-length-2 : (t : ℕ) → fields-lts.Need-same-length-2 (fields-c
 fields-same-length-2 t c = (c .before .before .before .before .field .kept .1 .1 .1 .0) ∙ since (c .before .before .before .before .before .before .before .before .before .before .loop .inv .run) .long
 
 pub fields-returns-2 : (t : ℕ) → fields-lts.Need-returns-2 (fields-cs t) (fields-at t) fields.Post fields-Inv-loop fields-μ-loop
-fields-returns-2 t c = fields-stop _ _ _ _ _ _ _ (c .before .before .before .before .before .before .before .before .before .before .before .before .before .before .before .args .new) (c .before .before .before .before .before .before .before .before .before .before .before .before .before .before .before .args .row) (c .before .before .before .before .before .before .before .before .before .before .before .before .before .before .before .args .depth) (c .before .before .before .before .before .before .before .before .before .before .before .before .before .before .before .pre .1 .0) (c .before .before .before .before .before .before .before .before .before .before .loop .inv) (stands Fields _ (c .before .before .before .before .before .before .before .before .before .before .loop .at) (c .before .before .before .before .before .before .before .before .before .next .ensures) (c .before .before .before .before .before .before .before .q .given .1)) (c .before .before .before .before .field .ensures) (c .enum-told2 .given .1)
+fields-returns-2 t c = fields-stop _ _ _ _ _ _ _ (c .before .before .before .before .before .before .before .before .before .before .before .before .before .before .before .args .new .0) (c .before .before .before .before .before .before .before .before .before .before .before .before .before .before .before .args .row) (c .before .before .before .before .before .before .before .before .before .before .before .before .before .before .before .args .depth) (c .before .before .before .before .before .before .before .before .before .before .before .before .before .before .before .pre .1 .0) (c .before .before .before .before .before .before .before .before .before .before .loop .inv) (stands Fields _ (c .before .before .before .before .before .before .before .before .before .before .loop .at) (c .before .before .before .before .before .before .before .before .before .next .ensures) (c .before .before .before .before .before .before .before .q .given .1)) (c .before .before .before .before .field .ensures) (c .enum-told2 .given .1)
 
 pub fields-loop-less : (t : ℕ) → fields-lts.Need-loop-less (fields-cs t) (fields-at t) fields.Post fields-Inv-loop fields-μ-loop
 fields-loop-less t c = let s = stands Fields _ (c .before .before .before .before .before .before .before .before .before .before .before .loop .at) (c .before .before .before .before .before .before .before .before .before .before .next .ensures) (c .before .before .before .before .before .before .before .before .q .given .1) in omega (arith, s .from, s .below)
 
 pub fields-loop-again : (t : ℕ) → fields-lts.Need-loop-again (fields-cs t) (fields-at t) fields.Post fields-Inv-loop fields-μ-loop
-fields-loop-again t c = fields-again _ _ _ _ _ _ _ (c .before .before .before .before .before .before .before .before .before .before .before .before .before .before .before .before .args .new) (c .before .before .before .before .before .before .before .before .before .before .before .before .before .before .before .before .args .row) (c .before .before .before .before .before .before .before .before .before .before .before .before .before .before .before .before .args .depth) (c .before .before .before .before .before .before .before .before .before .before .before .before .before .before .before .before .pre .1 .0) (c .before .before .before .before .before .before .before .before .before .before .before .loop .inv) (stands Fields _ (c .before .before .before .before .before .before .before .before .before .before .before .loop .at) (c .before .before .before .before .before .before .before .before .before .before .next .ensures) (c .before .before .before .before .before .before .before .before .q .given .1)) (c .before .before .before .before .before .field .ensures) (c .before .a .given .1)
+fields-loop-again t c = fields-again _ _ _ _ _ _ _ (c .before .before .before .before .before .before .before .before .before .before .before .before .before .before .before .before .args .new .0) (c .before .before .before .before .before .before .before .before .before .before .before .before .before .before .before .before .args .row) (c .before .before .before .before .before .before .before .before .before .before .before .before .before .before .before .before .args .depth) (c .before .before .before .before .before .before .before .before .before .before .before .before .before .before .before .before .pre .1 .0) (c .before .before .before .before .before .before .before .before .before .before .before .loop .inv) (stands Fields _ (c .before .before .before .before .before .before .before .before .before .before .before .loop .at) (c .before .before .before .before .before .before .before .before .before .before .next .ensures) (c .before .before .before .before .before .before .before .before .q .given .1)) (c .before .before .before .before .before .field .ensures) (c .before .a .given .1)

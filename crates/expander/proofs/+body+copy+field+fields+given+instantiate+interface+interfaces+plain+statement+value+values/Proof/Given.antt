@@ -89,7 +89,7 @@ pub given-row-of-requires-2 : (t : ℕ) → given-lts.Need-row-of-requires-2 (gi
 given-row-of-requires-2 t c κs = slot-within (c .before .before .before .before .before .before .before .before .before .before .pre .1 .0 .lent .sourced) (c .before .before .before .before .before .before .before .before .before .before .pre .1 .0 .slot)
 
 pub given-value-requires : (t : ℕ) → given-lts.Need-value-requires (given-cs t) (given-at t) given.Post
-given-value-requires t c κs = (omega (arith, c .before .before .before .before .before .before .before .before .before .before .before .before .before .before .pre .0), (c .before .before .before .before .before .before .before .before .before .before .before .before .before .before .pre .1 .0, given-row _ _ _ _ _ _ _ _ _ (c .before .before .before .before .before .before .before .before .before .before .before .before .before .before .args .proto) _ (c .before .before .before .before .before .before .before .before .before .before .before .before .before .before .args .k) (c .before .before .before .before .before .before .before .before .before .before .before .before .before .before .args .h) (c .before .before .before .before .before .before .before .before .before .before .before .before .before .before .args .depth) (c .before .before .before .before .before .before .before .before .before .before .before .before .before .before .pre .1 .0) _ (c .before .before .before .before .before .before .before .before .before .row-of .ensures) (c .before .before .before .before .before .before .before .last-field .ensures) (c .before .before .before .before .before .f .given .1) _ (c .before .before .before .row-of2 .ensures)))
+given-value-requires t c κs = (omega (arith, c .before .before .before .before .before .before .before .before .before .before .before .before .before .before .pre .0), (c .before .before .before .before .before .before .before .before .before .before .before .before .before .before .pre .1 .0, given-row _ _ _ _ _ _ _ _ _ (c .before .before .before .before .before .before .before .before .before .before .before .before .before .before .args .proto .0) _ (c .before .before .before .before .before .before .before .before .before .before .before .before .before .before .args .k) (c .before .before .before .before .before .before .before .before .before .before .before .before .before .before .args .h) (c .before .before .before .before .before .before .before .before .before .before .before .before .before .before .args .depth) (c .before .before .before .before .before .before .before .before .before .before .before .before .before .before .pre .1 .0) _ (c .before .before .before .before .before .before .before .before .before .row-of .ensures) (c .before .before .before .before .before .before .before .last-field .ensures) (c .before .before .before .before .before .f .given .1) _ (c .before .before .before .row-of2 .ensures)))
 
 pub given-enum-known-a : (t : ℕ) → given-lts.Need-enum-known-a (given-cs t) (given-at t) given.Post
 given-enum-known-a t c = search needs
@@ -104,7 +104,7 @@ pub given-returns : (t : ℕ) → given-lts.Need-returns (given-cs t) (given-at 
 given-returns t c = given-stop _ _ _ _ _ _ _ _ _ _ _ _ _ _ (c .before .before .before .before .before .before .before .before .before .before .before .before .before .before .before .before .before .before .before .pre .1 .0) _ (c .before .before .before .before .before .before .before .before .before .before .before .before .before .before .row-of .ensures) (c .before .before .before .before .before .before .before .before .before .before .before .before .last-field .ensures) (c .before .before .before .before .before .before .before .before .before .before .f .given .1) _ (c .before .before .before .before .before .before .before .before .row-of2 .ensures) (c .before .before .before .before .before .before .if1 .taken) (c .before .before .before .before .value .ensures) (c .enum-told .given .1)
 
 pub given-store-requires : (t : ℕ) → given-lts.Need-store-requires (given-cs t) (given-at t) given.Post
-given-store-requires t c κs = given-ready _ _ _ _ _ _ _ _ _ (c .before .before .before .before .before .before .before .before .before .before .before .before .before .before .before .before .before .before .before .before .before .args .proto) _ (c .before .before .before .before .before .before .before .before .before .before .before .before .before .before .before .before .before .before .before .before .before .args .k) _ _ (c .before .before .before .before .before .before .before .before .before .before .before .before .before .before .before .before .before .before .before .before .before .pre .1 .0) _ (c .before .before .before .before .before .before .before .before .before .before .before .before .before .before .before .before .row-of .ensures) (c .before .before .before .before .before .before .before .before .before .before .before .before .before .before .last-field .ensures) (c .before .before .before .before .before .before .before .before .before .before .before .before .f .given .1) _ (c .before .before .before .before .before .before .before .before .before .before .row-of2 .ensures) (c .before .before .before .before .before .before .before .before .if1 .taken) (c .before .before .before .before .before .before .value .ensures) (c .before .before .before .before .before .before .before .before .before .before .before .before .before .before .before .before .before .before .before .before .before .pre .1 .1 .1 .1 .1) (c .before .before .a .given .1)
+given-store-requires t c κs = given-ready _ _ _ _ _ _ _ _ _ (c .before .before .before .before .before .before .before .before .before .before .before .before .before .before .before .before .before .before .before .before .before .args .proto .0) _ (c .before .before .before .before .before .before .before .before .before .before .before .before .before .before .before .before .before .before .before .before .before .args .k) _ _ (c .before .before .before .before .before .before .before .before .before .before .before .before .before .before .before .before .before .before .before .before .before .pre .1 .0) _ (c .before .before .before .before .before .before .before .before .before .before .before .before .before .before .before .before .row-of .ensures) (c .before .before .before .before .before .before .before .before .before .before .before .before .before .before .last-field .ensures) (c .before .before .before .before .before .before .before .before .before .before .before .before .f .given .1) _ (c .before .before .before .before .before .before .before .before .before .before .row-of2 .ensures) (c .before .before .before .before .before .before .before .before .if1 .taken) (c .before .before .before .before .before .before .value .ensures) (c .before .before .before .before .before .before .before .before .before .before .before .before .before .before .before .before .before .before .before .before .before .pre .1 .1 .1 .1 .1) (c .before .before .a .given .1)
 
 pub given-same-length-2 : (t : ℕ) → given-lts.Need-same-length-2 (given-cs t) (given-at t) given.Post
 given-same-length-2 t c = search needs

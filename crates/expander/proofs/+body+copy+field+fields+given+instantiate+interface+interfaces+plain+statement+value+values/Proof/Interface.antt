@@ -87,7 +87,7 @@ pub interface-same-length : (t : ℕ) → interface-lts.Need-same-length (interf
 interface-same-length t c = search needs
 
 pub interface-returns : (t : ℕ) → interface-lts.Need-returns (interface-cs t) (interface-at t) interface.Post
-interface-returns t c = interface-is _ _ _ _ _ _ _ (c .before .before .before .before .before .before .before .before .before .before .before .args .new) (c .before .before .before .before .before .before .before .before .before .before .before .args .row) (c .before .before .before .before .before .before .before .before .before .before .before .args .depth) (c .before .before .before .before .before .before .before .before .before .before .before .pre .1 .0) _ (c .before .before .before .before .before .before .row-of .ensures) (c .before .before .before .before .before .before .before .before .before .before .before .args .h) (c .before .before .before .before .if1 .taken) (c .before .before .is-interface .ensures)
+interface-returns t c = interface-is _ _ _ _ _ _ _ (c .before .before .before .before .before .before .before .before .before .before .before .args .new .0) (c .before .before .before .before .before .before .before .before .before .before .before .args .row) (c .before .before .before .before .before .before .before .before .before .before .before .args .depth) (c .before .before .before .before .before .before .before .before .before .before .before .pre .1 .0) _ (c .before .before .before .before .before .before .row-of .ensures) (c .before .before .before .before .before .before .before .before .before .before .before .args .h) (c .before .before .before .before .if1 .taken) (c .before .before .is-interface .ensures)
 
 pub interface-value-requires : (t : ℕ) → interface-lts.Need-value-requires (interface-cs t) (interface-at t) interface.Post
 interface-value-requires t c κs = (omega (arith, c .before .before .before .before .before .before .before .before .pre .0), (c .before .before .before .before .before .before .before .before .pre .1 .0, c .before .before .before .before .before .before .before .before .pre .1 .1 .0))
@@ -102,13 +102,13 @@ pub interface-same-length-2 : (t : ℕ) → interface-lts.Need-same-length-2 (in
 interface-same-length-2 t c = search needs
 
 pub interface-returns-2 : (t : ℕ) → interface-lts.Need-returns-2 (interface-cs t) (interface-at t) interface.Post
-interface-returns-2 t c = interface-stop _ _ _ _ _ _ _ (c .before .before .before .before .before .before .before .before .before .before .before .before .before .args .new) (c .before .before .before .before .before .before .before .before .before .before .before .before .before .args .row) (c .before .before .before .before .before .before .before .before .before .before .before .before .before .args .depth) (c .before .before .before .before .before .before .before .before .before .before .before .before .before .pre .1 .0) _ (c .before .before .before .before .before .before .before .before .row-of .ensures) (c .before .before .before .before .before .before .before .before .before .before .before .before .before .args .h) (c .before .before .before .before .before .before .if1 .left) (c .before .before .before .before .value .ensures) (c .enum-told .given .1)
+interface-returns-2 t c = interface-stop _ _ _ _ _ _ _ (c .before .before .before .before .before .before .before .before .before .before .before .before .before .args .new .0) (c .before .before .before .before .before .before .before .before .before .before .before .before .before .args .row) (c .before .before .before .before .before .before .before .before .before .before .before .before .before .args .depth) (c .before .before .before .before .before .before .before .before .before .before .before .before .before .pre .1 .0) _ (c .before .before .before .before .before .before .before .before .row-of .ensures) (c .before .before .before .before .before .before .before .before .before .before .before .before .before .args .h) (c .before .before .before .before .before .before .if1 .left) (c .before .before .before .before .value .ensures) (c .enum-told .given .1)
 
 pub interface-keep-requires : (t : ℕ) → interface-lts.Need-keep-requires (interface-cs t) (interface-at t) interface.Post
-interface-keep-requires t c κs = (later-standing (went (c .before .before .before .before .before .before .value .ensures) (c .before .before .a .given .1)) (c .before .before .before .before .before .before .before .before .before .before .before .before .before .before .before .pre .1 .0 .standing), interface-ready _ _ _ _ _ _ _ (c .before .before .before .before .before .before .before .before .before .before .before .before .before .before .before .args .new) (c .before .before .before .before .before .before .before .before .before .before .before .before .before .before .before .args .row) (c .before .before .before .before .before .before .before .before .before .before .before .before .before .before .before .args .depth) (c .before .before .before .before .before .before .before .before .before .before .before .before .before .before .before .pre .1 .0) _ (c .before .before .before .before .before .before .before .before .before .before .row-of .ensures) (c .before .before .before .before .before .before .before .before .before .before .before .before .before .before .before .args .h) (c .before .before .before .before .before .before .before .before .if1 .left) (c .before .before .before .before .before .before .value .ensures) (c .before .before .before .before .before .before .before .before .before .before .before .before .before .before .before .pre .1 .1 .1) (c .before .before .a .given .1))
+interface-keep-requires t c κs = (later-standing (went (c .before .before .before .before .before .before .value .ensures) (c .before .before .a .given .1)) (c .before .before .before .before .before .before .before .before .before .before .before .before .before .before .before .pre .1 .0 .standing), interface-ready _ _ _ _ _ _ _ (c .before .before .before .before .before .before .before .before .before .before .before .before .before .before .before .args .new .0) (c .before .before .before .before .before .before .before .before .before .before .before .before .before .before .before .args .row) (c .before .before .before .before .before .before .before .before .before .before .before .before .before .before .before .args .depth) (c .before .before .before .before .before .before .before .before .before .before .before .before .before .before .before .pre .1 .0) _ (c .before .before .before .before .before .before .before .before .before .before .row-of .ensures) (c .before .before .before .before .before .before .before .before .before .before .before .before .before .before .before .args .h) (c .before .before .before .before .before .before .before .before .if1 .left) (c .before .before .before .before .before .before .value .ensures) (c .before .before .before .before .before .before .before .before .before .before .before .before .before .before .before .pre .1 .1 .1) (c .before .before .a .given .1))
 
 pub interface-same-length-3 : (t : ℕ) → interface-lts.Need-same-length-3 (interface-cs t) (interface-at t) interface.Post
 interface-same-length-3 t c = search needs
 
 pub interface-returns-3 : (t : ℕ) → interface-lts.Need-returns-3 (interface-cs t) (interface-at t) interface.Post
-interface-returns-3 t c = interface-kept _ _ _ _ _ _ _ (c .before .before .before .before .before .before .before .before .before .before .before .before .before .before .before .before .before .before .args .new) (c .before .before .before .before .before .before .before .before .before .before .before .before .before .before .before .before .before .before .args .row) (c .before .before .before .before .before .before .before .before .before .before .before .before .before .before .before .before .before .before .args .depth) (c .before .before .before .before .before .before .before .before .before .before .before .before .before .before .before .before .before .before .pre .1 .0) _ (c .before .before .before .before .before .before .before .before .before .before .before .before .before .row-of .ensures) (c .before .before .before .before .before .before .before .before .before .before .before .before .before .before .before .before .before .before .args .h) (c .before .before .before .before .before .before .before .before .before .before .before .if1 .left) (c .before .before .before .before .before .before .before .before .before .value .ensures) (c .before .before .before .before .before .before .before .before .before .before .before .before .before .before .before .before .before .before .pre .1 .1 .1) (c .before .before .before .before .before .a .given .1) (c .before .before .keep .ensures)
+interface-returns-3 t c = interface-kept _ _ _ _ _ _ _ (c .before .before .before .before .before .before .before .before .before .before .before .before .before .before .before .before .before .before .args .new .0) (c .before .before .before .before .before .before .before .before .before .before .before .before .before .before .before .before .before .before .args .row) (c .before .before .before .before .before .before .before .before .before .before .before .before .before .before .before .before .before .before .args .depth) (c .before .before .before .before .before .before .before .before .before .before .before .before .before .before .before .before .before .before .pre .1 .0) _ (c .before .before .before .before .before .before .before .before .before .before .before .before .before .row-of .ensures) (c .before .before .before .before .before .before .before .before .before .before .before .before .before .before .before .before .before .before .args .h) (c .before .before .before .before .before .before .before .before .before .before .before .if1 .left) (c .before .before .before .before .before .before .before .before .before .value .ensures) (c .before .before .before .before .before .before .before .before .before .before .before .before .before .before .before .before .before .before .pre .1 .1 .1) (c .before .before .before .before .before .a .given .1) (c .before .before .keep .ensures)

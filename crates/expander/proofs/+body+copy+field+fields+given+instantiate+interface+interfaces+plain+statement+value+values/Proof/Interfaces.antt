@@ -85,7 +85,7 @@ use native.Mathlib.Omega.{arith}
 use borrow.Author.Needs.{needs}
 
 abbrev pub interfaces-Inv-loop : interfaces-lts.InvT-loop
-interfaces-Inv-loop root library dir work₀ lim env new row depth cur₀ h₀ at₀ work cur h at = Interfacing root library dir work₀ lim cur₀ env new row depth work cur h at
+interfaces-Inv-loop root library dir work₀ lim env new row depth cur₀ h₀ at₀ work cur h at = Interfacing root library dir work₀ lim cur₀ env (new .0) row depth work cur h at
 
 abbrev pub interfaces-μ-loop : interfaces-lts.MeasureT-loop
 interfaces-μ-loop root library dir work₀ lim env new row depth cur₀ h₀ at₀ work cur h at = length (rowsOf root library dir (env .slot)) - at
@@ -94,7 +94,7 @@ pub interfaces-add-at : (t : ℕ) → interfaces-lts.Need-add-at (interfaces-cs 
 interfaces-add-at t c = omega (arith, c .before .before .before .before .pre .1 .1 .below, rows-few (c .before .before .before .before .pre .1 .0 .lent) (c .before .before .before .before .args .env .slot))
 
 pub interfaces-loop-holds : (t : ℕ) → interfaces-lts.Need-loop-holds (interfaces-cs t) (interfaces-at t) interfaces.Post interfaces-Inv-loop interfaces-μ-loop
-interfaces-loop-holds t c = interfaces-start _ _ _ _ _ _ _ (c .before .before .before .before .args .new) (c .before .before .before .before .args .row) (c .before .before .before .before .args .depth) (c .before .before .before .before .pre .1 .0)
+interfaces-loop-holds t c = interfaces-start _ _ _ _ _ _ _ (c .before .before .before .before .args .new .0) (c .before .before .before .before .args .row) (c .before .before .before .before .args .depth) (c .before .before .before .before .pre .1 .0)
 
 pub interfaces-next-requires : (t : ℕ) → interfaces-lts.Need-next-requires (interfaces-cs t) (interfaces-at t) interfaces.Post interfaces-Inv-loop interfaces-μ-loop
 interfaces-next-requires t c κs = slot-within (c .before .before .before .before .before .pre .1 .0 .lent .sourced) (c .before .before .before .before .before .pre .1 .0 .slot)
@@ -109,13 +109,13 @@ pub interfaces-same-length : (t : ℕ) → interfaces-lts.Need-same-length (inte
 interfaces-same-length t c = since (c .before .before .before .loop .inv .run) .long
 
 pub interfaces-returns : (t : ℕ) → interfaces-lts.Need-returns (interfaces-cs t) (interfaces-at t) interfaces.Post interfaces-Inv-loop interfaces-μ-loop
-interfaces-returns t c = interfaces-end _ _ _ _ _ _ _ (c .before .before .before .before .before .before .before .before .args .new) (c .before .before .before .before .before .before .before .before .args .row) (c .before .before .before .before .before .before .before .before .args .depth) (c .before .before .before .before .before .before .before .before .pre .1 .0) (c .before .before .before .loop .inv) (missing Interfaces (rowsOf (now (c .before .before .before .before .before .before .before .before .args .root)) (now (c .before .before .before .before .before .before .before .before .args .library)) (now (c .before .before .before .before .before .before .before .before .args .dir)) (c .before .before .before .before .before .before .before .before .args .env .slot)) (c .before .before .before .loop .at) (c .before .before .next .ensures) (c .enum-told .given .1))
+interfaces-returns t c = interfaces-end _ _ _ _ _ _ _ (c .before .before .before .before .before .before .before .before .args .new .0) (c .before .before .before .before .before .before .before .before .args .row) (c .before .before .before .before .before .before .before .before .args .depth) (c .before .before .before .before .before .before .before .before .pre .1 .0) (c .before .before .before .loop .inv) (missing Interfaces (rowsOf (now (c .before .before .before .before .before .before .before .before .args .root)) (now (c .before .before .before .before .before .before .before .before .args .library)) (now (c .before .before .before .before .before .before .before .before .args .dir)) (c .before .before .before .before .before .before .before .before .args .env .slot)) (c .before .before .before .loop .at) (c .before .before .next .ensures) (c .enum-told .given .1))
 
 pub interfaces-add-at-2 : (t : ℕ) → interfaces-lts.Need-add-at-2 (interfaces-cs t) (interfaces-at t) interfaces.Post interfaces-Inv-loop interfaces-μ-loop
 interfaces-add-at-2 t c = omega (arith, stands Interfaces (rowsOf (now (c .before .before .before .before .before .before .before .before .before .args .root)) (now (c .before .before .before .before .before .before .before .before .before .args .library)) (now (c .before .before .before .before .before .before .before .before .before .args .dir)) (c .before .before .before .before .before .before .before .before .before .args .env .slot)) (c .before .before .before .before .loop .at) (c .before .before .before .next .ensures) (c .before .q .given .1) .below, rows-few (c .before .before .before .before .before .before .before .before .before .pre .1 .0 .lent) (c .before .before .before .before .before .before .before .before .before .args .env .slot))
 
 pub interfaces-interface-requires : (t : ℕ) → interfaces-lts.Need-interface-requires (interfaces-cs t) (interfaces-at t) interfaces.Post interfaces-Inv-loop interfaces-μ-loop
-interfaces-interface-requires t c κs = (omega (arith, c .before .before .before .before .before .before .before .before .before .before .pre .0), (interfaces-here _ _ _ _ _ _ _ (c .before .before .before .before .before .before .before .before .before .before .args .new) (c .before .before .before .before .before .before .before .before .before .before .args .row) (c .before .before .before .before .before .before .before .before .before .before .args .depth) (c .before .before .before .before .before .before .before .before .before .before .pre .1 .0) (c .before .before .before .before .before .loop .inv), (record { below = stands Interfaces (rowsOf (now (c .before .before .before .before .before .before .before .before .before .before .args .root)) (now (c .before .before .before .before .before .before .before .before .before .before .args .library)) (now (c .before .before .before .before .before .before .before .before .before .before .args .dir)) (c .before .before .before .before .before .before .before .before .before .before .args .env .slot)) (c .before .before .before .before .before .loop .at) (c .before .before .before .before .next .ensures) (c .before .before .q .given .1) .below }, c .before .before .before .before .before .loop .inv .handle)))
+interfaces-interface-requires t c κs = (omega (arith, c .before .before .before .before .before .before .before .before .before .before .pre .0), (interfaces-here _ _ _ _ _ _ _ (c .before .before .before .before .before .before .before .before .before .before .args .new .0) (c .before .before .before .before .before .before .before .before .before .before .args .row) (c .before .before .before .before .before .before .before .before .before .before .args .depth) (c .before .before .before .before .before .before .before .before .before .before .pre .1 .0) (c .before .before .before .before .before .loop .inv), (record { below = stands Interfaces (rowsOf (now (c .before .before .before .before .before .before .before .before .before .before .args .root)) (now (c .before .before .before .before .before .before .before .before .before .before .args .library)) (now (c .before .before .before .before .before .before .before .before .before .before .args .dir)) (c .before .before .before .before .before .before .before .before .before .before .args .env .slot)) (c .before .before .before .before .before .loop .at) (c .before .before .before .before .next .ensures) (c .before .before .q .given .1) .below }, c .before .before .before .before .before .loop .inv .handle)))
 
 pub interfaces-enum-known-a : (t : ℕ) → interfaces-lts.Need-enum-known-a (interfaces-cs t) (interfaces-at t) interfaces.Post interfaces-Inv-loop interfaces-μ-loop
 interfaces-enum-known-a t c = search needs
@@ -127,10 +127,10 @@ pub interfaces-same-length-2 : (t : ℕ) → interfaces-lts.Need-same-length-2 (
 interfaces-same-length-2 t c = (c .before .before .before .before .interface .kept .1 .1 .1 .0) ∙ since (c .before .before .before .before .before .before .before .before .before .before .loop .inv .run) .long
 
 pub interfaces-returns-2 : (t : ℕ) → interfaces-lts.Need-returns-2 (interfaces-cs t) (interfaces-at t) interfaces.Post interfaces-Inv-loop interfaces-μ-loop
-interfaces-returns-2 t c = interfaces-stop _ _ _ _ _ _ _ (c .before .before .before .before .before .before .before .before .before .before .before .before .before .before .before .args .new) (c .before .before .before .before .before .before .before .before .before .before .before .before .before .before .before .args .row) (c .before .before .before .before .before .before .before .before .before .before .before .before .before .before .before .args .depth) (c .before .before .before .before .before .before .before .before .before .before .before .before .before .before .before .pre .1 .0) (c .before .before .before .before .before .before .before .before .before .before .loop .inv) (stands Interfaces (rowsOf (now (c .before .before .before .before .before .before .before .before .before .before .before .before .before .before .before .args .root)) (now (c .before .before .before .before .before .before .before .before .before .before .before .before .before .before .before .args .library)) (now (c .before .before .before .before .before .before .before .before .before .before .before .before .before .before .before .args .dir)) (c .before .before .before .before .before .before .before .before .before .before .before .before .before .before .before .args .env .slot)) (c .before .before .before .before .before .before .before .before .before .before .loop .at) (c .before .before .before .before .before .before .before .before .before .next .ensures) (c .before .before .before .before .before .before .before .q .given .1)) (c .before .before .before .before .interface .ensures) (c .enum-told2 .given .1)
+interfaces-returns-2 t c = interfaces-stop _ _ _ _ _ _ _ (c .before .before .before .before .before .before .before .before .before .before .before .before .before .before .before .args .new .0) (c .before .before .before .before .before .before .before .before .before .before .before .before .before .before .before .args .row) (c .before .before .before .before .before .before .before .before .before .before .before .before .before .before .before .args .depth) (c .before .before .before .before .before .before .before .before .before .before .before .before .before .before .before .pre .1 .0) (c .before .before .before .before .before .before .before .before .before .before .loop .inv) (stands Interfaces (rowsOf (now (c .before .before .before .before .before .before .before .before .before .before .before .before .before .before .before .args .root)) (now (c .before .before .before .before .before .before .before .before .before .before .before .before .before .before .before .args .library)) (now (c .before .before .before .before .before .before .before .before .before .before .before .before .before .before .before .args .dir)) (c .before .before .before .before .before .before .before .before .before .before .before .before .before .before .before .args .env .slot)) (c .before .before .before .before .before .before .before .before .before .before .loop .at) (c .before .before .before .before .before .before .before .before .before .next .ensures) (c .before .before .before .before .before .before .before .q .given .1)) (c .before .before .before .before .interface .ensures) (c .enum-told2 .given .1)
 
 pub interfaces-loop-less : (t : ℕ) → interfaces-lts.Need-loop-less (interfaces-cs t) (interfaces-at t) interfaces.Post interfaces-Inv-loop interfaces-μ-loop
 interfaces-loop-less t c = let s = stands Interfaces (rowsOf (now (c .before .before .before .before .before .before .before .before .before .before .before .before .before .before .before .before .args .root)) (now (c .before .before .before .before .before .before .before .before .before .before .before .before .before .before .before .before .args .library)) (now (c .before .before .before .before .before .before .before .before .before .before .before .before .before .before .before .before .args .dir)) (c .before .before .before .before .before .before .before .before .before .before .before .before .before .before .before .before .args .env .slot)) (c .before .before .before .before .before .before .before .before .before .before .before .loop .at) (c .before .before .before .before .before .before .before .before .before .before .next .ensures) (c .before .before .before .before .before .before .before .before .q .given .1) in omega (arith, s .from, s .below)
 
 pub interfaces-loop-again : (t : ℕ) → interfaces-lts.Need-loop-again (interfaces-cs t) (interfaces-at t) interfaces.Post interfaces-Inv-loop interfaces-μ-loop
-interfaces-loop-again t c = interfaces-again _ _ _ _ _ _ _ (c .before .before .before .before .before .before .before .before .before .before .before .before .before .before .before .before .args .new) (c .before .before .before .before .before .before .before .before .before .before .before .before .before .before .before .before .args .row) (c .before .before .before .before .before .before .before .before .before .before .before .before .before .before .before .before .args .depth) (c .before .before .before .before .before .before .before .before .before .before .before .before .before .before .before .before .pre .1 .0) (c .before .before .before .before .before .before .before .before .before .before .before .loop .inv) (stands Interfaces (rowsOf (now (c .before .before .before .before .before .before .before .before .before .before .before .before .before .before .before .before .args .root)) (now (c .before .before .before .before .before .before .before .before .before .before .before .before .before .before .before .before .args .library)) (now (c .before .before .before .before .before .before .before .before .before .before .before .before .before .before .before .before .args .dir)) (c .before .before .before .before .before .before .before .before .before .before .before .before .before .before .before .before .args .env .slot)) (c .before .before .before .before .before .before .before .before .before .before .before .loop .at) (c .before .before .before .before .before .before .before .before .before .before .next .ensures) (c .before .before .before .before .before .before .before .before .q .given .1)) (c .before .before .before .before .before .interface .ensures) (c .before .a .given .1)
+interfaces-loop-again t c = interfaces-again _ _ _ _ _ _ _ (c .before .before .before .before .before .before .before .before .before .before .before .before .before .before .before .before .args .new .0) (c .before .before .before .before .before .before .before .before .before .before .before .before .before .before .before .before .args .row) (c .before .before .before .before .before .before .before .before .before .before .before .before .before .before .before .before .args .depth) (c .before .before .before .before .before .before .before .before .before .before .before .before .before .before .before .before .pre .1 .0) (c .before .before .before .before .before .before .before .before .before .before .before .loop .inv) (stands Interfaces (rowsOf (now (c .before .before .before .before .before .before .before .before .before .before .before .before .before .before .before .before .args .root)) (now (c .before .before .before .before .before .before .before .before .before .before .before .before .before .before .before .before .args .library)) (now (c .before .before .before .before .before .before .before .before .before .before .before .before .before .before .before .before .args .dir)) (c .before .before .before .before .before .before .before .before .before .before .before .before .before .before .before .before .args .env .slot)) (c .before .before .before .before .before .before .before .before .before .before .before .loop .at) (c .before .before .before .before .before .before .before .before .before .before .next .ensures) (c .before .before .before .before .before .before .before .before .q .given .1)) (c .before .before .before .before .before .interface .ensures) (c .before .a .given .1)

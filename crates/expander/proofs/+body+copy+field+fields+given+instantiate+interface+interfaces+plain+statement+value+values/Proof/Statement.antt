@@ -94,7 +94,7 @@ pub statement-returns : (t : ℕ) → statement-lts.Need-returns (statement-cs t
 statement-returns t c = node-stop _ _ _ _ _ _ _ _ _ _ _ _ _ (c .before .before .before .before .before .before .before .before .before .before .before .before .before .pre .1 .0) _ (c .before .before .before .before .before .before .before .before .row-of .ensures) (c .before .before .before .before .before .before .if1 .taken) (c .before .before .before .before .copy .ensures) (c .enum-told .given .1)
 
 pub statement-map-requires : (t : ℕ) → statement-lts.Need-map-requires (statement-cs t) (statement-at t) statement′.Post
-statement-map-requires t c κs = let i = node-inside _ _ _ _ _ _ _ (c .before .before .before .before .before .before .before .before .before .before .before .before .before .before .before .before .args .id) _ (c .before .before .before .before .before .before .before .before .before .before .before .before .before .before .before .before .args .row) _ _ _ (c .before .before .before .before .before .before .before .before .before .before .before .before .before .before .before .before .pre .1 .0) _ (c .before .before .before .before .before .before .before .before .before .before .before .row-of .ensures) (c .before .before .before .before .before .before .before .before .before .if1 .taken) (c .before .before .before .before .before .before .before .copy .ensures) (c .before .before .before .a .given .1) in (i .here .standing, (i .env, node-ready _ _ _ _ _ _ _ (c .before .before .before .before .before .before .before .before .before .before .before .before .before .before .before .before .args .id) _ (c .before .before .before .before .before .before .before .before .before .before .before .before .before .before .before .before .args .row) _ _ _ (c .before .before .before .before .before .before .before .before .before .before .before .before .before .before .before .before .pre .1 .0) _ (c .before .before .before .before .before .before .before .before .before .before .before .row-of .ensures) (c .before .before .before .before .before .before .before .before .before .if1 .taken) (c .before .before .before .before .before .before .before .copy .ensures) (c .before .before .before .a .given .1)))
+statement-map-requires t c κs = let i = node-inside _ _ _ _ _ _ _ (c .before .before .before .before .before .before .before .before .before .before .before .before .before .before .before .before .args .id .0) _ (c .before .before .before .before .before .before .before .before .before .before .before .before .before .before .before .before .args .row) _ _ _ (c .before .before .before .before .before .before .before .before .before .before .before .before .before .before .before .before .pre .1 .0) _ (c .before .before .before .before .before .before .before .before .before .before .before .row-of .ensures) (c .before .before .before .before .before .before .before .before .before .if1 .taken) (c .before .before .before .before .before .before .before .copy .ensures) (c .before .before .before .a .given .1) in (i .here .standing, (i .env, node-ready _ _ _ _ _ _ _ (c .before .before .before .before .before .before .before .before .before .before .before .before .before .before .before .before .args .id .0) _ (c .before .before .before .before .before .before .before .before .before .before .before .before .before .before .before .before .args .row) _ _ _ (c .before .before .before .before .before .before .before .before .before .before .before .before .before .before .before .before .pre .1 .0) _ (c .before .before .before .before .before .before .before .before .before .before .before .row-of .ensures) (c .before .before .before .before .before .before .before .before .before .if1 .taken) (c .before .before .before .before .before .before .before .copy .ensures) (c .before .before .before .a .given .1)))
 
 pub statement-same-length-2 : (t : ℕ) → statement-lts.Need-same-length-2 (statement-cs t) (statement-at t) statement′.Post
 statement-same-length-2 t c = search needs
@@ -103,7 +103,7 @@ pub statement-returns-2 : (t : ℕ) → statement-lts.Need-returns-2 (statement-
 statement-returns-2 t c = node-mapped _ _ _ _ _ _ _ _ _ _ _ _ _ (c .before .before .before .before .before .before .before .before .before .before .before .before .before .before .before .before .before .before .before .pre .1 .0) _ (c .before .before .before .before .before .before .before .before .before .before .before .before .before .before .row-of .ensures) (c .before .before .before .before .before .before .before .before .before .before .before .before .if1 .taken) (c .before .before .before .before .before .before .before .before .before .before .copy .ensures) (c .before .before .before .before .before .before .a .given .1) (c .before .before .before .before .if2 .taken) _ (c .before .before .map .ensures)
 
 pub statement-own-requires : (t : ℕ) → statement-lts.Need-own-requires (statement-cs t) (statement-at t) statement′.Post
-statement-own-requires t c κs = (node-inside _ _ _ _ _ _ _ (c .before .before .before .before .before .before .before .before .before .before .before .before .before .before .before .before .args .id) _ (c .before .before .before .before .before .before .before .before .before .before .before .before .before .before .before .before .args .row) _ _ _ (c .before .before .before .before .before .before .before .before .before .before .before .before .before .before .before .before .pre .1 .0) _ (c .before .before .before .before .before .before .before .before .before .before .before .row-of .ensures) (c .before .before .before .before .before .before .before .before .before .if1 .taken) (c .before .before .before .before .before .before .before .copy .ensures) (c .before .before .before .a .given .1) .here .standing, root-ready _ _ _ _ _ _ _ (c .before .before .before .before .before .before .before .before .before .before .before .before .before .before .before .before .args .id) _ (c .before .before .before .before .before .before .before .before .before .before .before .before .before .before .before .before .args .row) _ _ _ (c .before .before .before .before .before .before .before .before .before .before .before .before .before .before .before .before .pre .1 .0) _ (c .before .before .before .before .before .before .before .before .before .before .before .row-of .ensures) (c .before .before .before .before .before .before .before .before .before .if1 .taken) (c .before .before .before .before .before .before .before .copy .ensures) (c .before .before .before .a .given .1))
+statement-own-requires t c κs = (node-inside _ _ _ _ _ _ _ (c .before .before .before .before .before .before .before .before .before .before .before .before .before .before .before .before .args .id .0) _ (c .before .before .before .before .before .before .before .before .before .before .before .before .before .before .before .before .args .row) _ _ _ (c .before .before .before .before .before .before .before .before .before .before .before .before .before .before .before .before .pre .1 .0) _ (c .before .before .before .before .before .before .before .before .before .before .before .row-of .ensures) (c .before .before .before .before .before .before .before .before .before .if1 .taken) (c .before .before .before .before .before .before .before .copy .ensures) (c .before .before .before .a .given .1) .here .standing, root-ready _ _ _ _ _ _ _ (c .before .before .before .before .before .before .before .before .before .before .before .before .before .before .before .before .args .id .0) _ (c .before .before .before .before .before .before .before .before .before .before .before .before .before .before .before .before .args .row) _ _ _ (c .before .before .before .before .before .before .before .before .before .before .before .before .before .before .before .before .pre .1 .0) _ (c .before .before .before .before .before .before .before .before .before .before .before .row-of .ensures) (c .before .before .before .before .before .before .before .before .before .if1 .taken) (c .before .before .before .before .before .before .before .copy .ensures) (c .before .before .before .a .given .1))
 
 pub statement-kept-requires : (t : ℕ) → statement-lts.Need-kept-requires (statement-cs t) (statement-at t) statement′.Post
 statement-kept-requires t c κs = search needs
@@ -127,7 +127,7 @@ pub statement-returns-4 : (t : ℕ) → statement-lts.Need-returns-4 (statement-
 statement-returns-4 t c = rw (c .kept2 .ensures) (statement-extern _ _ _ _ _ _ _ _ _ _ _ _ _ (c .before .before .before .before .before .before .before .before .before .before .before .before .before .before .pre .1 .0) _ (c .before .before .before .before .before .before .before .before .before .row-of .ensures) (c .before .before .before .before .before .if3 .taken) _ (c .before .before .before .extern-proto .ensures))
 
 pub statement-own-requires-2 : (t : ℕ) → statement-lts.Need-own-requires-2 (statement-cs t) (statement-at t) statement′.Post
-statement-own-requires-2 t c κs = (c .before .before .before .before .before .before .before .before .before .before .before .before .pre .1 .0 .here .standing, route-ready _ _ _ _ _ _ _ (c .before .before .before .before .before .before .before .before .before .before .before .before .args .id) _ (c .before .before .before .before .before .before .before .before .before .before .before .before .args .row) _ _ (c .before .before .before .before .before .before .before .before .before .before .before .before .args .depth) (c .before .before .before .before .before .before .before .before .before .before .before .before .pre .1 .0) _ (c .before .before .before .before .before .before .before .row-of .ensures) (c .before .if4 .taken))
+statement-own-requires-2 t c κs = (c .before .before .before .before .before .before .before .before .before .before .before .before .pre .1 .0 .here .standing, route-ready _ _ _ _ _ _ _ (c .before .before .before .before .before .before .before .before .before .before .before .before .args .id .0) _ (c .before .before .before .before .before .before .before .before .before .before .before .before .args .row) _ _ (c .before .before .before .before .before .before .before .before .before .before .before .before .args .depth) (c .before .before .before .before .before .before .before .before .before .before .before .before .pre .1 .0) _ (c .before .before .before .before .before .before .before .row-of .ensures) (c .before .if4 .taken))
 
 pub statement-kept-requires-3 : (t : ℕ) → statement-lts.Need-kept-requires-3 (statement-cs t) (statement-at t) statement′.Post
 statement-kept-requires-3 t c κs = search needs

@@ -83,7 +83,7 @@ use native.Mathlib.Omega.{arith}
 use borrow.Author.Needs.{needs}
 
 abbrev pub values-Inv-loop : values-lts.InvT-loop
-values-Inv-loop root library dir work₀ lim env row slot proto decl depth cur₀ h₀ at₀ k₀ work cur h at k = Storing root library dir work₀ lim cur₀ env row slot proto decl depth work cur h at k
+values-Inv-loop root library dir work₀ lim env row slot proto decl depth cur₀ h₀ at₀ k₀ work cur h at k = Storing root library dir work₀ lim cur₀ env row slot (proto .0) decl depth work cur h at k
 
 abbrev pub values-μ-loop : values-lts.MeasureT-loop
 values-μ-loop root library dir work₀ lim env row slot proto decl depth cur₀ h₀ at₀ k₀ work cur h at k = length (rowsOf root library dir slot) - at

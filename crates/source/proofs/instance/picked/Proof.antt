@@ -41,7 +41,7 @@ kept-requires : tie.Need-kept-requires
 kept-requires c κs = omega (arith, c .before .wide .ensures .same, c .wide2 .ensures .same, c .before .before .before .before .before .before .before .before .before .pre .cache .upto, c .before .before .before .before .before .before .before .before .before .pre .within)
 
 returns : tie.Need-returns
-returns c = rw (c .kept .ensures, c .before .before .wide .ensures .same, c .before .wide2 .ensures .same) ((c .before .before .before .before .before .before .before .before .before .before .pre .cache .is) (c .before .before .before .before .before .before .before .before .before .before .args .id) (c .before .before .before .before .if1 .taken))
+returns c = rw (c .kept .ensures, c .before .before .wide .ensures .same, c .before .wide2 .ensures .same) ((c .before .before .before .before .before .before .before .before .before .before .pre .cache .is) (c .before .before .before .before .before .before .before .before .before .before .args .id .0) (c .before .before .before .before .if1 .taken))
 
 root-extern-requires : tie.Need-root-extern-requires
 root-extern-requires c κs = search needs
@@ -53,7 +53,7 @@ enum-told : tie.Need-enum-told
 enum-told c = search needs
 
 returns-2 : tie.Need-returns-2
-returns-2 c = target-missing (now (c .before .before .before .before .before .before .before .before .before .args .root)) (now (c .before .before .before .before .before .before .before .before .before .args .library)) (now (c .before .before .before .before .before .before .before .before .before .args .dir)) (c .before .before .before .before .before .before .before .before .before .args .id) (c .before .before .root-extern .ensures) (c .enum-told .given .1)
+returns-2 c = target-missing (now (c .before .before .before .before .before .before .before .before .before .args .root)) (now (c .before .before .before .before .before .before .before .before .before .args .library)) (now (c .before .before .before .before .before .before .before .before .before .args .dir)) (c .before .before .before .before .before .before .before .before .before .args .id .0) (c .before .before .root-extern .ensures) (c .enum-told .given .1)
 
 slice-aggregate-fresh : tie.Need-slice-aggregate-fresh
 slice-aggregate-fresh c = search needs
@@ -71,7 +71,7 @@ pick-row-requires : tie.Need-pick-row-requires
 pick-row-requires c κs = (subst (Below (rows (now (c .before .before .before .before .before .before .before .before .before .before .before .before .before .before .before .args .root)))) (c .before .before .before .before .before .before .row .given .1) (c .before .before .before .before .before .before .before .before .root-extern .ensures .below), c .before .before .before .before .before .before .before .before .before .before .before .before .before .before .before .pre .directory, c .before .table-of .ensures, (c .before .before .before .fresh .ensures) (rows (now (c .before .before .before .before .before .before .before .before .before .before .before .before .before .before .before .args .library))))
 
 returns-3 : tie.Need-returns-3
-returns-3 c = (c .before .pick-row .ensures .0) (c .before .before .before .before .before .before .before .before .before .before .before .before .before .before .before .before .before .args .id) (subst (Looked externProtoOf (documentAt (rows (now (c .before .before .before .before .before .before .before .before .before .before .before .before .before .before .before .before .before .args .root))) 0 .externProtos) (rows (now (c .before .before .before .before .before .before .before .before .before .before .before .before .before .before .before .before .before .args .root))) (c .before .before .before .before .before .before .before .before .before .before .before .before .before .before .before .before .before .args .id)) (c .before .before .before .before .before .before .before .before .row .given .1) (c .before .before .before .before .before .before .before .before .before .before .root-extern .ensures))
+returns-3 c = (c .before .pick-row .ensures .0) (c .before .before .before .before .before .before .before .before .before .before .before .before .before .before .before .before .before .args .id .0) (subst (Looked externProtoOf (documentAt (rows (now (c .before .before .before .before .before .before .before .before .before .before .before .before .before .before .before .before .before .args .root))) 0 .externProtos) (rows (now (c .before .before .before .before .before .before .before .before .before .before .before .before .before .before .before .before .before .args .root))) (c .before .before .before .before .before .before .before .before .before .before .before .before .before .before .before .before .before .args .id .0)) (c .before .before .before .before .before .before .before .before .row .given .1) (c .before .before .before .before .before .before .before .before .before .before .root-extern .ensures))
 
 pub picked-spec : {M : Type 1} → statement M
 picked-spec =

@@ -1,10 +1,11 @@
+-- The expanded document (document 01, Sheets). What is read of rows is `staysExpanded` in checker's Grammar; the two are proved to agree (roundtrip).
 -- "An expanded document is a root sheet without kind 7, Proto statements or origin Proto, whose nodes hold only Route and ExternProto statements and whose interfaces with an IS have class 0."
 use mathlib.Core.Path.{_≡_}
 use mathlib.Core.List.{[]}
 use mathlib.Core.Option.{none, some}
 use Prim.Native.Nat.{ℕ}
 use Rattle.ast.specs.Ast.{InterfaceDecl, Statement, NodeOrigin, Node, Document}
-use Rattle.roundtrip.specs.Each.{Each}
+use Rattle.ast.specs.Each.{Each}
 
 -- no Proto statement
 abbrev pub TopKept : Statement → Type 0
