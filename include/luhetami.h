@@ -92,8 +92,8 @@ enum luhetami_refusal {
  * Expands the prototypes of a scene.
  *
  * root        one document, of root_len words. It is only read.
- * library     any number of files, each a row of kind 12 with the file's base and then its document. May be empty. It is
- *             only read, and may be the same words as root.
+ * library     any number of files, each a row of kind 12 with the file's base and then its document. May be empty. Of
+ *             several files with the same base the last is used. It is only read, and may be the same words as root.
  * max_nodes   N, the most nodes in the output; at most 4,000,000.
  * max_depth   D, how deep copies may nest; at most 512.
  * max_rows    K, the most charges. Each row of the output is charged, and each map entry, scope, stored value and binding

@@ -22,6 +22,11 @@ TAGS = (
 ).split()  # the first of FieldType::ALL
 ACCESS = ["eventIn", "eventOut", "field", "exposedField"]
 MARKS = ["field", "interface", "statement"]
+# Scenes that are expanded with a library too: base and file of each, in the library's order.
+LIBRARIES = {
+    "extern-kept": [("whaleFile", "whales")],
+    "corrected-file": [("whaleFile", "whales"), ("belugaFile", "belugas"), ("whaleFile", "whales-corrected")],
+}
 
 
 class Names:
@@ -206,10 +211,15 @@ def main():
         (FOLDER / f"{scene.name}.lines").write_bytes(lines_of(rows))
         (FOLDER / f"{scene.name}.expected").write_bytes(text)
 
-    library = [row(12, names["whaleFile"])] + sheets["whales"]
-    text, answer = printed(sheets["extern-kept"], library)
-    (FOLDER / "library" / "extern-kept.expected").write_bytes(text)
-    answers["whales"] = f"{len(sheets['whales'])} rows; with it extern-kept gives {in_words(answer)}"
+    for name, files in LIBRARIES.items():
+        library = [r for base, file in files for r in [row(12, names[base])] + sheets[file]]
+        text, answer = printed(sheets[name], library)
+        (FOLDER / "library" / f"{name}.expected").write_bytes(text)
+        *before, last = (file for _, file in files)
+        for file in before:
+            answers.setdefault(file, f"{len(sheets[file])} rows")
+        behind = f", behind {' and '.join(before)}," if before else ""
+        answers[last] = f"{len(sheets[last])} rows; with it{behind} {name} gives {in_words(answer)}"
 
     page = FOLDER / "README.md"
     lists = page_lists(scenes, answers, names)

@@ -204,6 +204,7 @@ def pick_in(document, fragment):
 
 def picks_of(root, files):
     """For each extern of the root the document number and PROTO id that stand for it, or None."""
+    newest = {f.base: n for n, f in enumerate(files, 1)}  # of several files with the same base the last
     bases, picks = set(), []
     for extern in root.externs:
         pick = None
@@ -212,7 +213,7 @@ def picks_of(root, files):
             if base not in bases and len(bases) == MOST_BASES:
                 continue
             bases.add(base)
-            number = next((n for n, f in enumerate(files, 1) if f.base == base), None)
+            number = newest.get(base)
             proto = None if number is None else pick_in(files[number - 1], fragment)
             if proto is not None:
                 pick = (number, proto)

@@ -59,6 +59,13 @@ fn benches() -> Vec<Bench> {
             || large::bodies(50, 2_000),
         ),
         b("2,000 externs by fragment (not asked for)", 10.0, || large::picked(2_000), || large::picked(1_000)),
+        b(
+            "149,000 files, 64 bases behind them (not asked for)",
+            10.0,
+            || large::behind(149_000),
+            || large::behind(74_500),
+        ),
+        b("149,000 files of 64 bases (not asked for)", 10.0, || large::versions(149_000), || large::versions(74_500)),
     ]
 }
 

@@ -4,7 +4,7 @@ use std::collections::{HashMap, HashSet};
 
 use crate::call::{Call, Expanded};
 use crate::mutants::Mutant;
-use crate::picks::{picks, MOST_BASES};
+use crate::picks::{choose, picks, MOST_BASES};
 use crate::reckon::{self, Reckoned};
 use crate::rows::*;
 use crate::scenes::MOST_CHARGES;
@@ -12,7 +12,7 @@ use crate::tree::*;
 use crate::{closure, grammar};
 
 /// What must be met at least once, by name.
-const SHAPES: [&str; 40] = [
+const SHAPES: [&str; 44] = [
     "a node mentioned twice",
     "a loop through an instance's fields",
     "a default with nodes",
@@ -34,6 +34,10 @@ const SHAPES: [&str; 40] = [
     "a pick by a fragment",
     "a pick without one",
     "an extern without a pick",
+    "a body of the last of two files of one base",
+    "a body of the last of three files of one base",
+    "  with a file of another base between them",
+    "no pick by the last file of a base, one by an older file of it",
     "more than 64 bases",
     "an input record, dropped",
     "a route end that becomes none",
@@ -209,6 +213,7 @@ impl<'a> Sheets<'a> {
                     let node = &self.docs[answer.scopes[opener][1] as usize].nodes[*instance as usize];
                     names = self.values(node, declared, &named[opener], answer.scopes[opener][0], seen);
                     self.body(document, declared, seen);
+                    self.file(document, seen);
                 }
             }
             named.push(names);
@@ -270,8 +275,34 @@ impl<'a> Sheets<'a> {
         }
     }
 
+    /// A body's document, where it is a file among several of its base.
+    fn file(&self, document: usize, seen: &mut Seen) {
+        let Some(at) = document.checked_sub(1) else { return };
+        let of_base = |f: &&File| f.base == self.files[at].base;
+        if self.files[at + 1..].iter().any(|f| of_base(&f)) {
+            return;
+        }
+        let count = self.files.iter().filter(of_base).count();
+        if count == 2 {
+            seen.insert("a body of the last of two files of one base");
+        }
+        if count > 2 {
+            seen.insert("a body of the last of three files of one base");
+            if self.files[..at].iter().skip_while(|f| !of_base(f)).any(|f| !of_base(&f)) {
+                seen.insert("  with a file of another base between them");
+            }
+        }
+    }
+
     fn externs(&self, seen: &mut Seen) {
         let mut bases = HashSet::new();
+        let gives = |f: &&File, fragment: Option<u32>| choose(&f.doc, fragment, false).is_some();
+        for (base, fragment) in self.docs[0].externs.iter().flat_map(|declared| &declared.urls) {
+            let mut of_base = self.files.iter().filter(|f| f.base == *base).rev();
+            if of_base.next().is_some_and(|f| !gives(&f, *fragment)) && of_base.any(|f| gives(&f, *fragment)) {
+                seen.insert("no pick by the last file of a base, one by an older file of it");
+            }
+        }
         for (declared, pick) in self.docs[0].externs.iter().zip(&self.picks) {
             bases.extend(declared.urls.iter().map(|(base, _)| *base));
             let Some((document, _)) = pick else {

@@ -1,10 +1,10 @@
-//! The ten flights of document 01, its example, the examples of its readings and of wish 6, by their words.
+//! The ten flights of document 01, its example, the examples of its readings, of wish 6 and of wish 4, by their words.
 
 use original::ast::FieldType;
 
-use crate::call::{Answer, Call};
+use crate::call::{Answer, Call, Expanded};
 use crate::reckon;
-use crate::rows::{words_of, Row, NONE, TAGS};
+use crate::rows::{words_of, Row, NODE, NONE, TAGS};
 use crate::scenes::MOST_CHARGES;
 use crate::{spoil, versus};
 
@@ -29,6 +29,7 @@ const DECLARED: &[u32] = &[4, 2, 14, 1, NONE];
 struct Flight {
     what: &'static str,
     rows: Vec<u32>,
+    library: Vec<u32>,
     limits: [u32; 3],
     look: fn(&Answer) -> Vec<u32>,
     expected: Vec<u32>,
@@ -52,6 +53,12 @@ fn whole(answer: &Answer) -> Vec<u32> {
         words.extend(words_of(&e.out));
         words
     })
+}
+
+/// The document of each scope, and the type of each node.
+fn documents(answer: &Answer) -> Vec<u32> {
+    let types = |e: &Expanded| e.out.iter().filter(|r| r[0] == NODE).map(|r| r[1]).collect::<Vec<_>>();
+    answer.as_ref().map_or(vec![], |e| e.scopes.iter().map(|s| s[1]).chain(types(e)).collect())
 }
 
 fn charges(answer: &Answer) -> Vec<u32> {
@@ -106,9 +113,33 @@ fn default_of_itself() -> Vec<u32> {
     ])
 }
 
+/// Wish 4: an instance of base 5's prototype, then one of base 4's.
+fn two_bases() -> Vec<u32> {
+    sheet(&[
+        &[1, 5],
+        &[2, 8, NONE, 2, 0],
+        &[2, 8, NONE, 2, 1],
+        &[8, 8],
+        &[10, 5, NONE],
+        &[8, 8],
+        &[10, 4, NONE],
+        &[11],
+        &[5, 0, 0],
+        &[5, 0, 1],
+    ])
+}
+
+/// Wish 4: three files of base 5, one of base 4 between them. The n-th has a node of type 60 + n.
+fn corrected() -> Vec<u32> {
+    let file =
+        |n: u32, base: u32| sheet(&[&[12, base], &[1, 5], &[2, 60 + n, NONE], &[7, 8], &[5, 0, 0], &[11], &[5, 1, 0]]);
+    [file(1, 5), file(2, 5), file(3, 4), file(4, 5)].concat()
+}
+
 fn flights() -> Vec<Flight> {
     let free = [400, 64, MOST_CHARGES];
-    let flight = |what, rows, limits, look, expected| Flight { what, rows, limits, look, expected };
+    let flight =
+        |what, rows, limits, look, expected| Flight { what, rows, library: Vec::new(), limits, look, expected };
     let one = sheet(&[&[1, 5], PLAIN, &[11], &[5, 0, 0]]);
     let child = |id| [CHILD.to_vec(), vec![9, id]];
     let [field, first] = child(1);
@@ -152,12 +183,16 @@ fn flights() -> Vec<Flight> {
         flight("an event-driven counter keeps its start", counter(), free, whole, kept_start),
         flight("a default that holds its own PROTO", default_of_itself(), free, refusal, vec![9, 0, 0]),
         flight("the same at the cap of D", default_of_itself(), [400, 512, MOST_CHARGES], refusal, vec![9, 0, 0]),
+        Flight {
+            library: corrected(),
+            ..flight("the last of three files of one base", two_bases(), free, documents, vec![0, 4, 3, 64, 63])
+        },
     ]
 }
 
 /// The flights' calls, with a limit of charges that is no more than this.
 pub fn calls(most_rows: u32) -> Vec<Call> {
-    let call = |f: Flight| Call::new(f.rows, Vec::new(), f.limits[0], f.limits[1], f.limits[2].min(most_rows));
+    let call = |f: Flight| Call::new(f.rows, f.library, f.limits[0], f.limits[1], f.limits[2].min(most_rows));
     flights().into_iter().map(call).collect()
 }
 
@@ -173,7 +208,7 @@ pub fn run() -> u64 {
     let (mut compared, mut by_is) = (0, 0);
     for f in &flights {
         let [nodes, depth, rows] = f.limits;
-        let call = Call::new(f.rows.clone(), Vec::new(), nodes, depth, rows);
+        let call = Call::new(f.rows.clone(), f.library.clone(), nodes, depth, rows);
         let reckoned = reckon::reckon(&call, None);
         let got = (f.look)(&reckoned.answer);
         let original = versus::against_original(&call, &reckoned);

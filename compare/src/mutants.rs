@@ -1,4 +1,4 @@
-//! The deliberately broken readings of document 01 that `reckon` can be switched to.
+//! The deliberately broken readings of documents 01 and 02 that `reckon` can be switched to.
 
 use crate::call::Call;
 use crate::closure;
@@ -30,7 +30,9 @@ pub enum Mutant {
     NodesLimitAfterExtern,
     BasesWithoutEnd,
     UnresolvedBasesDoNotCount,
-    LastFileOfBase,
+    FirstFileOfBase,
+    FileBeforeTheLast,
+    NewestWithAPick,
     DanglingPickPassedOver,
     IdChargedBeforeCopy,
     FieldChargedBeforeValue,
@@ -77,7 +79,9 @@ pub const ALL: &[(Mutant, &str)] = &[
     (Mutant::NodesLimitAfterExtern, "4 comes before 8"),
     (Mutant::BasesWithoutEnd, "bases past the 64th are looked for too"),
     (Mutant::UnresolvedBasesDoNotCount, "bases without a file do not count toward the 64"),
-    (Mutant::LastFileOfBase, "the library's last file of a base is taken"),
+    (Mutant::FirstFileOfBase, "the library's first file of a base is taken"),
+    (Mutant::FileBeforeTheLast, "of three or more files with one base the one before the last is taken"),
+    (Mutant::NewestWithAPick, "a file without the wanted Proto is passed over for an older one of its base"),
     (Mutant::DanglingPickPassedOver, "without a fragment a dangling Proto statement is passed over"),
 ];
 

@@ -6,7 +6,8 @@ use crate::tree::{Doc, File, Statement};
 /// Most distinct bases that are looked at.
 pub const MOST_BASES: usize = 64;
 
-/// Document number and PROTO id for each extern of the root, where there is a pick. Document n is the n-th file.
+/// Document number and PROTO id for each extern of the root, where there is a pick. Document n is the n-th file; of several
+/// files with the same base the last is used.
 pub fn picks(root: &Doc, files: &[File], mutant: Option<Mutant>) -> Vec<Option<(usize, u32)>> {
     let is = |m| mutant == Some(m);
     let mut bases: Vec<u32> = Vec::new();
@@ -22,8 +23,15 @@ pub fn picks(root: &Doc, files: &[File], mutant: Option<Mutant>) -> Vec<Option<(
                 }
                 bases.push(*base);
             }
-            let last = is(Mutant::LastFileOfBase);
-            let file = if last { files.iter().rposition(named) } else { files.iter().position(named) };
+            let of_base: Vec<usize> = (0..files.len()).filter(|at| named(&files[*at])).collect();
+            let file = match of_base[..] {
+                [first, ..] if is(Mutant::FirstFileOfBase) => Some(first),
+                [.., before, _] if is(Mutant::FileBeforeTheLast) && of_base.len() > 2 => Some(before),
+                _ if is(Mutant::NewestWithAPick) => {
+                    of_base.iter().rev().copied().find(|at| choose(&files[*at].doc, *fragment, false).is_some())
+                }
+                _ => of_base.last().copied(),
+            };
             let Some(at) = file else { continue };
             if let Some(proto) = choose(&files[at].doc, *fragment, is(Mutant::DanglingPickPassedOver)) {
                 pick = Some((at + 1, proto));
@@ -36,7 +44,7 @@ pub fn picks(root: &Doc, files: &[File], mutant: Option<Mutant>) -> Vec<Option<(
 }
 
 /// The first top-level Proto statement; with a fragment, the first whose PROTO is there and has that name.
-fn choose(file: &Doc, fragment: Option<u32>, pass_over: bool) -> Option<u32> {
+pub fn choose(file: &Doc, fragment: Option<u32>, pass_over: bool) -> Option<u32> {
     for statement in &file.top {
         let Statement::Proto(id) = statement else { continue };
         let proto = file.protos.get(*id as usize);

@@ -1,5 +1,6 @@
 //! Calls of the original, from sheets that fit to rows or a kind of refusal.
 
+use std::collections::HashMap;
 use std::time::Duration;
 
 use original::ast::Document;
@@ -27,19 +28,20 @@ pub fn prepare(root: &[u32], library: &[u32], max_nodes: u32, max_depth: u32) ->
 }
 
 impl Prepared {
+    /// One expansion. The resolver answers with the last file of a base (document 02, wish 4).
     fn expand(&self) -> OriginalResult<Document> {
         let mut resolve = |base: &str| -> Option<Document> {
-            self.files.iter().find(|(name, _)| name == base).map(|(_, document)| document.clone())
+            self.files.iter().rfind(|(name, _)| name == base).map(|(_, document)| document.clone())
         };
         expand_protos_resolving(&self.document, &self.limits, &mut resolve)
     }
 
     /// The time of one expansion and nothing else: the files are handed over ready, and what it made is dropped afterwards.
     pub fn time(&self) -> Duration {
-        let mut ready: Vec<_> = self.files.iter().map(|(name, document)| (name, Some(document.clone()))).collect();
-        let mut resolve = |base: &str| -> Option<Document> {
-            ready.iter_mut().find(|(name, _)| *name == base).and_then(|(_, document)| document.take())
-        };
+        // Of several files of one base the last stays.
+        let mut ready: HashMap<&str, Document> =
+            self.files.iter().map(|(name, document)| (name.as_str(), document.clone())).collect();
+        let mut resolve = |base: &str| ready.remove(base);
         let start = now();
         let expanded = expand_protos_resolving(&self.document, &self.limits, &mut resolve);
         let time = now() - start;

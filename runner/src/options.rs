@@ -11,7 +11,9 @@ in numbers, goes to standard error. SCENE.lines may be - for standard input.
   --nodes N             at most N nodes; without it 4000000, the cap
   --depth D             nested at most D deep; without it 512, the cap
   --rows K              at most K charges; without it as many as are needed, up to 16777216, the cap
-  --library BASE=FILE   a document that the scene's urls name by the base's number; may be given again, in the library's order
+  --library BASE=FILE   a document that the scene's urls name by the base's number; may be given again, in the library's order;
+                        of several with the same base the last counts, so a corrected file is added behind the old one:
+                        --library 63=whales.lines --library 63=whales-corrected.lines
   --ledger FILE         write the ledger: scope, document and source id of each node
   --scopes FILE         write the scopes: kind, document, PROTO id, interface index and opening scope of each
   --help                print this

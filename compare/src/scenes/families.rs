@@ -48,7 +48,7 @@ impl Digits {
 type Family = fn(&mut Digits) -> Scene;
 
 /// The families, each with its name: those of document 01, then those of the wishes.
-const FAMILIES: [(&str, Family); 10] = [
+const FAMILIES: [(&str, Family); 11] = [
     ("loops", loops),
     ("values", values),
     ("marks", marks),
@@ -59,6 +59,7 @@ const FAMILIES: [(&str, Family); 10] = [
     ("routes", routes),
     ("fetched", fetched),
     ("counters", counters),
+    ("corrected", corrected),
 ];
 
 /// The families of document 01.
@@ -409,4 +410,31 @@ fn counters(d: &mut Digits) -> Scene {
     ];
     let top: &[u32] = d.of(&[&[0][..], &[1], &[2, 0]]);
     Scene { max_depth: d.of(&[7, 40]), ..scene_of(list, protos, mention(top)) }
+}
+
+/// Up to four files of two bases, the corrected behind the old ones: which of several counts, and where it has no PROTO that
+/// the url asks for. Each file's node has a type of its own.
+fn corrected(d: &mut Digits) -> Scene {
+    let file = |base: u32, names: &[u32], top: &[u32]| {
+        let proto = |name: &u32| Proto { name: *name, interfaces: vec![declared(1, None)], body: mention(&[0]) };
+        let top = top.iter().map(|p| Statement::Proto(*p)).collect();
+        File { base, doc: Doc { header: 1, protos: names.iter().map(proto).collect(), top, ..Doc::default() } }
+    };
+    let may = [file(1, &[5], &[0]), file(1, &[6, 5], &[0, 1]), file(1, &[5], &[]), file(2, &[5], &[0])];
+    let mut files = d.list(&may, 4);
+    for (file, type_name) in files.iter_mut().zip(60..) {
+        file.doc.nodes = vec![plain(type_name, vec![is(1, 1)])];
+    }
+    let urls = d.of(&[
+        vec![(1, None)],
+        vec![(1, Some(5))],
+        vec![(1, Some(6)), (2, None)],
+        vec![(1, None), (2, None)],
+        vec![(3, None), (1, Some(6)), (1, None)],
+    ]);
+    let second = d.of(&[vec![(2, None)], vec![(1, Some(5)), (2, Some(5))]]);
+    let list = vec![node(50, Origin::Extern(0), vec![given(1, payload(2))]), node(51, Origin::Extern(1), vec![])];
+    let externs = [urls, second].map(|urls| Extern { name: 3, interfaces: vec![], urls }).to_vec();
+    let root = Doc { header: 5, nodes: list, protos: vec![], externs, top: mention(&[0, 1, 0]) };
+    Scene { root, files, max_nodes: 40, max_depth: 7 }
 }

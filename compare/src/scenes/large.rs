@@ -128,6 +128,37 @@ pub fn picked(count: u32) -> Scene {
     Scene { root, files: vec![File { base: 1, doc }], max_nodes: 4_000_000, max_depth: 512 }
 }
 
+/// Bases of a root's urls, as many as are looked for.
+const BASES: u32 = 64;
+
+/// A library of so many small files, and a root with an instance from each of 64 bases.
+fn files(count: u32, base: impl Fn(u32) -> u32) -> Scene {
+    let file = |i: u32| {
+        let doc = Doc {
+            header: 5,
+            nodes: vec![node(Origin::Builtin, vec![])],
+            protos: vec![proto(mention([0]))],
+            externs: vec![],
+            top: vec![Statement::Proto(0)],
+        };
+        File { base: base(i), doc }
+    };
+    let externs = (1..=BASES).map(|b| Extern { name: b, interfaces: vec![], urls: vec![(b, None)] }).collect();
+    let list = (0..BASES).map(|i| node(Origin::Extern(i), vec![])).collect();
+    let root = Doc { header: 5, nodes: list, protos: vec![], externs, top: mention(0..BASES) };
+    Scene { root, files: (0..count).map(file).collect(), max_nodes: 4_000_000, max_depth: 512 }
+}
+
+/// 64 bases, each with one file, behind all the other files of the library.
+pub fn behind(count: u32) -> Scene {
+    files(count, |i| if i < count - BASES { 1000 } else { i - (count - BASES) + 1 })
+}
+
+/// 64 bases that share all the files of the library: each has its newest among the last.
+pub fn versions(count: u32) -> Scene {
+    files(count, |i| i % BASES + 1)
+}
+
 /// Plain nodes side by side in the root, and in the body of a PROTO of a file that the root picks by its name. Each sheet
 /// has this many rows, two or more filled with statements that are carried unread.
 pub fn full_sheets(rows: u32) -> Scene {
@@ -182,6 +213,8 @@ pub fn all() -> Vec<(&'static str, Scene)> {
         ("1,000 interfaces by 1,000 fields", wide(1_000)),
         ("1,000 externs by fragment", picked(1_000)),
         ("20,000 rows in each sheet", full_sheets(20_000)),
+        ("3,000 files, 64 bases behind them", behind(3_000)),
+        ("3,000 files of 64 bases", versions(3_000)),
         ("100 instances of 1,000 nodes", most(100)),
     ]
 }

@@ -2,25 +2,23 @@
 use mathlib.Core.Path.{_≡_, sym, ap, subst, _∙_}
 use mathlib.Core.List.{List, [], _∷_, map}
 use mathlib.Core.Option.{none, some}
-use mathlib.Core.Bool.{Bool, true, false}
 use Prim.Native.Nat.{ℕ, zero, suc, _+_, _-_, _*_, _≤_, _<_}
 use native.Mathlib.Omega.{arith}
 use native.Mathlib.Decide.{ℕ-discrete}
 use lib.ListN.{length, getD, drop, set, getElem?, length-set}
-use lib.Dec.{eqb}
 use lib.Seq.{ext-getD, getD-set-same, getD-set-other}
 use borrow.Author.Tests.{ne-eqb}
 use Rattle.ast.specs.Ast.{File}
-use Rattle.ast.specs.Choice.{choose}
 use Rattle.sheet.specs.declared.row.Row.{Row}
 use Rattle.sheet.specs.Rows.{rows}
 use Rattle.sheet.specs.Parse.{filesOf}
 use Rattle.lookup.specs.Lookup.{documentsOf, documentAt}
 use Rattle.lookup.proofs.DocLaws.{begins-root}
 use Rattle.picks.specs.declared.table.Table.{Table}
-use Rattle.picks.specs.Picks.{firstFile}
+use Rattle.picks.specs.Picks.{libraryFile}
 use Rattle.picks.specs.Table.{sourceAt, Sourced, Empty}
 use Rattle.picks.specs.Chosen.{Final}
+use Rattle.picks.proofs.NewerLaws.{file-at}
 use Rattle.words.specs.Words.{Outside}
 use Rattle.directory.specs.Directory.{size, numberOf, rowOf, baseOf, countOf, Slot, Begun, Entries, Copy, Stored, Directory, SlotFor}
 use Rattle.words.proofs.WordLaws.{three, three-first, three-second, three-third, three-other}
@@ -138,34 +136,16 @@ copied t e s = record { count = e; entries = record { long = s .long; bases = s 
 
 -- ---- a table that was written is the directory's
 
--- a file that was found is the one of its number
-pub first-at : (base n : ℕ) (l : List File) (m : ℕ) (f : File) → firstFile base n l ≡ some (m, f) → (n ≤ m) × (getElem? l (m - n) ≡ some f)
-unfolding firstFile
-first-at base n [] m f e = let z : _≡_ {A = ℕ} 0 1 = cc in absurd (omega arith)
-first-at base n (x ∷ l) m f e = go (eqb (x .base) base) (first-at base (suc n) l m f) e
-  where
-    go : (b : Bool) → (firstFile base (suc n) l ≡ some (m, f) → (suc n ≤ m) × (getElem? l (m - suc n) ≡ some f)) → choose b (some (n, x)) (firstFile base (suc n) l) ≡ some (m, f) → (n ≤ m) × (getElem? (x ∷ l) (m - n) ≡ some f)
-    go true r e =
-        let p : _≡_ {A = ℕ × File} (n, x) (m, f) = cc in
-        let z : n ≡ m = ap (λ (q : ℕ × File). q .0) p in
-        let y : x ≡ f = ap (λ (q : ℕ × File). q .1) p in
-        let w : m - n ≡ 0 = omega arith in
-        (omega arith, rw (w, y))
-    go false r e =
-        let z = r e in
-        let w : m - n ≡ suc (m - suc n) = omega (arith, z .0) in
-        (omega (arith, z .0), rw w (z .1))
-
 document-at : (l : List File) (k : ℕ) (f : File) → getElem? l k ≡ some f → getElem? (map (λ x. x .document) l) k ≡ some (f .document)
 document-at [] k f e = let z : _≡_ {A = ℕ} 0 1 = cc in absurd (omega arith)
 document-at (x ∷ l) zero f e = let z : x ≡ f = cc in rw z
 document-at (x ∷ l) (suc k) f e = document-at l k f e
 
--- a file that was found is the document of its number
-found-document : (root library : List ℕ) (base m : ℕ) (f : File) → firstFile base 1 (filesOf (rows library)) ≡ some (m, f) → getElem? (documentsOf root library) m ≡ some (f .document)
+-- the library's file of a base is the document of its number
+found-document : (root library : List ℕ) (base m : ℕ) (f : File) → libraryFile base 1 (filesOf (rows library)) ≡ some (m, f) → getElem? (documentsOf root library) m ≡ some (f .document)
 unfolding documentsOf
 found-document root library base m f e =
-    let r = first-at base 1 (filesOf (rows library)) m f e in
+    let r = file-at base 1 (filesOf (rows library)) m f e in
     let z : m ≡ suc (m - 1) = omega (arith, r .0) in
     rw z (document-at (filesOf (rows library)) (m - 1) f (r .1))
 
@@ -179,7 +159,7 @@ module _ (root library dir : List ℕ) (t : Table) (f : Final (rows root) (rows 
       let b = getD (t .bases) j 0 in
       let n = getD (t .files) j 0 in
       let x : n ≡ 0 → ⊥ = λ z. omega (arith, h .real (omega arith), s .files j i) in
-      let e : firstFile b 1 (filesOf R) ≡ some (n, record { base = b; document = documentAt R (getD (t .rows) j 0) }) =
+      let e : libraryFile b 1 (filesOf R) ≡ some (n, record { base = b; document = documentAt R (getD (t .rows) j 0) }) =
       f .sound .sources j (omega (arith, h .upto, s .count)) ∙ rw (ne-eqb n 0 x) in
       rw (s .files j i, ne-eqb n 0 x, s .rows j i) (found-document root library b n _ e)
 

@@ -5,7 +5,7 @@ use Prim.Native.Nat.{ℕ}
 use Rattle.ast.specs.Ast.{NodeOrigin, BodyElement, FieldData, FieldValue, FieldBinding, Field, InterfaceDecl, Route, Statement, Node, ProtoDecl, ExternProtoDecl, Url, Document}
 use Rattle.ast.specs.Lookups.{nodeAt, protoAt, externProtoAt}
 use Rattle.file.specs.PickIn.{topProtos, firstNamed, pickIn}
-use Rattle.picks.specs.Picks.{firstFile, pickUrl, member, remember, pickUrls, picksFrom, picks}
+use Rattle.picks.specs.Picks.{libraryFile, pickUrl, member, remember, pickUrls, picksFrom, picks}
 use Rattle.steps.specs.Lists.{countIf}
 use Rattle.expansion.specs.Input.{Limits, Input, pickOf, protoOf, lastField}
 use Rattle.expansion.specs.Scopes.{isBody}
@@ -97,5 +97,5 @@ seen g (Answer.Expanded e) = some (g e)
 
 -- a proof that unfolds this computes the definition
 unfoldable pub computed : Input → Answer
-unfolding nodeAt protoAt externProtoAt firstFile topProtos firstNamed pickIn pickUrl member remember pickUrls picksFrom picks pickOf protoOf lastField bindR mapM foldM lookup chargeIf charge chargeEach paid valueOf copyData value clone lookupExtern declare externProto reserveIf reserve copyOrigin associate isField copyBinding copyField isInterface copyTarget copyInterface copyRoute copyExtern copyStatement somes keptOrder contents copyPlain pushScope openScope takeDefault cloneOr interfaceValue store values place bodyStatement rootOf associationsOf recordInstance instantiate copyNode mappedOr copy statement statements answer expand
+unfolding nodeAt protoAt externProtoAt libraryFile topProtos firstNamed pickIn pickUrl member remember pickUrls picksFrom picks pickOf protoOf lastField bindR mapM foldM lookup chargeIf charge chargeEach paid valueOf copyData value clone lookupExtern declare externProto reserveIf reserve copyOrigin associate isField copyBinding copyField isInterface copyTarget copyInterface copyRoute copyExtern copyStatement somes keptOrder contents copyPlain pushScope openScope takeDefault cloneOr interfaceValue store values place bodyStatement rootOf associationsOf recordInstance instantiate copyNode mappedOr copy statement statements answer expand
 computed I = expand I

@@ -20,6 +20,7 @@ use Rattle.walks.specs.declared.walk.Found.{Found}
 use Rattle.walks.specs.declared.walk.Found.the-variants.{At, Nothing}
 use Rattle.walks.specs.Walk.{Stands, rowsAt, Below}
 use Rattle.walks.proofs.WalkLaws.{each-at, each-none, front-drop, rest-drop}
+use Rattle.picks.proofs.OptionLaws.{or-assoc, or-none}
 use Rattle.expansion.specs.Input.{lastField}
 use Rattle.words.specs.Words.{Outside, Cleared}
 use Rattle.names.specs.Names.{LastField, NameTable, Tabled, Listed, Told, Grown}
@@ -39,14 +40,6 @@ unfolding fieldOf
 field-name R q e = ap (λ (x : Row). x .a) (front-drop R q ∙ sym e)
 
 -- ---- the last of a name
-or-assoc : {A : Type 0} (a b c : Option A) → orElse (orElse a b) c ≡ orElse a (orElse b c)
-or-assoc none b c = refl
-or-assoc (some x) b c = refl
-
-or-none : {A : Type 0} (a : Option A) → orElse a none ≡ a
-or-none none = refl
-or-none (some x) = refl
-
 abbrev bindingAt : List Row → Found → Option FieldBinding
 bindingAt R x = mapO (λ l. fieldOf l .binding) (rowsAt R x)
 

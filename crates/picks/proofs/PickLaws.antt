@@ -27,7 +27,7 @@ use Rattle.picks.specs.declared.Chosen.{Chosen}
 use Rattle.picks.specs.declared.Chosen.the-variants.{Proto, Nothing}
 use Rattle.picks.specs.declared.Choice.{Choice}
 use Rattle.file.specs.PickIn.{pickIn}
-use Rattle.picks.specs.Picks.{Bases, Picked, firstFile, pickFrom, pickUrl, remember, orNext, pickUrls, pickAt, basesFrom, finalBases}
+use Rattle.picks.specs.Picks.{Bases, Picked, libraryFile, pickFrom, pickUrl, remember, orNext, pickUrls, pickAt, basesFrom, finalBases}
 use Rattle.picks.specs.Table.{basesOf, Empty, Sound, Remembered}
 use Rattle.file.specs.File.{idOf}
 use Rattle.picks.specs.Chosen.{pickOf, Leads, Tried, Final}
@@ -88,7 +88,7 @@ module _ {root : List Row} {row : ℕ} {R : List Row} {before t : Table} {at : �
     pick-is : andThen (remember (r .a) (basesOf t)) (λ b. pickUrl (filesOf R) (urlIn r)) ≡ pickOf x
     unfolding pickUrl
     pick-is =
-        then (remember (r .a) (basesOf t)) (firstFile (r .a) 1 (filesOf R)) (pickFrom (urlIn r)) ∙
+        then (remember (r .a) (basesOf t)) (libraryFile (r .a) 1 (filesOf R)) (pickFrom (urlIn r)) ∙
         ap (λ (f : Option (ℕ × File)). andThen f (pickFrom (urlIn r))) (m .source) ∙ sym (s (r .a))
 
     -- one url's step

@@ -5,7 +5,7 @@ use mathlib.Core.Option.{Option, none, some}
 use Prim.Native.Nat.{ℕ, zero, suc}
 use Rattle.ast.specs.Ast.{Statement, Url, Document, File}
 use Rattle.file.specs.PickIn.{topProtos, firstNamed, pickIn}
-use Rattle.picks.specs.Picks.{Pick, firstFile, pickUrl, member, remember, pickUrls, picksFrom, picks}
+use Rattle.picks.specs.Picks.{Pick, libraryFile, pickUrl, member, remember, pickUrls, picksFrom, picks}
 
 -- a root with an extern for each list of urls
 abbrev root : List (List Url) → Document
@@ -45,8 +45,10 @@ abbrev pick : ℕ → ℕ → Option Pick
 pick document proto = some (record { document = document; proto = proto })
 
 pub record Examples : Type 0 where
-  -- the first of two files of one base
-  pub first-of-two : picks (root ((url 5 ∷ []) ∷ [])) (file 4 [] (1 ∷ []) ∷ file 5 [] (2 ∷ []) ∷ file 5 [] (3 ∷ []) ∷ []) ≡ pick 2 2 ∷ []
+  -- of three files with one base, a file of another between them, the last: document 4, PROTO 3; the other base's is document 3
+  pub last-of-three : picks (root ((url 5 ∷ []) ∷ (url 4 ∷ []) ∷ [])) (file 5 [] (1 ∷ []) ∷ file 5 [] (2 ∷ []) ∷ file 4 [] (9 ∷ []) ∷ file 5 [] (3 ∷ []) ∷ []) ≡ pick 4 3 ∷ pick 3 9 ∷ []
+  -- it counts where it has no such Proto too: the files before it are not looked at
+  pub last-of-two : picks (root ((urlTo 5 7 ∷ []) ∷ (url 5 ∷ url 4 ∷ []) ∷ [])) (file 5 (7 ∷ []) (0 ∷ []) ∷ file 4 [] (9 ∷ []) ∷ file 5 (8 ∷ []) [] ∷ []) ≡ none ∷ pick 2 9 ∷ []
   -- without a fragment the first Proto is taken, dangling or not; with one dangling ids are passed over, and other names
   pub dangling : picks (root ((url 5 ∷ []) ∷ (urlTo 5 7 ∷ []) ∷ (urlTo 5 8 ∷ []) ∷ [])) (file 5 (6 ∷ 7 ∷ []) (9 ∷ 0 ∷ 1 ∷ []) ∷ []) ≡ pick 1 9 ∷ pick 1 1 ∷ none ∷ []
   -- no pick, in a file without a Proto or for a base without a file: the next url
@@ -59,5 +61,5 @@ pub record Examples : Type 0 where
   pub untried : picks (root ((url 90 ∷ below 70) ∷ (url 91 ∷ []) ∷ [])) (file 90 [] (2 ∷ []) ∷ file 91 [] (3 ∷ []) ∷ []) ≡ pick 1 2 ∷ pick 2 3 ∷ []
 
 computed : Examples
-unfolding picks picksFrom pickUrls remember member pickUrl firstFile pickIn topProtos firstNamed
-computed = record { first-of-two = refl; dangling = refl; next-url = refl; full = refl; last-place = refl; untried = refl }
+unfolding picks picksFrom pickUrls remember member pickUrl libraryFile pickIn topProtos firstNamed
+computed = record { last-of-three = refl; last-of-two = refl; dangling = refl; next-url = refl; full = refl; last-place = refl; untried = refl }

@@ -1,4 +1,5 @@
 pub mod Picks
+pub mod Newer
 pub mod Table
 pub mod Chosen
 pub mod Examples

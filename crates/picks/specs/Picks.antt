@@ -6,7 +6,7 @@ use Prim.Native.Nat.{ℕ, suc}
 use lib.ListN.{length, getElem?}
 use lib.Dec.{ltb, eqb}
 use Rattle.ast.specs.Ast.{Url, ExternProtoDecl, Document, File}
-use Rattle.ast.specs.Choice.{choose, andThen}
+use Rattle.ast.specs.Choice.{choose, andThen, orElse}
 use Rattle.file.specs.PickIn.{pickIn}
 
 -- the picked document's number and the PROTO's id in it
@@ -14,17 +14,17 @@ pub record Pick : Type 0 where
   pub document : ℕ
   pub proto : ℕ
 
--- "A base is looked for in the library's first file of that base": the file and its number, where the list starts at n
-unfoldable pub firstFile : ℕ → ℕ → List File → Option (ℕ × File)
-firstFile base n [] = none
-firstFile base n (f ∷ l) = choose (eqb (f .base) base) (some (n, f)) (firstFile base (suc n) l)
+-- "Of several files with the same base, the last is now used." (document 02, wish 4): the library's file of a base and its number, where the list starts at n
+unfoldable pub libraryFile : ℕ → ℕ → List File → Option (ℕ × File)
+libraryFile base n [] = none
+libraryFile base n (f ∷ l) = orElse (libraryFile base (suc n) l) (choose (eqb (f .base) base) (some (n, f)) none)
 
 abbrev pub pickFrom : Url → ℕ × File → Option Pick
 pickFrom url f = andThen (pickIn (f .1 .document) (url .fragment)) (λ p. some (record { document = f .0; proto = p }))
 
--- what one url leads to; the n-th file is document n
+-- what one url leads to, by the library's file of its base; the n-th file is document n
 unfoldable pub pickUrl : List File → Url → Option Pick
-pickUrl library url = andThen (firstFile (url .base) 1 library) (pickFrom url)
+pickUrl library url = andThen (libraryFile (url .base) 1 library) (pickFrom url)
 
 -- "The table of at most 64 distinct bases": those looked for so far, in order
 abbrev pub Bases : Type 0

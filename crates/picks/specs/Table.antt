@@ -13,7 +13,7 @@ use Rattle.lookup.specs.Lookup.{documentAt}
 use Rattle.picks.specs.declared.table.Source.{Source}
 use Rattle.picks.specs.declared.table.Table.{Table}
 use Rattle.picks.specs.declared.table.Looked.{Looked}
-use Rattle.picks.specs.Picks.{Bases, firstFile, remember}
+use Rattle.picks.specs.Picks.{Bases, libraryFile, remember}
 
 -- the bases that a table holds, in order
 abbrev pub basesOf : Table → Bases
@@ -24,15 +24,15 @@ abbrev pub fileAt : List Row → ℕ → Source → Option (ℕ × File)
 fileAt R base s =
     choose (eqb (s .number) 0) none (some (s .number, record { base = base; document = documentAt R (s .row) }))
 
--- the library's first file of a base
+-- a source is the library's file of a base
 abbrev pub Sourced : List Row → ℕ → Source → Type 0
-Sourced R base s = firstFile base 1 (filesOf R) ≡ fileAt R base s
+Sourced R base s = libraryFile base 1 (filesOf R) ≡ fileAt R base s
 
 -- what stands beside the j-th base
 abbrev pub sourceAt : Table → ℕ → Source
 sourceAt t j = record { number = getD (t .files) j 0; row = getD (t .rows) j 0 }
 
--- beside each base of the table stands the library's first file of it
+-- beside each base of the table stands the library's file of it
 pub record Sound (R : List Row) (t : Table) : Type 0 where
   pub room : t .count ≤ 64
   pub long : (length (t .bases) ≡ 64) × (length (t .files) ≡ 64) × (length (t .rows) ≡ 64)
@@ -65,4 +65,4 @@ kept bases (some table) = table
 pub record Remembered (R : List Row) (t : Table) (base : ℕ) (x : Looked) : Type 0 where
   pub sound : Sound R (x .table)
   pub bases : basesOf (x .table) ≡ kept (basesOf t) (remember base (basesOf t))
-  pub source : andThen (remember base (basesOf t)) (λ _. firstFile base 1 (filesOf R)) ≡ fileAt R base (x .source)
+  pub source : andThen (remember base (basesOf t)) (λ _. libraryFile base 1 (filesOf R)) ≡ fileAt R base (x .source)

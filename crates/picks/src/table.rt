@@ -1,4 +1,4 @@
-// The table of the bases that were looked for, each with the library's first file of that base.
+// The table of the bases that were looked for, each with the library's file of that base.
 use sheet::part::Part;
 use sheet::row;
 use walks::walk;
@@ -54,20 +54,23 @@ fn position(table: Table, base: u32) -> usize
     j
 }
 
-// The library's first file of a base.
-fn first_file(library: &[u32], base: u32) -> Source
+// The library's file of a base, the last of several, by one walk over the files.
+fn library_file(library: &[u32], base: u32) -> Source
     requires { ⌜ Capped (now library) ⌝ }
     ensures { λ s. ⌜ Sourced (rows (now (library .entry))) base s ⌝ }
 {
+    let mut found = 0;
+    let mut row = 0;
     let mut number = 1;
     let mut at = 0;
     loop {
         let Found::At(q) = walk::seek(library, Part::Files, at) else {
-            return Source { number: 0, row: 0 };
+            return Source { number: found, row };
         };
         at = q + 1;
         if row::row_at(library, q).a == base {
-            return Source { number, row: at };
+            found = number;
+            row = at;
         }
         number += 1;
     }
@@ -101,7 +104,7 @@ pub fn remember(library: &[u32], table: Table, base: u32) -> Looked
         return Looked { source, table };
     }
     if at < 64 {
-        let source = first_file(library, base);
+        let source = library_file(library, base);
         let table = add(table, base, source);
         return Looked { source, table };
     }

@@ -20,23 +20,23 @@ use Rattle.picks.specs.declared.Choice.{Choice}
 use Rattle.picks.specs.declared.Chosen.the-variants.{Proto, Nothing}
 use Rattle.ast.specs.declared.ProtoId.{ProtoId}
 use Rattle.file.specs.PickIn.{pickIn}
-use Rattle.picks.specs.Picks.{Pick, Bases, Picked, firstFile, pickFrom, pickUrl, member, remember, orNext, tryUrl, pickUrls, picksFrom, picks, pickAt, basesFrom, finalBases}
+use Rattle.picks.specs.Picks.{Pick, Bases, Picked, libraryFile, pickFrom, pickUrl, member, remember, orNext, tryUrl, pickUrls, picksFrom, picks, pickAt, basesFrom, finalBases}
 use Rattle.picks.specs.Table.{basesOf, fileAt, sourceAt, Sound}
 use Rattle.picks.specs.Chosen.{pickOf, Tried}
 use Rattle.picks.proofs.MemberLaws.{member-last, member-none}
 use Rattle.picks.proofs.GrowLaws.{grows-all}
+use Rattle.picks.proofs.NewerLaws.{file-at}
 use Rattle.picks.proofs.PickLaws.{pick-found}
 use Rattle.source.specs.declared.instance.Target.the-variants.{Plain, Of}
 use Rattle.directory.specs.Directory.{Copy, Directory, SlotFor}
 use Rattle.source.specs.Instance.{Targeted}
-use Rattle.directory.proofs.DirectoryLaws.{first-at}
 
--- a document is the first file of a base of a table
+-- a document is the library's file of a base of a table
 pub record Known (library : List File) (T : Bases) (d : ℕ) : Type 0 where
   pub base : ℕ
   pub file : File
   pub among : member base T ≡ true
-  pub is : firstFile base 1 library ≡ some (d, file)
+  pub is : libraryFile base 1 library ≡ some (d, file)
 
 -- ---- what the urls of an extern lead to
 
@@ -51,7 +51,7 @@ among-kept base T U e = go (member base T) refl (ltb (length T) 64) e
     go false m false e = let z : _≡_ {A = ℕ} 0 1 = cc in absurd (omega arith)
 
 -- the file that a url leads to is its base's
-from-file : (library : List File) (u : Url) (f : Option (ℕ × File)) (p : Pick) → firstFile (u .base) 1 library ≡ f → andThen f (pickFrom u) ≡ some p → (T : Bases) → member (u .base) T ≡ true → Known library T (p .document)
+from-file : (library : List File) (u : Url) (f : Option (ℕ × File)) (p : Pick) → libraryFile (u .base) 1 library ≡ f → andThen f (pickFrom u) ≡ some p → (T : Bases) → member (u .base) T ≡ true → Known library T (p .document)
 from-file library u none p e h T m = let z : _≡_ {A = ℕ} 0 1 = cc in absurd (omega arith)
 from-file library u (some f) p e h T m = go (pickIn (f .1 .document) (u .fragment)) h
   where
@@ -72,7 +72,7 @@ known-urls library (u ∷ l) T p e = go (remember (u .base) T) refl (λ U. known
 
     url : (U : Bases) → member (u .base) U ≡ true → (o : Option Pick) → pickUrl library u ≡ o → ((K : Bases) → next K .0 ≡ some p → Known library (next K .1) (p .document)) → orNext next U o .0 ≡ some p → Known library (orNext next U o .1) (p .document)
     url U m none i ih e = ih U e
-    url U m (some q) i ih e = let z : q ≡ p = cc in from-file library u (firstFile (u .base) 1 library) p refl (i ∙ ap some z) U m
+    url U m (some q) i ih e = let z : q ≡ p = cc in from-file library u (libraryFile (u .base) 1 library) p refl (i ∙ ap some z) U m
 
     go : (r : Option Bases) → remember (u .base) T ≡ r → ((K : Bases) → next K .0 ≡ some p → Known library (next K .1) (p .document)) → tryUrl library u next T r .0 ≡ some p → Known library (tryUrl library u next T r .1) (p .document)
     go none i ih e = ih T e
@@ -114,7 +114,7 @@ has-slot R dir t d s sound c k f = go (ℕ-discrete s 0)
     other : s ≡ 0 → (j : ℕ) → j < t .count → getD (t .bases) j 0 ≡ k .base → ⊥
     other z j h e =
         let i : j < 64 = omega (arith, sound .room) in
-        let w : firstFile (k .base) 1 (filesOf R) ≡ fileAt R (k .base) (sourceAt t j) = rw e at (sound .sources j h) in
+        let w : libraryFile (k .base) 1 (filesOf R) ≡ fileAt R (k .base) (sourceAt t j) = rw e at (sound .sources j h) in
         let n = source-number (eqb (getD (t .files) j 0) 0) _ d _ (k .file) (sym w ∙ k .is) in
         f .none z (j + 1) (omega arith) (omega (arith, c .count)) (sym (c .entries .files j i) ∙ n)
 
@@ -144,4 +144,4 @@ module _ {root library dir : List ℕ} (d : Directory root library dir) {t : Tab
       let among : Known F (basesOf t) document = record { base = k .base; file = k .file; among = rw (final .bases) (k .among); is = k .is } in
       let i = has-slot (rows library) dir t document s (final .sound) c among f in
       let n = f .is i in
-      record { is = rw n (sym e); valid = record { upto = f .upto; real = λ z. omega (arith, n, first-at (k .base) 1 F document (k .file) (k .is) .0) } }
+      record { is = rw n (sym e); valid = record { upto = f .upto; real = λ z. omega (arith, n, file-at (k .base) 1 F document (k .file) (k .is) .0) } }

@@ -5,7 +5,7 @@ use Rattle.picks.proofs.table.remember.Tie as tie
 use Rattle.picks.proofs.table.remember.Reads as reads
 use Rattle.picks.proofs.table.remember.Lts as lts
 use Rattle.picks.proofs.table.add.Reads as add-reads
-use Rattle.picks.proofs.table.first_file.Reads as first-file-reads
+use Rattle.picks.proofs.table.library_file.Reads as library-file-reads
 use Rattle.picks.proofs.table.position.Reads as position-reads
 use denote.Ref.{now}
 use Rattle.sheet.specs.Rows.{rows}
@@ -30,14 +30,14 @@ element-copy-out-t20 c = search needs
 returns : tie.Need-returns
 returns c = remember-known (rows (now (c .before .before .before .before .before .args .library))) _ (c .before .before .before .before .before .args .base) (c .before .before .before .position .result) (c .before .before .before .before .before .pre .1) (c .before .before .before .position .ensures) (c .before .before .if1 .taken)
 
-first-file-requires : tie.Need-first-file-requires
-first-file-requires c κs = search needs
+library-file-requires : tie.Need-library-file-requires
+library-file-requires c κs = search needs
 
 add-requires : tie.Need-add-requires
 add-requires c κs = search needs
 
 returns-2 : tie.Need-returns-2
-returns-2 c = remember-new (rows (now (c .before .before .before .before .before .before .args .library))) _ (c .before .before .before .before .before .before .args .base) (c .before .before .before .before .position .result) (c .before .before .before .before .before .before .pre .1) (c .before .before .before .before .position .ensures) (omega arith) (c .add .ensures) (c .before .before .before .if1 .left) (c .before .first-file .ensures)
+returns-2 c = remember-new (rows (now (c .before .before .before .before .before .before .args .library))) _ (c .before .before .before .before .before .before .args .base) (c .before .before .before .before .position .result) (c .before .before .before .before .before .before .pre .1) (c .before .before .before .before .position .ensures) (omega arith) (c .add .ensures) (c .before .before .before .if1 .left) (c .before .library-file .ensures)
 
 returns-3 : tie.Need-returns-3
 returns-3 c = remember-full (rows (now (c .before .before .before .before .args .library))) _ (c .before .before .before .before .args .base) (c .before .before .position .result) (c .before .before .before .before .pre .1) (c .before .before .position .ensures) (c .before .if1 .left) (omega arith)
@@ -52,7 +52,7 @@ remember-spec =
     mul-t17
     element-copy-out-t20
     returns
-    first-file-requires
+    library-file-requires
     add-requires
     returns-2
     returns-3)

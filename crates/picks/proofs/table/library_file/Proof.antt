@@ -1,11 +1,12 @@
 -- Written by `needs write`, from answers.txt: edit that. The proof.
-use Rattle.picks.proofs.table.first_file.Statement.{statement}
-use Rattle.picks.proofs.table.first_file.Tie as tie
-use Rattle.picks.proofs.table.first_file.Reads as reads
-use Rattle.picks.proofs.table.first_file.Lts as lts
-use Rattle.walks.proofs.walk.seek.Reads as seek-reads
+use Rattle.picks.proofs.table.library_file.Statement.{statement}
+use Rattle.picks.proofs.table.library_file.Tie as tie
+use Rattle.picks.proofs.table.library_file.Reads as reads
+use Rattle.picks.proofs.table.library_file.Lts as lts
 use Rattle.sheet.proofs.row.row_at.Reads as row-at-reads
+use Rattle.walks.proofs.walk.seek.Reads as seek-reads
 use Prim.Native.Nat.{_-_}
+use mathlib.Core.Logic.{⊎-elim}
 use denote.Ref.{now}
 use lib.ListN.{length}
 use Rattle.sheet.specs.declared.part.Part.the-variants.{Files}
@@ -17,10 +18,10 @@ use native.Mathlib.Omega.{arith}
 use borrow.Author.Needs.{needs}
 
 abbrev Inv-loop : tie.InvT-loop
-Inv-loop library base number₀ at₀ number at = Seeking (rows library) base number at
+Inv-loop library base found₀ row₀ number₀ at₀ found row number at = Seeking (rows library) base (record { number = found; row = row }) number at
 
 abbrev μ-loop : tie.MeasureT-loop
-μ-loop library base number₀ at₀ number at = length (rows library) - at
+μ-loop library base found₀ row₀ number₀ at₀ found row number at = length (rows library) - at
 
 loop-holds : tie.Need-loop-holds Inv-loop μ-loop
 loop-holds c = seek-start (rows (now (c .before .args .library))) (c .before .args .base)
@@ -43,9 +44,6 @@ add-at c = omega (arith, stands Files (rows (now (c .before .before .before .bef
 row-at-requires : tie.Need-row-at-requires Inv-loop μ-loop
 row-at-requires c κs = search needs
 
-returns-2 : tie.Need-returns-2 Inv-loop μ-loop
-returns-2 c = seek-here _ _ (c .before .before .before .before .before .before .before .loop .inv) (stands Files (rows (now (c .before .before .before .before .before .before .before .before .before .args .library))) (c .before .before .before .before .before .before .before .loop .at) (c .before .before .before .before .before .before .seek .ensures) (c .before .before .before .before .q .given .1)) (c .before .before .row-at .ensures) (c .if1 .taken)
-
 add-number : tie.Need-add-number Inv-loop μ-loop
 add-number c = omega (arith, c .before .before .before .before .before .before .before .loop .inv .ahead, c .before .before .before .before .before .before .before .loop .inv .upto, rows-length (now (c .before .before .before .before .before .before .before .before .before .args .library)), c .before .before .before .before .before .before .before .before .before .pre)
 
@@ -53,10 +51,10 @@ loop-less : tie.Need-loop-less Inv-loop μ-loop
 loop-less c = omega (arith, stands Files (rows (now (c .before .before .before .before .before .before .before .before .before .args .library))) (c .before .before .before .before .before .before .before .loop .at) (c .before .before .before .before .before .before .seek .ensures) (c .before .before .before .before .q .given .1) .from, stands Files (rows (now (c .before .before .before .before .before .before .before .before .before .args .library))) (c .before .before .before .before .before .before .before .loop .at) (c .before .before .before .before .before .before .seek .ensures) (c .before .before .before .before .q .given .1) .below)
 
 loop-again : tie.Need-loop-again Inv-loop μ-loop
-loop-again c = seek-next _ _ (c .before .before .before .before .before .before .before .loop .inv) (stands Files (rows (now (c .before .before .before .before .before .before .before .before .before .args .library))) (c .before .before .before .before .before .before .before .loop .at) (c .before .before .before .before .before .before .seek .ensures) (c .before .before .before .before .q .given .1)) (c .before .before .row-at .ensures) (c .if1 .left)
+loop-again c = let s = stands Files (rows (now (c .before .before .before .before .before .before .before .before .before .args .library))) (c .before .before .before .before .before .before .before .loop .at) (c .before .before .before .before .before .before .seek .ensures) (c .before .before .before .before .q .given .1) in ⊎-elim (λ w. rw (w .1, w .2) (seek-here (rows (now (c .before .before .before .before .before .before .before .before .before .args .library))) (c .before .before .before .before .before .before .before .before .before .args .base) (c .before .before .before .before .before .before .before .loop .inv) s (c .before .before .row-at .ensures) (w .0 .taken))) (λ w. rw (w .1, w .2) (seek-next (rows (now (c .before .before .before .before .before .before .before .before .before .args .library))) (c .before .before .before .before .before .before .before .before .before .args .base) (c .before .before .before .before .before .before .before .loop .inv) s (c .before .before .row-at .ensures) (w .0 .left))) (c .if1 .came)
 
-pub first-file-spec : {M : Type 1} → statement M
-first-file-spec =
+pub library-file-spec : {M : Type 1} → statement M
+library-file-spec =
     tie.close
     (tie.spec
     Inv-loop
@@ -68,7 +66,6 @@ first-file-spec =
     returns
     add-at
     row-at-requires
-    returns-2
     add-number
     loop-less
     loop-again)
