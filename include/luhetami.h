@@ -1,16 +1,17 @@
 /*
  * Luhetami: a verified expander of VRML97 prototypes, by its C interface.
  *
- * Link libluhetami.a, which `rt staticlib luhetami` writes to target/staticlib (x86-64). Three functions:
+ * Link libluhetami.a, which `rt staticlib luhetami` writes to target/staticlib (x86-64). Its functions:
  *
  *     luhetami_read_lines     lines of text to the rows of a sheet
  *     luhetami_expand         a sheet with prototypes to one without
  *     luhetami_write_lines    rows of a sheet to lines of text
+ *     luhetami_moving         counts of legs to moving totals
  *
- * Rules for all three:
+ * Rules for all of them:
  *
- * - A row is eight words (uint32_t); a sheet is rows one after the other. A length counts elements: words for uint32_t,
- *   bytes for uint8_t.
+ * - A row is eight words (uint32_t); a sheet is rows one after the other. A length counts elements: words for uint32_t and
+ *   uint64_t, bytes for uint8_t.
  * - No pointer is NULL, with length 0 neither, and each is aligned for its type. No slice takes more than PTRDIFF_MAX bytes,
  *   and one that is written (those without const) overlaps no other slice of the call. The proofs take this for granted, and
  *   nothing else: every content, every length and every limit is answered, and every call returns.
@@ -18,7 +19,7 @@
  *   not disturb each other. A call nests as deep as max_depth and takes less than 4 KiB of stack for each level: 2 MiB
  *   suffice for 512 (measured, not proved).
  * - The result is the refusal, 0 where the call is accepted. The same number is the first word of answer. An answer that is
- *   too short is refused (1, 12 or 14, by function) before anything else, and then no word of it is written.
+ *   too short is refused (1, 12, 14 or 27, by function) before anything else, and then no word of it is written.
  * - Where a call is refused, every lent slice keeps its words, but for answer, and work.
  */
 #ifndef LUHETAMI_H
@@ -80,13 +81,26 @@ enum luhetami_refusal {
     LUHETAMI_BAD_LINE = 13,     /* a bad line; its number is the place */
 
     /* luhetami_write_lines */
-    LUHETAMI_WORDS_LENGTH = 14 /* words no multiple of 8, lines too short, more than 48,258,059 rows, or answer too
+    LUHETAMI_WORDS_LENGTH = 14, /* words no multiple of 8, lines too short, more than 48,258,059 rows, or answer too
                                    short */
+
+    /* luhetami_moving, in this order */
+    LUHETAMI_WIDTH = 25,     /* a width outside 1 to 64 */
+    LUHETAMI_COUNT = 26,     /* a count over 4,294,967,295 */
+    LUHETAMI_FEW_TOTALS = 27 /* totals too short, or answer too short */
 };
 
 /* The words of answer. */
 #define LUHETAMI_EXPAND_ANSWER ((size_t)7) /* refusal, first place, second place, nodes, scopes, charges, rows of out */
 #define LUHETAMI_LINES_ANSWER ((size_t)3)  /* refusal, place, count */
+#define LUHETAMI_MOVING_ANSWER ((size_t)4) /* refusal, totals, largest, place */
+
+/* The most legs that a moving total is of, and the largest count of a leg. */
+#define LUHETAMI_MOST_WIDTH UINT32_C(64)
+#define LUHETAMI_MOST_COUNT UINT64_C(4294967295)
+
+/* The totals that luhetami_moving writes, for a width of 1 to 64: one for each leg from the width-th on. More may be lent. */
+#define LUHETAMI_TOTALS(counts_len, width) ((counts_len) < (size_t)(width) ? (size_t)0 : (counts_len) - (size_t)(width) + 1)
 
 /*
  * Expands the prototypes of a scene.
@@ -142,6 +156,25 @@ uint32_t luhetami_read_lines(const uint8_t *lines, size_t lines_len,
 uint32_t luhetami_write_lines(const uint32_t *words, size_t words_len,
                               uint8_t *lines, size_t lines_len,
                               uint32_t *answer, size_t answer_len);
+
+/*
+ * Moving totals of a run of legs: for each leg from the width-th on, the total of its count and of the width - 1 before it.
+ *
+ * counts      the count of each leg, in order; at most 4,294,967,295 each. They are only read. A run may be of any length, and
+ *             empty. One that is shorter than the width has no totals.
+ * width       how many legs are taken together, 1 to 64.
+ * totals      LUHETAMI_TOTALS(counts_len, width) words, or more. Accepted: the totals, answer[1] of them; words past them stay.
+ *             Refused, all stay. Each total is below 2 to the power of 38.
+ * answer      4 words: refusal, totals, the largest of them, its first place among them, from 0. Both are 0 where there are no
+ *             totals; refused, all three are 0. The largest is that of the legs answer[3] to answer[3] + width - 1, from 0.
+ *             Words past the fourth stay.
+ *
+ * Refused, in this order: 25, 26, 27. No work is needed; the time is in proportion to the legs, whatever the width.
+ */
+uint32_t luhetami_moving(const uint64_t *counts, size_t counts_len,
+                         uint32_t width,
+                         uint64_t *totals, size_t totals_len,
+                         uint64_t *answer, size_t answer_len);
 
 #ifdef __cplusplus
 }

@@ -1,5 +1,6 @@
 #!/usr/bin/env python3
-"""Makes the scenes from flights.txt: NAME.lines, NAME.expected, the library's files, and the lists in README.md.
+"""Makes the scenes from flights.txt: NAME.lines, NAME.expected, the library's files, and the lists in README.md; and
+season.expected, the table of season.counts.
 
 The expected answers come from reckon.py, and never from the program. Run again, it writes the same bytes.
 """
@@ -27,6 +28,7 @@ LIBRARIES = {
     "extern-kept": [("whaleFile", "whales")],
     "corrected-file": [("whaleFile", "whales"), ("belugaFile", "belugas"), ("whaleFile", "whales-corrected")],
 }
+SEASON_WIDTH = 3
 
 
 class Names:
@@ -195,6 +197,17 @@ def page_lists(scenes, answers, names):
     return "\n".join(text)
 
 
+def season(counts, width):
+    """The table that the runner prints of a season: every total a plain sum."""
+    totals = [sum(counts[leg - width : leg]) for leg in range(width, len(counts) + 1)]
+    largest = totals.index(max(totals))
+    lines = ["leg  count  total"]
+    for leg, count in enumerate(counts, 1):
+        total = f"  {totals[leg - width]:5}" if leg >= width else ""
+        lines.append(f"{leg:3}  {count:5}{total}" + ("  largest" if leg - width == largest else ""))
+    return "".join(line + "\n" for line in lines)
+
+
 def main():
     names = Names()
     scenes = read_flights(names)
@@ -220,6 +233,9 @@ def main():
             answers.setdefault(file, f"{len(sheets[file])} rows")
         behind = f", behind {' and '.join(before)}," if before else ""
         answers[last] = f"{len(sheets[last])} rows; with it{behind} {name} gives {in_words(answer)}"
+
+    counts = [int(count) for count in (FOLDER / "season.counts").read_text().split()]
+    (FOLDER / "season.expected").write_text(season(counts, SEASON_WIDTH))
 
     page = FOLDER / "README.md"
     lists = page_lists(scenes, answers, names)

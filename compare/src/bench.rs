@@ -12,7 +12,7 @@ use crate::frames::{GARBAGE, LEDGER, OUT, SCOPES};
 use crate::linked::{self, Lent, LINKED};
 use crate::memory::{faults, now, Fresh};
 use crate::scenes::{large, Scene, MOST_CHARGES};
-use crate::{reckon, rust};
+use crate::{moving, reckon, rust};
 
 /// A scene, the same at half its size, and how many times the original's speed is wanted.
 struct Bench {
@@ -113,10 +113,10 @@ impl Slices {
 
 /// Times of something in seconds, and their median.
 #[derive(Default)]
-struct Times(Vec<f64>);
+pub struct Times(Vec<f64>);
 
 impl Times {
-    fn push(&mut self, time: Duration) {
+    pub fn push(&mut self, time: Duration) {
         self.0.push(time.as_secs_f64());
     }
 
@@ -124,7 +124,7 @@ impl Times {
         self.0.iter().sum()
     }
 
-    fn median(&self) -> f64 {
+    pub fn median(&self) -> f64 {
         let mut sorted = self.0.clone();
         sorted.sort_by(f64::total_cmp);
         sorted[sorted.len() / 2]
@@ -132,7 +132,7 @@ impl Times {
 }
 
 /// Several runs: at least `least`, then up to `MOST_RUNS` while this many seconds are not over. Slow ones are fewer.
-fn several(least: usize, seconds: f64, mut run: impl FnMut() -> Duration) -> Times {
+pub fn several(least: usize, seconds: f64, mut run: impl FnMut() -> Duration) -> Times {
     let mut times = Times::default();
     loop {
         times.push(run());
@@ -271,7 +271,7 @@ fn measure(bench: &Bench) -> Measured {
 }
 
 /// A time in milliseconds.
-fn show(seconds: f64) -> String {
+pub fn show(seconds: f64) -> String {
     let ms = seconds * 1e3;
     match ms {
         _ if ms < 10.0 => format!("{ms:.2} ms"),
@@ -288,7 +288,7 @@ fn thousands(n: u64) -> String {
 }
 
 /// A factor, with a mark where it isn't what is wanted.
-fn factor(value: f64, met: bool) -> String {
+pub fn factor(value: f64, met: bool) -> String {
     let digits = if value < 10.0 { 2 } else { 0 };
     format!("{value:.digits$}{}", if met { "" } else { " ✗" })
 }
@@ -397,11 +397,14 @@ fn calls(call: &Call, more: impl Fn(&Times) -> bool) -> Times {
 /// The scenes whose name has this part. The number of wrong answers.
 pub fn run(part: &str) -> u64 {
     let all: Vec<Measured> = benches().iter().filter(|b| b.name.contains(part)).map(measure).collect();
-    print(&all);
-    if LINKED {
-        goals(&all);
+    if !all.is_empty() {
+        print(&all);
+        if LINKED {
+            goals(&all);
+        }
+        println!();
     }
-    let wrong = all.iter().filter(|m| m.library.as_ref().is_some_and(|l| !l.right)).count() as u64;
-    println!("\n{wrong} wrong answers");
+    let wrong = all.iter().filter(|m| m.library.as_ref().is_some_and(|l| !l.right)).count() as u64 + moving::bench(part);
+    println!("{wrong} wrong answers");
     wrong
 }

@@ -36,6 +36,15 @@ extern "C" {
         answer: *mut u32,
         answer_length: usize,
     ) -> u32;
+    fn luhetami_moving(
+        counts: *const u64,
+        counts_length: usize,
+        width: u32,
+        totals: *mut u64,
+        totals_length: usize,
+        answer: *mut u64,
+        answer_length: usize,
+    ) -> u32;
 }
 
 /// One call of the library with a call's limits and these sheets.
@@ -67,5 +76,27 @@ pub fn expand(call: &Call, root: &[u32], library: &[u32], lent: &mut Lent) -> u3
 
 #[cfg(not(feature = "library"))]
 pub fn expand(_: &Call, _: &[u32], _: &[u32], _: &mut Lent) -> u32 {
+    unreachable!("no library is linked")
+}
+
+/// One call of the library's moving totals.
+#[cfg(feature = "library")]
+pub fn moving(counts: &[u64], width: u32, totals: &mut [u64], answer: &mut [u64]) -> u32 {
+    // Safety: every pointer comes with the length of its own slice, and the slices do not overlap.
+    unsafe {
+        luhetami_moving(
+            counts.as_ptr(),
+            counts.len(),
+            width,
+            totals.as_mut_ptr(),
+            totals.len(),
+            answer.as_mut_ptr(),
+            answer.len(),
+        )
+    }
+}
+
+#[cfg(not(feature = "library"))]
+pub fn moving(_: &[u64], _: u32, _: &mut [u64], _: &mut [u64]) -> u32 {
     unreachable!("no library is linked")
 }

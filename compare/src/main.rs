@@ -17,6 +17,7 @@ mod held;
 mod library;
 mod linked;
 mod memory;
+mod moving;
 mod mutants;
 mod output;
 mod pairs;
@@ -54,6 +55,8 @@ compare replay FOLDER                      write the program `replay`'s stdin an
 compare pairs COUNT SEED                   pairs of limits, at least COUNT: by the linked library, by the reckoning where none is
 compare pairs mutants COUNT SEED           every reckoning in which a limit shows, over at least COUNT pairs
 compare library COUNT SEED                 the linked static library (feature `library`)
+compare moving mutants COUNT SEED          moving totals: every broken reckoning over the small runs and COUNT random ones
+compare moving library COUNT SEED          moving totals: the linked static library
 compare bench [PART]                       times of the original, the linked library and copying; scenes whose name has PART
 compare bench spin PART SECONDS            the library's calls alone, for a profiler
 compare bench small PART COUNT             the same on scenes that fit the caches, so many calls: time a node";
@@ -112,6 +115,7 @@ fn command() -> Result<u64, String> {
             frames::answer(cases, answers, mutant).map_err(|e| e.to_string())?;
             Ok(0)
         }
+        ["moving", "mutants", count, seed] => Ok(moving::mutants(number(count)?, number(seed)?)),
         ["bench"] => Ok(bench::run("")),
         ["bench", "spin", part, seconds] => Ok(bench::spin(part, number(seconds)?)),
         ["bench", "small", part, count] => Ok(bench::small(part, number(count)?)),
@@ -120,6 +124,8 @@ fn command() -> Result<u64, String> {
         ["pairs", "mutants", count, seed] => Ok(pairs::mutants(number(count)?, number(seed)?)),
         #[cfg(feature = "library")]
         ["library", count, seed] => Ok(library::run(number(count)?, number(seed)?)),
+        #[cfg(feature = "library")]
+        ["moving", "library", count, seed] => Ok(moving::library(number(count)?, number(seed)?)),
         _ => Err(USAGE.into()),
     }
 }

@@ -45,13 +45,25 @@ pub fn read_library(files: &[(u32, String)]) -> Result<(Vec<u32>, Vec<LibraryFil
     Ok((words, found))
 }
 
+/// A file, or standard input for `-`.
+fn open(path: &str) -> io::Result<Box<dyn Read>> {
+    Ok(match path {
+        "-" => Box::new(io::stdin().lock()),
+        _ => Box::new(File::open(path)?),
+    })
+}
+
+/// All bytes of a file, or of standard input for `-`.
+pub fn read_text(path: &str) -> io::Result<Vec<u8>> {
+    let mut text = Vec::new();
+    open(path)?.read_to_end(&mut text)?;
+    Ok(text)
+}
+
 /// The bytes of a file, or of standard input for `-`. More than a sheet may have are not read to their end: one byte past
 /// the last row is as much refused (12) as all the others would be.
 fn read_bytes(path: &str) -> io::Result<Vec<u8>> {
-    let mut source: Box<dyn Read> = match path {
-        "-" => Box::new(io::stdin().lock()),
-        _ => Box::new(File::open(path)?),
-    };
+    let mut source = open(path)?;
     let most = MOST_SHEET_ROWS * ROW_BYTES + 1;
     let mut bytes = Vec::new();
     let mut piece = vec![0; 1 << 20];

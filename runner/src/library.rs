@@ -50,6 +50,15 @@ mod c {
             answer: *mut u32,
             answer_len: usize,
         ) -> u32;
+        pub fn luhetami_moving(
+            counts: *const u64,
+            counts_len: usize,
+            width: u32,
+            totals: *mut u64,
+            totals_len: usize,
+            answer: *mut u64,
+            answer_len: usize,
+        ) -> u32;
     }
 }
 
@@ -149,4 +158,31 @@ pub fn write_lines(words: &[u32], lines: &mut [u8]) -> Result<usize, u32> {
         0 => Ok(answer[2] as usize),
         _ => Err(refusal),
     }
+}
+
+/// What the moving totals answered.
+pub struct Moving {
+    pub refusal: u32,
+    pub totals: u64,
+    pub largest: u64,
+    pub place: u64,
+}
+
+/// The moving totals of a run of counts.
+pub fn moving(counts: &[u64], width: u32, totals: &mut [u64]) -> Moving {
+    let mut answer = [0; 4];
+    // Safety: as in `expand`.
+    let refusal = unsafe {
+        c::luhetami_moving(
+            counts.as_ptr(),
+            counts.len(),
+            width,
+            totals.as_mut_ptr(),
+            totals.len(),
+            answer.as_mut_ptr(),
+            answer.len(),
+        )
+    };
+    let [_, totals, largest, place] = answer;
+    Moving { refusal, totals, largest, place }
 }

@@ -1,4 +1,4 @@
-//! Expands scenes that outgrow the fixed buffers of the program `expand`.
+//! Expands scenes that outgrow the fixed buffers of the program `expand`, and has a command for each further operation.
 //!
 //! It decides nothing that is proved: it reads files, calls the library, and writes what the library answered.
 
@@ -6,6 +6,7 @@ mod answer;
 mod input;
 mod library;
 mod memory;
+mod moving;
 mod options;
 
 use std::fs::File;
@@ -16,8 +17,10 @@ use answer::Sheets;
 use library::{Limits, Room, MOST_DEPTH, MOST_NODES, MOST_ROWS, ROW_BYTES, ROW_WORDS};
 use options::{Command, Options, USAGE};
 
-/// The exit status where the arguments are wrong, and where the operating system refuses something.
+/// The exit status where the arguments are wrong, where a file has something else than it should, and where the operating
+/// system refuses something.
 const BAD_USAGE: u8 = 64;
+const BAD_DATA: u8 = 65;
 const SYSTEM_ERROR: u8 = 74;
 
 /// Copies nest up to 512 deep. Only the part of the stack that is used costs memory.
@@ -26,10 +29,12 @@ const STACK_BYTES: usize = 256 << 20;
 /// Rows that are turned into lines at a time.
 const ROWS_AT_A_TIME: usize = 8192;
 
-/// Why a run ends without an expanded scene.
+/// Why a run ends without a result.
 pub enum Stop {
     /// A refusal of the library, and what it says in words.
     Refused(u32, String),
+    /// What a file has that cannot be handed to the library.
+    Data(String),
     /// What the operating system refused.
     System(String),
 }
@@ -42,18 +47,18 @@ impl Stop {
 }
 
 fn main() -> ExitCode {
-    let options = match options::parse(std::env::args_os().skip(1)) {
-        Ok(Command::Expand(options)) => options,
+    let command = match options::parse(std::env::args_os().skip(1)) {
         Ok(Command::Help) => {
             print!("{USAGE}");
             return ExitCode::SUCCESS;
         }
+        Ok(command) => command,
         Err(message) => {
             eprint!("luhetami: {message}\n{USAGE}");
             return ExitCode::from(BAD_USAGE);
         }
     };
-    let worker = std::thread::Builder::new().stack_size(STACK_BYTES).spawn(move || run(&options));
+    let worker = std::thread::Builder::new().stack_size(STACK_BYTES).spawn(move || run(&command));
     let end = match worker {
         Ok(worker) => worker.join().expect("the worker's panic has been told"),
         Err(error) => Err(Stop::system("starting a thread", error)),
@@ -64,6 +69,10 @@ fn main() -> ExitCode {
             eprintln!("{words}");
             ExitCode::from(refusal as u8)
         }
+        Err(Stop::Data(words)) => {
+            eprintln!("luhetami: {words}");
+            ExitCode::from(BAD_DATA)
+        }
         Err(Stop::System(words)) => {
             eprintln!("luhetami: {words}");
             ExitCode::from(SYSTEM_ERROR)
@@ -71,8 +80,16 @@ fn main() -> ExitCode {
     }
 }
 
+fn run(command: &Command) -> Result<(), Stop> {
+    match command {
+        Command::Expand(options) => expand(options),
+        Command::Moving(options) => moving::run(options),
+        Command::Help => Ok(()),
+    }
+}
+
 /// Reads, expands and writes.
-fn run(options: &Options) -> Result<(), Stop> {
+fn expand(options: &Options) -> Result<(), Stop> {
     let root = input::read_sheet(&options.scene)?;
     let (library, files) = input::read_library(&options.library)?;
     let sheets = Sheets { root_rows: root.len() / ROW_WORDS, library_rows: library.len() / ROW_WORDS, files };

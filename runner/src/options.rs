@@ -2,8 +2,11 @@
 
 use std::ffi::OsString;
 
+use crate::moving;
+
 pub const USAGE: &str = "\
 usage: luhetami [OPTION]... SCENE.lines
+       luhetami moving WIDTH COUNTS
 
 Expands the prototypes of a scene and writes the expanded rows, in Lines form, to standard output; the answer, in words and
 in numbers, goes to standard error. SCENE.lines may be - for standard input.
@@ -18,8 +21,22 @@ in numbers, goes to standard error. SCENE.lines may be - for standard input.
   --scopes FILE         write the scopes: kind, document, PROTO id, interface index and opening scope of each
   --help                print this
 
-The exit status is 0 where the scene is accepted, the refusal's number (1 to 10, 12 to 14) where it is refused, 64 where the
-arguments are wrong and 74 where the operating system refuses something.
+luhetami moving prints, for each leg of a season, its count and, from the WIDTH-th leg on, the total of the last WIDTH counts,
+with the first of the largest totals marked. COUNTS has one count to a line, at most 4294967295 each; it may be - for standard
+input. WIDTH is 1 to 64. For example, three legs at a time:
+
+  $ luhetami moving 3 scenes/season.counts
+  leg  count  total
+    1      3
+    2      0
+    3      2      5
+    4      5      7
+    5      1      8  largest
+  ..
+  accepted: totals 10, largest 8 of legs 3 to 5, at place 2 [0 10 8 2]
+
+The exit status is 0 where the call is accepted, the refusal's number (1 to 10, 12 to 14, 25 to 27) where it is refused, 64 where the
+arguments are wrong, 65 where a line of COUNTS is no number and 74 where the operating system refuses something.
 ";
 
 pub struct Options {
@@ -35,6 +52,7 @@ pub struct Options {
 
 pub enum Command {
     Expand(Options),
+    Moving(moving::Options),
     Help,
 }
 
@@ -51,8 +69,12 @@ pub fn parse(arguments: impl Iterator<Item = OsString>) -> Result<Command, Strin
         scene: String::new(),
     };
     let mut scenes = Vec::new();
+    let mut first = true;
     while let Some(argument) = arguments.next() {
         let argument = argument?;
+        if std::mem::take(&mut first) && argument == "moving" {
+            return parse_moving(arguments);
+        }
         if argument == "--help" {
             return Ok(Command::Help);
         }
@@ -78,6 +100,18 @@ pub fn parse(arguments: impl Iterator<Item = OsString>) -> Result<Command, Strin
     match <[String; 1]>::try_from(scenes) {
         Ok([scene]) => Ok(Command::Expand(Options { scene, ..options })),
         Err(scenes) => Err(format!("one scene is wanted, not {}", scenes.len())),
+    }
+}
+
+/// The arguments of `moving`.
+fn parse_moving(arguments: impl Iterator<Item = Result<String, String>>) -> Result<Command, String> {
+    let arguments = arguments.collect::<Result<Vec<String>, String>>()?;
+    if arguments.iter().any(|argument| argument == "--help") {
+        return Ok(Command::Help);
+    }
+    match <[String; 2]>::try_from(arguments) {
+        Ok([width, file]) => Ok(Command::Moving(moving::Options { width: number(&width)?, file })),
+        Err(arguments) => Err(format!("moving wants a width and a file, not {} arguments", arguments.len())),
     }
 }
 

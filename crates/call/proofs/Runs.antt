@@ -13,7 +13,8 @@ use Rattle.expansion.specs.Expand.{ledgerEntry, Expansion, Answer, expansion, a
 use Rattle.expansion.specs.Expanded.{Expanded as Holds}
 use Rattle.expansion.specs.Proofs.Demand.{demand-3}
 use Rattle.output.proofs.Output.{row-count}
-use Rattle.operation.specs.Operation.{Call, input, over}
+use Rattle.words.specs.Words.{over}
+use Rattle.operation.specs.Operation.{Call, input}
 use Rattle.reading.specs.Reading.{nodesOf, ledgerOf, scopesOf, statementsAt}
 use Rattle.reading.proofs.Nodes.{nodes-length}
 use Rattle.reading.proofs.States.{scopes-length}

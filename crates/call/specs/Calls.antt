@@ -5,10 +5,11 @@ use Prim.Native.Nat.{ℕ, _+_, _*_, _≤_}
 use mathlib.Core.Path.{_≡_}
 use lib.ListN.{length}
 use lib.Dec.{ltb}
+use Rattle.words.specs.Words.{over}
 use Rattle.expansion.specs.Input.{Limits}
 use Rattle.expansion.specs.Expand.{expand}
 use Rattle.sheet.specs.Rows.{words}
-use Rattle.operation.specs.Operation.{Call, Numbers, After, overCaps, input, over, after, expandWords}
+use Rattle.operation.specs.Operation.{Call, Numbers, After, overCaps, input, after, expandWords}
 use Rattle.operation.specs.Promises.{Room, Sheets, Answered, Accepted}
 use Rattle.reading.specs.Reading.{ledgerOf, scopesOf}
 use Rattle.refine.specs.declared.Counts.{Counts}

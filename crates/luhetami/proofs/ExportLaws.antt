@@ -1,41 +1,26 @@
--- The functions that C calls: the words of an answer, and each function's cases.
-use mathlib.Core.Path.{_≡_, refl, sym, _∙_}
+-- The functions that C calls: each function's cases.
+use mathlib.Core.Path.{_≡_, refl, sym}
 use mathlib.Core.Bool.{Bool, true, false, not, _||_}
-use mathlib.Core.List.{List, _++_}
-use Prim.Native.Nat.{ℕ, suc, _+_, _*_, _/_, _%_, _≤_, _<_}
-use native.Mathlib.Numerals.{add-one}
+use mathlib.Core.List.{List, [], _∷_, _++_}
+use Prim.Native.Nat.{ℕ, _*_, _/_, _%_, _≤_, _<_}
 use native.Mathlib.Omega.{arith}
-use lib.ListN.{length, take, drop, getD, set, length-set}
+use lib.ListN.{length, drop}
 use lib.Dec.{ltb, eqb}
-use lib.Seq.{paste-suc, take-length}
 use borrow.Author.Tests.{lt-ltb, le-ltb, ltb-true}
 use Rattle.ast.specs.Choice.{choose}
 use Rattle.lines.specs.Answer.{Answer, accepted, refused}
 use Rattle.lines.specs.Read.{goodLines, wordsOf, readLines}
 use Rattle.lines.specs.Write.{linesOf, writeLines}
-use Rattle.operation.specs.Operation.{Call, over}
+use Rattle.words.specs.Words.{over}
+use Rattle.operation.specs.Operation.{Call}
 use Rattle.call.specs.declared.Outcome.{Outcome}
 use Rattle.call.specs.Calls.{numbersOf, Says, Demand1, Demand3}
+use Rattle.answer.specs.Answer.{answerWords, exported}
+use Rattle.answer.proofs.AnswerLaws.{exported-told}
+use Rattle.moving.specs.declared.Moved.{Moved}
+use Rattle.moving.specs.Moving.{answerOf, saidOf}
+use Rattle.moving.specs.Moving as Moving
 use Rattle.luhetami.specs.Exports.{numberWords, expandC, SaysC, Demand1C, Demand3C, lineWords, unlessShort, readCounted, writeCounted}
-
--- ---- put
-
--- the first i words are written
-pub record Putting (answer₀ words answer : List ℕ) (i : ℕ) : Type 0 where
-  pub upto : i ≤ length words
-  pub long : length answer ≡ length answer₀
-  pub same : answer ≡ take i words ++ drop i answer₀
-
--- a turn of its loop
-put-turn : (answer words : List ℕ) (i : ℕ) → i < length answer → i < length words → set (take i words ++ drop i answer) i (getD words i 0) ≡ take (i + 1) words ++ drop (i + 1) answer
-put-turn answer words i h k = let e : 0 + i ≡ i = omega arith in let f : 0 + suc i ≡ suc i = omega arith in rw (add-one i) (rw (e, f) at (paste-suc answer 0 words i 0 (omega arith) k))
-
-module _ {answer₀ words answer : List ℕ} {i : ℕ} (p : Putting answer₀ words answer i) where
-  pub put-again : length words ≤ length answer₀ → i < length words → Putting answer₀ words (set answer i (getD words i 0)) (i + 1)
-  put-again h k = record { upto = omega arith; long = rw length-set (p .long); same = rw (p .same) (put-turn answer₀ words i (omega arith) k) }
-
-  pub put-end : length words ≤ i → answer ≡ over words answer₀
-  put-end k = let e : i ≡ length words = omega arith in p .same ∙ rw (e, take-length words)
 
 -- ---- luhetami_expand
 
@@ -98,3 +83,8 @@ module _ (words lines : List ℕ) where
   pub write-low : {r : Answer × List ℕ} → writeLines words lines ≡ r → Low (89 * (length words / 8)) r
   unfolding writeLines
   write-low e = rw e at (write-cases (89 * (length words / 8)) (not (eqb (length words % 8) 0) || ltb (length lines) (89 * (length words / 8))) lines (linesOf (length words / 8) words ++ drop (89 * (length words / 8)) lines))
+
+-- ---- luhetami_moving
+
+pub moving-told : (lent answer : List ℕ) → 4 ≤ length answer → (a : Moved) {after lent' : List ℕ} {result : ℕ} {r : Moving.Answer × List ℕ} → (answerOf a, lent') ≡ r → (result ≡ answerOf a .refusal) × (after ≡ over (answerWords (answerOf a .refusal) (answerOf a .count ∷ answerOf a .largest ∷ answerOf a .place ∷ [])) answer) → record { result = result; lent = lent'; answer = after } ≡ exported 27 4 lent answer (saidOf r)
+moving-told lent answer h a e p = rw (← e) (exported-told 27 4 lent answer (saidOf (answerOf a, _)) h p)

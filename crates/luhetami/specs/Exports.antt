@@ -8,7 +8,8 @@ use Rattle.ast.specs.Choice.{choose}
 use Rattle.lines.specs.Answer.{Answer, refused}
 use Rattle.lines.specs.Read.{readLines}
 use Rattle.lines.specs.Write.{writeLines}
-use Rattle.operation.specs.Operation.{Call, Numbers, After, over, expandWords}
+use Rattle.words.specs.Words.{over}
+use Rattle.operation.specs.Operation.{Call, Numbers, After, expandWords}
 use Rattle.operation.specs.Promises.{Answered, Accepted}
 
 -- ---- luhetami_expand

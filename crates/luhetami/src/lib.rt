@@ -2,10 +2,13 @@
 use call::Outcome;
 use lines::Read;
 use lines::Written;
+use moving::Moved;
 ghost use mathlib.Core.Path.{_≡_};
 ghost use Prim.Native.Nat.{_≤_, _<_};
 ghost use lib.ListN.{length, getD};
-ghost use Rattle.operation.specs.Operation.{over};
+ghost use Rattle.words.specs.Words.{over};
+ghost use Rattle.answer.specs.Answer.{exported};
+ghost use Rattle.moving.specs.Moving.{moved, saidOf};
 ghost use Rattle.call.specs.Calls.{callOf};
 ghost use Rattle.luhetami.specs.Exports.{SaysC, Demand1C, Demand3C, readC, writeC};
 
@@ -100,5 +103,30 @@ pub extern "C" fn luhetami_write_lines(words: &[u32], lines: &mut [u8], answer: 
     match lines::write_lines(words, lines) {
         Written::Bytes(bytes) => put(answer, &[0, 0, bytes as u32]),
         Written::Refused => put(answer, &[14, 0, 0]),
+    }
+}
+
+// Moving totals. Answer: refusal, totals, largest, place.
+#[no_mangle]
+pub extern "C" fn luhetami_moving(
+    counts: &[u64],
+    width: u32,
+    totals: &mut [u64],
+    answer: &mut [u64],
+) -> u32
+    ensures { λ r. ⌜ record { result = r; lent = now (totals .exit); answer = now (answer .exit) } ≡ exported 27 4 (now (totals .entry)) (now (answer .entry)) (saidOf (moved (now (counts .entry)) «width» (now (totals .entry)))) ⌝ }
+{
+    if answer.len() < 4 {
+        return 27;
+    }
+    match moving::moving(counts, width, totals) {
+        Moved::Totals {
+            count,
+            largest,
+            place,
+        } => answer::put(answer, 0, &[count as u64, largest, place as u64]),
+        Moved::WidthOutside => answer::put(answer, 25, &[0, 0, 0]),
+        Moved::CountOver => answer::put(answer, 26, &[0, 0, 0]),
+        Moved::TooFew => answer::put(answer, 27, &[0, 0, 0]),
     }
 }

@@ -23,12 +23,13 @@ use Rattle.expansion.specs.Bigger
 use Rattle.expansion.specs.Proofs.Demand.{demand-3, refusals, refused-not-expanded}
 use Rattle.expansion.specs.Proofs.Runs.{Answers, both}
 use Rattle.expansion.specs.Proofs.Bigger.{answers, accept, refuse, exactly, joined, suffice, joined-first, joined-second, one-flight}
-use Rattle.operation.specs.Operation.{Call, overCaps, tooShort, wrongLength, refuseIf, refuseBad, input, outcome, over, ledgerWords, after, expandWords}
+use Rattle.operation.specs.Operation.{Call, overCaps, tooShort, wrongLength, refuseIf, refuseBad, input, outcome, ledgerWords, after, expandWords}
 use Rattle.operation.specs.Limits.{SameSheets, BiggerCall, SameWords, SameFlight, EnoughCall, WhereEnough, OneFlight}
 use Rattle.operation.proofs.Said.{words-length, ledger-length, scopes-length}
 use Rattle.operation.proofs.Cases.{from-four}
 use Rattle.operation.proofs.Tests.{room-then}
-use Rattle.operation.proofs.Promised.{over-written}
+use Rattle.words.proofs.WordLaws.{over-written}
+use Rattle.words.specs.Words.{over}
 
 -- ---- the same refusal before, or the two answers
 

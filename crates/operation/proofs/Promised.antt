@@ -4,8 +4,8 @@ use mathlib.Core.Bool.{Bool, true, false, _||_}
 use mathlib.Core.List.{List}
 use Prim.Native.Nat.{ℕ, _*_, _≤_}
 use native.Mathlib.Omega.{arith}
-use lib.ListN.{length, take, drop, length-append, length-drop}
-use lib.Seq.{take-at, drop-at}
+use lib.ListN.{length, drop}
+use Rattle.words.proofs.WordLaws.{over-length, over-written, over-kept}
 use Rattle.sheet.specs.declared.row.Row.{Row}
 use Rattle.checker.specs.declared.Checked.{Checked}
 use Rattle.checker.specs.declared.Checked.the-variants.{Fits, Bad}
@@ -22,24 +22,12 @@ use Rattle.expansion.specs.Expanded.{Expanded}
 use Rattle.expansion.specs.Proofs.Demand.{demand-3, refusals, faultless}
 use Rattle.output.specs.Input.{InputInRange}
 use Rattle.output.proofs.Output.{row-count, rows-fit, rows-say}
-use Rattle.operation.specs.Operation.{Call, After, overCaps, tooShort, wrongLength, refuseIf, refuseBad, input, outcome, over, ledgerWords, after, expandWords}
+use Rattle.operation.specs.Operation.{Call, After, overCaps, tooShort, wrongLength, refuseIf, refuseBad, input, outcome, ledgerWords, after, expandWords}
 use Rattle.operation.specs.Promises.{Room, Sheets, WellFormed, Refused, Answered, one, two, threeRoot, threeLibrary, fourToTen, accepted, outRows, ledgerSaid, scopesSaid, said, Accepted, Promises}
 use Rattle.operation.proofs.Targets.{Words, root-targets, library-targets}
 use Rattle.operation.proofs.Said.{words-length, ledger-length, scopes-length, rows-said, ledger-said, scopes-said}
 use Rattle.operation.proofs.Cases.{from-four}
 use Rattle.operation.proofs.Tests.{yes-no, room-if, room-then, sheets-if, sheets-then}
-
--- ---- words written over a slice
-
--- The slice stays as long, begins with what is written, and keeps the rest.
-over-length : (new old : List ℕ) → length new ≤ length old → length (over new old) ≡ length old
-over-length new old h = omega (arith, length-append new (drop (length new) old), length-drop (length new) old)
-
-pub over-written : (new old : List ℕ) (n : ℕ) → length new ≡ n → take n (over new old) ≡ new
-over-written new old n e = take-at new (drop (length new) old) n e
-
-over-kept : (new old : List ℕ) (n : ℕ) → length new ≡ n → drop n (over new old) ≡ drop n old
-over-kept new old n e = drop-at new (drop (length new) old) n e ∙ ap (λ (k : ℕ). drop k old) e
 
 -- ---- a refusal
 

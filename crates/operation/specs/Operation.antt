@@ -1,9 +1,10 @@
 -- Expand on words (document 01, What each operation says no to: Expand): from what a call is given and lent to its answer and the words after it.
 use mathlib.Core.Bool.{Bool, true, false, not, _||_}
-use mathlib.Core.List.{List, [], _∷_, _++_}
+use mathlib.Core.List.{List, [], _∷_}
 use Prim.Native.Nat.{ℕ, _+_, _*_, _/_, _%_}
-use lib.ListN.{length, drop}
+use lib.ListN.{length}
 use lib.Dec.{ltb, eqb}
+use Rattle.words.specs.Words.{over}
 use Rattle.checker.specs.declared.Checked.{Checked}
 use Rattle.checker.specs.declared.Checked.the-variants.{Fits, Bad}
 use Rattle.checker.specs.declared.grammar.Form.the-variants as form
@@ -85,15 +86,11 @@ pub record After : Type 0 where
   pub ledger : List ℕ
   pub scopes : List ℕ
 
--- words written from a slice's start on; "out past its rows, ledger past its nodes and scopes past its entries keep their words"
-abbrev pub over : List ℕ → List ℕ → List ℕ
-over new old = new ++ drop (length new) old
-
 -- "The ledger has, per output node: scope, document, source id."
 abbrev pub ledgerWords : LedgerEntry → List ℕ
 ledgerWords x = x .scope ∷ x .document ∷ x .source ∷ []
 
--- "A refusal keeps out, ledger and scopes; counts are 0."
+-- "A refusal keeps out, ledger and scopes; counts are 0."; "out past its rows, ledger past its nodes and scopes past its entries keep their words"
 abbrev pub after : Call → Answer → After
 after c (Answer.Refused n d i) =
     record {

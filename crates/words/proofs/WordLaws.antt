@@ -1,12 +1,13 @@
--- Words that stay: of one word that is written, of a part that was lent, of one change after another; and words that are cleared.
+-- Words that stay: of one word that is written, of a part that was lent, of one change after another; words that are cleared; words written from a slice's start on.
 use mathlib.Core.Path.{_≡_, refl, sym, ap, _∙_}
 use mathlib.Core.List.{List, _++_}
-use Prim.Native.Nat.{ℕ, _+_, _-_, _≤_, _<_}
+use Prim.Native.Nat.{ℕ, suc, _+_, _-_, _≤_, _<_}
+use native.Mathlib.Numerals.{add-one}
 use native.Mathlib.Omega.{arith}
 use native.Mathlib.Decide.{decLt, ℕ-discrete}
 use lib.ListN.{length, getD, take, drop, set, length-set, length-append, length-drop, List·getD-append}
-use lib.Seq.{length-take-le, getD-set-same, getD-set-other, getD-append-add, getD-take, getD-drop}
-use Rattle.words.specs.Words.{Outside, Cleared}
+use lib.Seq.{length-take-le, getD-set-same, getD-set-other, getD-append-add, getD-take, getD-drop, take-at, drop-at, take-length, paste-suc}
+use Rattle.words.specs.Words.{over, Outside, Cleared}
 
 pub stays : {a b : ℕ} (l : List ℕ) → Outside a b l l
 stays l = record { long = refl; below = λ k h. refl; above = λ k h. refl }
@@ -125,3 +126,35 @@ module _ {a b : ℕ} {w₀ : List ℕ} where
 
   pub clear-end : {i : ℕ} {w : List ℕ} → Cleared a b i w₀ w → b ≤ i → Cleared a b b w₀ w
   clear-end c h = record { stays = c .stays; zero = λ k e g. c .zero k e (omega arith) }
+
+-- ---- words written from a slice's start on
+
+-- The slice stays as long, begins with what is written, and keeps the rest.
+module _ (new old : List ℕ) where
+  pub over-length : length new ≤ length old → length (over new old) ≡ length old
+  over-length h = omega (arith, length-append new (drop (length new) old), length-drop (length new) old)
+
+  pub over-written : (n : ℕ) → length new ≡ n → take n (over new old) ≡ new
+  over-written n e = take-at new (drop (length new) old) n e
+
+  pub over-kept : (n : ℕ) → length new ≡ n → drop n (over new old) ≡ drop n old
+  over-kept n e = drop-at new (drop (length new) old) n e ∙ ap (λ (k : ℕ). drop k old) e
+
+-- one by one: the first i of them are written
+pub record Putting (old new now : List ℕ) (i : ℕ) : Type 0 where
+  pub upto : i ≤ length new
+  pub long : length now ≡ length old
+  pub same : now ≡ take i new ++ drop i old
+
+pub put-start : {old new : List ℕ} → Putting old new old 0
+put-start = record { upto = omega arith; long = refl; same = refl }
+
+put-turn : (old new : List ℕ) (i : ℕ) → i < length old → i < length new → set (take i new ++ drop i old) i (getD new i 0) ≡ take (i + 1) new ++ drop (i + 1) old
+put-turn old new i h k = let e : 0 + i ≡ i = omega arith in let f : 0 + suc i ≡ suc i = omega arith in rw (add-one i) (rw (e, f) at (paste-suc old 0 new i 0 (omega arith) k))
+
+module _ {old new now : List ℕ} {i : ℕ} (p : Putting old new now i) where
+  pub put-again : length new ≤ length old → i < length new → Putting old new (set now i (getD new i 0)) (i + 1)
+  put-again h k = record { upto = omega arith; long = rw length-set (p .long); same = rw (p .same) (put-turn old new i (omega arith) k) }
+
+  pub put-end : length new ≤ i → now ≡ over new old
+  put-end k = let e : i ≡ length new = omega arith in p .same ∙ rw (e, take-length new)

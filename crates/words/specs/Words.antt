@@ -1,8 +1,12 @@
--- Lent words: those that stay, and those that are cleared.
+-- Lent words: those that are written, those that stay, and those that are cleared.
 use mathlib.Core.Path.{_≡_}
-use mathlib.Core.List.{List}
+use mathlib.Core.List.{List, _++_}
 use Prim.Native.Nat.{ℕ, _≤_, _<_}
-use lib.ListN.{length, getD}
+use lib.ListN.{length, getD, drop}
+
+-- words written from a slice's start on: those past them stay
+abbrev pub over : List ℕ → List ℕ → List ℕ
+over new old = new ++ drop (length new) old
 
 -- after is before but for the words from a up to b
 pub record Outside (a b : ℕ) (before after : List ℕ) : Type 0 where

@@ -1,0 +1,4 @@
+pub mod Moving
+pub mod Promises
+pub mod Slides
+pub mod Examples
