@@ -148,6 +148,11 @@ pub record Needs (I : Input) (need : ℕ) : Type 0 where
   pub exact : (e : Expansion) → end ≡ Answer.Expanded e → e .charges ≡ need
   pub counts : (k : ℕ) → need ≤ k → (e : Expansion) → end ≡ Answer.Expanded e → (w : World Known) (r : WholeRun (graph (withRows k I)) w) → need ≡ counted (withRows k I) e r
 
+-- Whose charge is refused: one of the top's (document, top, scope 0, a top statement), or one of a node that the steps come to while fewer than D are open.
+pub data ChargedAt (I : Input) : Type 0 where
+  topCharge : ChargedAt I
+  nodeCharge : (m : Met I) → m .depth < I .limits .maxDepth → (node : Node) → nodeAt (docs I) (documentIn (m .scope)) (m .id) ≡ some node → ChargedAt I
+
 -- Every refusal of the steps, and what it is given for.
 pub data Refusal (I : Input) : ℕ → ℕ → ℕ → Type 0 where
   -- 4, of a top statement
@@ -158,5 +163,5 @@ pub data Refusal (I : Input) : ℕ → ℕ → ℕ → Type 0 where
   tooDeep : (m : Met I) → m .depth ≡ I .limits .maxDepth → (node : Node) → nodeAt (docs I) (documentIn (m .scope)) (m .id) ≡ some node → Refusal I 9 0 0
   -- 4, 6, 7, 8: fewer are open, and that node is at fault
   atNode : (m : Met I) → m .depth < I .limits .maxDepth → {c d i : ℕ} → Fault I (m .number) (m .scope) (m .id) (m .world) c d i → Refusal I c d i
-  -- "the one that would make more than K gives 10": more rows are needed
-  tooMany : (need : ℕ) → Needs I need → I .limits .maxRows < need → Refusal I 10 0 0
+  -- "the one that would make more than K gives 10": more rows are needed, and the steps come to that charge
+  tooMany : ChargedAt I → (need : ℕ) → Needs I need → I .limits .maxRows < need → Refusal I 10 0 0
