@@ -297,10 +297,10 @@ pub fn has_value(work: &[u32], lim: Limits, st: Counts, env: Env, target: u32) -
     if !env.body {
         return false;
     }
-    let Newest::At(_) = refine::value_of(work, lim, st, env.values, target) else {
-        return false;
-    };
-    true
+    match refine::value_of(work, lim, st, env.values, target) {
+        Newest::At(_) => true,
+        Newest::Nothing => false,
+    }
 }
 
 // The value that an IS target has in the instance's scope, stored under an interface's name.

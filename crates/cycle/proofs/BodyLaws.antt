@@ -40,7 +40,7 @@ use Rattle.refine.specs.Does.{at, IfDone}
 use Rattle.refine.specs.Contract.{Ownership, OwnedAt, Owning, MappedAt, Mapped}
 use Rattle.refine.proofs.Later.{later-env, env-later, later-node, body-later, unrecorded-later}
 use Rattle.refine.proofs.Owning.{own-root, own-route}
-use Rattle.parts.specs.Contract.{sourceOf, rowsOf, Declared}
+use Rattle.parts.specs.Contract.{sourceOf, Declared}
 use Rattle.cycle.specs.Contract.{Yields, Placed, Bodied, InBody, Copied, BodyOf, StatementOf, keptOf}
 use Rattle.cycle.proofs.Run.{Run, begin, turn, end, go, halt, went, gave, leaf, yields-young, since, here-later}
 
@@ -84,10 +84,7 @@ abbrev pub routeRecord : ℕ → Row → Record
 routeRecord scope r = record { tag = tagRoute; a = scope; b = r .b; c = r .c; d = r .d; e = r .e; f = r .f; g = r .g; h = 0; i = 0; j = 0; k = 0 }
 
 -- ---- `statement`
-module _ (root library dir w : List ℕ) (L : Limits) (t : Counts) (e : code.Env) (id : ℕ) (inner : code.Env) (row out place depth : ℕ) (h : InBody root library dir w L t e inner out place) (r : Row) (is : r ≡ getD (rowsOf root library dir (inner .slot)) row blank) where
-  abbrev R : List Row
-  R = rowsOf root library dir (inner .slot)
-
+module _ (root library dir w : List ℕ) (L : Limits) (t : Counts) (e : code.Env) (id : ℕ) (inner : code.Env) (R : List Row) (row out place depth : ℕ) (h : InBody root library dir w L t e inner out place) (r : Row) (is : r ≡ getD R row blank) where
   abbrev n : ℕ
   n = inner .scope
 
@@ -106,13 +103,13 @@ module _ (root library dir w : List ℕ) (L : Limits) (t : Counts) (e : code.Env
 
   -- a charge and a record of the scope's own lists are left
   owned : {w₁ : List ℕ} {s : Counts} {x : Record} {c : Body} → Run root library L n m w t (λ I. charge I >>= (λ z. ret c)) w₁ s → InBody root library dir w₁ L s e inner out place → (x .tag ≡ tagAssociation → ⊥)
-      → {w₂ : List ℕ} → ((t₂ : Counts) → OwnedAt w₁ s inner x w₂ t₂ → c ≡ bodyOf w₂ (t₂ .charges) n out place) → (a : Answer) → Owning L w₁ s inner x w₂ a → StatementOf root library dir w L t e id inner row out place depth w₂ (keptOf a out place)
+      → {w₂ : List ℕ} → ((t₂ : Counts) → OwnedAt w₁ s inner x w₂ t₂ → c ≡ bodyOf w₂ (t₂ .charges) n out place) → (a : Answer) → Owning L w₁ s inner x w₂ a → StatementOf root library w L t e id inner R row out place depth w₂ (keptOf a out place)
   owned {w₁} {s} {x} {c} run hi ne {w₂} eq a o = by a o
     where
       paid-by : {a : Answer} → Owning L w₁ s inner x w₂ a → Yields root library L n charge (λ u s₂ v p z. OwnedAt w₁ s inner x u s₂) w₁ s w₂ a
       paid-by o = leaf tt (λ D. o .body ne (sourceOf root library D) n (omega arith)) (o .done)
 
-      by : (a : Answer) → Owning L w₁ s inner x w₂ a → StatementOf root library dir w L t e id inner row out place depth w₂ (keptOf a out place)
+      by : (a : Answer) → Owning L w₁ s inner x w₂ a → StatementOf root library w L t e id inner R row out place depth w₂ (keptOf a out place)
       by (Done t₂ v p) o = end (go (λ I z. ret c) run (paid-by o) refl) (record {
         body = eq t₂ (o .done);
         rooted = λ z. later-node (went (paid-by o) refl) (hi .rooted z);
@@ -138,7 +135,7 @@ module _ (root library dir w : List ℕ) (L : Limits) (t : Counts) (e : code.Env
       within : Yields root library L n (λ I. copy I depth (envOf w inner) (r .b)) Placed w t w₁ a
       within = yields-young (omega (arith, h .opened)) y
 
-      pub node-stop : {k i j : ℕ} → a ≡ Refused k i j → StatementOf root library dir w L t e id inner row out place depth w₁ a
+      pub node-stop : {k i j : ℕ} → a ≡ Refused k i j → StatementOf root library w L t e id inner R row out place depth w₁ a
       node-stop z = halt put node-run within z b
 
       module _ {s : Counts} {o p : ℕ} (z : a ≡ Done s o p) where
@@ -170,13 +167,13 @@ module _ (root library dir w : List ℕ) (L : Limits) (t : Counts) (e : code.Env
               by (refusal k i j) = refl
               by (ok u st) = refl
 
-          pub node-mapped : {w₂ : List ℕ} (a₂ : Answer) → Mapped L w₁ s (e .scope) id o p w₂ a₂ → StatementOf root library dir w L t e id inner row out place depth w₂ a₂
+          pub node-mapped : {w₂ : List ℕ} (a₂ : Answer) → Mapped L w₁ s (e .scope) id o p w₂ a₂ → StatementOf root library w L t e id inner R row out place depth w₂ a₂
           node-mapped {w₂} a₂ x = by a₂ x
             where
               entered : (young : ℕ) {a₂ : Answer} → Mapped L w₁ s (e .scope) id o p w₂ a₂ → Yields root library L young entering (λ u s₂ v k z. MappedAt s o p s₂ v k) w₁ s w₂ a₂
               entered young x = leaf tt (λ D. x .does (sourceOf root library D) young) (x .done)
 
-              by : (a₂ : Answer) → Mapped L w₁ s (e .scope) id o p w₂ a₂ → StatementOf root library dir w L t e id inner row out place depth w₂ a₂
+              by : (a₂ : Answer) → Mapped L w₁ s (e .scope) id o p w₂ a₂ → StatementOf root library w L t e id inner R row out place depth w₂ a₂
               by (Done t₂ v k) x =
                   let la : Later L (n + 1) w₁ s w₂ t₂ = went (entered (n + 1) x) refl in
                   let some? : 0 < k = omega (arith, node-ready .some, x .done .node) in
@@ -191,7 +188,7 @@ module _ (root library dir w : List ℕ) (L : Limits) (t : Counts) (e : code.Env
         pub root-ready : Ownership w₁ (s .charges) inner (rootRecord n o)
         root-ready = record { env = node-inside .here .env; tag = record { low = omega arith; high = omega arith }; scope = refl }
 
-        pub node-extra : (place ≡ 0 → ⊥) → {w₂ : List ℕ} (a₂ : Answer) → Owning L w₁ s inner (rootRecord n o) w₂ a₂ → StatementOf root library dir w L t e id inner row out place depth w₂ (keptOf a₂ out place)
+        pub node-extra : (place ≡ 0 → ⊥) → {w₂ : List ℕ} (a₂ : Answer) → Owning L w₁ s inner (rootRecord n o) w₂ a₂ → StatementOf root library w L t e id inner R row out place depth w₂ (keptOf a₂ out place)
         unfolding instances.place paid bindR
         node-extra ne a₂ x =
             owned {c = record { root = some out; extraRoots = b .extraRoots ++ (o ∷ []); routes = b .routes }}
@@ -208,13 +205,13 @@ module _ (root library dir w : List ℕ) (L : Limits) (t : Counts) (e : code.Env
     unfolding bodyStatement
     extern-run = turn (begin n m so) (λ I. externProto I (envOf w inner) (r .b) >>= (λ k. ret b)) (λ D. rw is-extern)
 
-    pub statement-extern : {w₁ : List ℕ} (a : Answer) → Declared L root library dir w t (inner .slot) (r .b) w₁ a → StatementOf root library dir w L t e id inner row out place depth w₁ (keptOf a out place)
+    pub statement-extern : {w₁ : List ℕ} (a : Answer) → Declared L root library dir w t (inner .slot) (r .b) w₁ a → StatementOf root library w L t e id inner R row out place depth w₁ (keptOf a out place)
     statement-extern {w₁} a x = by a x
       where
         declared : (young : ℕ) {a : Answer} → Declared L root library dir w t (inner .slot) (r .b) w₁ a → IfDone (λ t₁ v p. Unit {0}) a → Yields root library L young (λ I. externProto I (envOf w inner) (r .b)) (λ u s v p k. Unit {0}) w t w₁ a
         declared young x y = leaf 0 (λ D. x .does D young (envOf w inner) (sym (h .here .number))) y
 
-        by : (a : Answer) → Declared L root library dir w t (inner .slot) (r .b) w₁ a → StatementOf root library dir w L t e id inner row out place depth w₁ (keptOf a out place)
+        by : (a : Answer) → Declared L root library dir w t (inner .slot) (r .b) w₁ a → StatementOf root library w L t e id inner R row out place depth w₁ (keptOf a out place)
         by (Done t₁ v p) x =
             let la : Later L (n + 1) w t w₁ t₁ = went (declared (n + 1) x tt) refl in
             end (go (λ I k. ret b) extern-run (declared n x tt) refl) (record {
@@ -233,7 +230,7 @@ module _ (root library dir w : List ℕ) (L : Limits) (t : Counts) (e : code.Env
     pub route-ready : Ownership w (t .charges) inner (routeRecord n r)
     route-ready = record { env = h .here .env; tag = record { low = omega arith; high = omega arith }; scope = refl }
 
-    pub statement-route : {w₁ : List ℕ} (a : Answer) → Owning L w t inner (routeRecord n r) w₁ a → StatementOf root library dir w L t e id inner row out place depth w₁ (keptOf a out place)
+    pub statement-route : {w₁ : List ℕ} (a : Answer) → Owning L w t inner (routeRecord n r) w₁ a → StatementOf root library w L t e id inner R row out place depth w₁ (keptOf a out place)
     unfolding bodyStatement paid bindR
     statement-route a x =
         owned {c = record { root = b .root; extraRoots = b .extraRoots; routes = b .routes ++ (routeNew (routeRecord n r) ∷ []) }}
@@ -254,55 +251,52 @@ module _ (root library dir w : List ℕ) (L : Limits) (t : Counts) (e : code.Env
         by (suc (suc (suc zero))) q = absurd (n3 q)
         by (suc (suc (suc (suc k)))) q = refl
 
-    pub statement-nothing : StatementOf root library dir w L t e id inner row out place depth w (Done t out place)
+    pub statement-nothing : StatementOf root library w L t e id inner R row out place depth w (Done t out place)
     statement-nothing = end (turn (begin n m so) (λ I. ret b) (λ D. is-nothing (inputOf (sourceOf root library D) L) (at (sourceOf root library D) w t))) (record { body = refl; rooted = h .rooted; unrecorded = h .unrecorded })
 
 -- ---- `body`: where its loop stands
-pub record Bodying (root library dir w : List ℕ) (L : Limits) (t : Counts) (e : code.Env) (id : ℕ) (inner : code.Env) (decl depth : ℕ) (w₁ : List ℕ) (t₁ : Counts) (out place p : ℕ) : Type 0 where
+pub record Bodying (root library dir w : List ℕ) (L : Limits) (t : Counts) (e : code.Env) (id : ℕ) (inner : code.Env) (R : List Row) (depth : ℕ) (w₁ : List ℕ) (t₁ : Counts) (out place p : ℕ) : Type 0 where
   pub run : Run root library L (inner .scope)
-      (λ I. foldM (bodyStatement I (copy I depth) (envOf w e) id (envOf w inner)) (bodyOf w (t .charges) (inner .scope) 0 0) (statementsOf (rest (drop decl (rowsOf root library dir (inner .slot)))))) w t
-      (λ I. foldM (bodyStatement I (copy I depth) (envOf w e) id (envOf w inner)) (bodyOf w₁ (t₁ .charges) (inner .scope) out place) (statementsOf (drop p (rowsOf root library dir (inner .slot))))) w₁ t₁
+      (λ I. foldM (bodyStatement I (copy I depth) (envOf w e) id (envOf w inner)) (bodyOf w (t .charges) (inner .scope) 0 0) (statementsOf (rest R))) w t
+      (λ I. foldM (bodyStatement I (copy I depth) (envOf w e) id (envOf w inner)) (bodyOf w₁ (t₁ .charges) (inner .scope) out place) (statementsOf (drop p R))) w₁ t₁
   pub inside : InBody root library dir w₁ L t₁ e inner out place
 
-module _ (root library dir w : List ℕ) (L : Limits) (t : Counts) (e : code.Env) (id : ℕ) (inner : code.Env) (decl depth : ℕ) (h : InBody root library dir w L t e inner 0 0) where
-  abbrev rows : List Row
-  rows = rowsOf root library dir (inner .slot)
-
+module _ (root library dir w : List ℕ) (L : Limits) (t : Counts) (e : code.Env) (id : ℕ) (inner : code.Env) (R : List Row) (depth : ℕ) (h : InBody root library dir w L t e inner 0 0) where
   abbrev each : Input → Body → Statement → Comp Body
   each I = bodyStatement I (copy I depth) (envOf w e) id (envOf w inner)
 
   abbrev whole : Input → Comp Body
-  whole I = foldM (each I) (bodyOf w (t .charges) (inner .scope) 0 0) (statementsOf (rest (drop decl rows)))
+  whole I = foldM (each I) (bodyOf w (t .charges) (inner .scope) 0 0) (statementsOf (rest R))
 
-  pub body-start : Bodying root library dir w L t e id inner decl depth w t 0 0 (decl + 1)
-  body-start = record { run = turn (begin (inner .scope) whole (h .here .standing .sound)) (λ I. foldM (each I) (bodyOf w (t .charges) (inner .scope) 0 0) (statementsOf (drop (decl + 1) rows))) (λ D. rw (rest-drop rows decl)); inside = h }
+  pub body-start : Bodying root library dir w L t e id inner R depth w t 0 0 1
+  body-start = record { run = turn (begin (inner .scope) whole (h .here .standing .sound)) (λ I. foldM (each I) (bodyOf w (t .charges) (inner .scope) 0 0) (statementsOf (drop 1 R))) (λ D. rw (rest-drop R 0)); inside = h }
 
-  module _ {w₁ : List ℕ} {t₁ : Counts} {out place p : ℕ} (x : Bodying root library dir w L t e id inner decl depth w₁ t₁ out place p) where
+  module _ {w₁ : List ℕ} {t₁ : Counts} {out place p : ℕ} (x : Bodying root library dir w L t e id inner R depth w₁ t₁ out place p) where
     abbrev now : Body
     now = bodyOf w₁ (t₁ .charges) (inner .scope) out place
 
-    pub body-end : elements Statements (drop p rows) ≡ [] → BodyOf root library dir w L t e id inner decl depth w₁ (Done t₁ out place)
+    pub body-end : elements Statements (drop p R) ≡ [] → BodyOf root library w L t e id inner R depth w₁ (Done t₁ out place)
     unfolding foldM statementsOf
     body-end z = end (turn (x .run) (λ I. ret now) (λ D. rw z)) (record { body = refl; rooted = x .inside .rooted; unrecorded = x .inside .unrecorded })
 
-    module _ {q : ℕ} (s : Stands Statements rows p q) {w₂ : List ℕ} {a : Answer} (y : StatementOf root library dir w₁ L t₁ e id inner q out place depth w₂ a) where
+    module _ {q : ℕ} (s : Stands Statements R p q) {w₂ : List ℕ} {a : Answer} (y : StatementOf root library w₁ L t₁ e id inner R q out place depth w₂ a) where
       abbrev rest-of : Input → Body → Comp Body
-      rest-of I c = foldM (each I) c (statementsOf (drop (q + 1) rows))
+      rest-of I c = foldM (each I) c (statementsOf (drop (q + 1) R))
 
-      next : Run root library L (inner .scope) whole w t (λ I. each I now (statementOf (drop q rows)) >>= rest-of I) w₁ t₁
+      next : Run root library L (inner .scope) whole w t (λ I. each I now (statementOf (drop q R)) >>= rest-of I) w₁ t₁
       unfolding foldM statementsOf
-      next = turn (x .run) (λ I. each I now (statementOf (drop q rows)) >>= rest-of I) (λ D. rw (each-at statementOf s))
+      next = turn (x .run) (λ I. each I now (statementOf (drop q R)) >>= rest-of I) (λ D. rw (each-at statementOf s))
 
-      same-env : Yields root library L (inner .scope) (λ I. each I now (statementOf (drop q rows))) (Bodied (inner .scope)) w₁ t₁ w₂ a
+      same-env : Yields root library L (inner .scope) (λ I. each I now (statementOf (drop q R))) (Bodied (inner .scope)) w₁ t₁ w₂ a
       same-env =
-          subst (λ (E : Env). Yields root library L (inner .scope) (λ I. bodyStatement I (copy I depth) (envOf w e) id E now (statementOf (drop q rows))) (Bodied (inner .scope)) w₁ t₁ w₂ a) (env-later (since (x .run)) (h .here .env))
-          (subst (λ (E : Env). Yields root library L (inner .scope) (λ I. bodyStatement I (copy I depth) E id (envOf w₁ inner) now (statementOf (drop q rows))) (Bodied (inner .scope)) w₁ t₁ w₂ a) (env-later (since (x .run)) (h .env)) y)
+          subst (λ (E : Env). Yields root library L (inner .scope) (λ I. bodyStatement I (copy I depth) (envOf w e) id E now (statementOf (drop q R))) (Bodied (inner .scope)) w₁ t₁ w₂ a) (env-later (since (x .run)) (h .here .env))
+          (subst (λ (E : Env). Yields root library L (inner .scope) (λ I. bodyStatement I (copy I depth) E id (envOf w₁ inner) now (statementOf (drop q R))) (Bodied (inner .scope)) w₁ t₁ w₂ a) (env-later (since (x .run)) (h .env)) y)
 
-      pub body-again : {t₂ : Counts} {v o : ℕ} → a ≡ Done t₂ v o → Bodying root library dir w L t e id inner decl depth w₂ t₂ v o (q + 1)
+      pub body-again : {t₂ : Counts} {v o : ℕ} → a ≡ Done t₂ v o → Bodying root library dir w L t e id inner R depth w₂ t₂ v o (q + 1)
       body-again {t₂} {v} {o} z = record {
         run = turn (go rest-of next same-env z) (λ I. rest-of I (bodyOf w₂ (t₂ .charges) (inner .scope) v o)) (λ D. ap (λ (c : Body). rest-of (inputOf (sourceOf root library D) L) c (at (sourceOf root library D) w₂ t₂)) (gave same-env z .body));
         inside = inside-next (went same-env z) (gave same-env z) (x .inside);
       }
 
-      pub body-stop : {k i j : ℕ} → a ≡ Refused k i j → BodyOf root library dir w L t e id inner decl depth w₂ a
+      pub body-stop : {k i j : ℕ} → a ≡ Refused k i j → BodyOf root library w L t e id inner R depth w₂ a
       body-stop z = halt rest-of next same-env z now

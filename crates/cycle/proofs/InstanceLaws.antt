@@ -1,5 +1,5 @@
 -- `instantiate`: the PROTO, the values of its interfaces, its body in a scope of its own, and the record of the instance.
-use mathlib.Core.Path.{_≡_, refl, sym, ap, _∙_}
+use mathlib.Core.Path.{_≡_, refl, sym, ap, subst, _∙_}
 use mathlib.Core.Bool.{true}
 use mathlib.Core.List.{List, []}
 use mathlib.Core.Option.{none, some}
@@ -7,7 +7,7 @@ use Prim.Native.Nat.{ℕ, _≤_}
 use native.Mathlib.Omega.{arith}
 use lib.ListN.{drop, getD}
 use borrow.Author.Tests.{eq-eqb, ne-eqb}
-use Rattle.ast.specs.Ast.{Node}
+use Rattle.ast.specs.Ast.{Statement, Node}
 use Rattle.ast.specs.Choice.{mapO}
 use Rattle.ast.specs.Lookups.{protoAt}
 use Rattle.sheet.specs.declared.row.Row.{Row}
@@ -154,9 +154,11 @@ module _ (root library dir w : List ℕ) (L : Limits) (t : Counts) (e : code.Env
                 ∙ ap (λ (b : Body). bindR (bodied I (envOf w₂ e) (envOf w₂ inner) b st) (recording I n)) (sym (body-open new (values-here .standing .sound) later inner refl ep (gave y₁ z₁ .handle))))
 
             -- ---- the body
-            module _ {w₃ : List ℕ} {a₃ : Answer} (y₃ : BodyOf root library dir w₂ L s₂ e id inner decl depth w₃ a₃) where
+            module _ (P : List Row) (same : statementsOf (rest P) ≡ statementsOf (rest (drop decl R))) {w₃ : List ℕ} {a₃ : Answer} (y₃ : BodyOf root library w₂ L s₂ e id inner P depth w₃ a₃) where
               body-young : Yields root library L (t .scopes) (λ I. bodied I (envOf w₂ e) (envOf w₂ inner) (bodyOf w₂ (s₂ .charges) n 0 0)) (Bodied n) w₂ s₂ w₃ a₃
-              body-young = yields-young (omega (arith, new .value, went y₁ z₁ .scoped)) y₃
+              body-young =
+                  yields-young (omega (arith, new .value, went y₁ z₁ .scoped))
+                  (subst (λ (l : List Statement). Yields root library L n (λ I. foldM (bodyStatement I (copy I depth) (envOf w₂ e) id (envOf w₂ inner)) (bodyOf w₂ (s₂ .charges) n 0 0) l) (Bodied n) w₂ s₂ w₃ a₃) same y₃)
 
               pub instance-body : {k i j : ℕ} → a₃ ≡ Refused k i j → Instanced root library dir w L t e id row slot proto depth w₃ a₃
               instance-body z = halt (λ I. recording I n) bodies body-young z 0

@@ -98,9 +98,9 @@ module _ (root library dir w : List ℕ) (L : Limits) (t : Counts) (e : code.Env
         same : Yields root library L (t .scopes) (one (envOf w e)) Stored w₁ t₁ w₂ a
         same = yields-young (since (x .run) .scoped) (subst (λ (E : Env). Yields root library L (t₁ .scopes) (one E) Stored w₁ t₁ w₂ a) (env-later (since (x .run)) (here .env)) y)
 
-        pub values-again : {t₂ : Counts} {v o : ℕ} → a ≡ Done t₂ v o → Storing w₂ t₂ v (q + 1) (k + 1)
-        values-again {t₂} {v} eq = record {
-          run = rw (← gave same eq .all) (go after next same eq);
+        pub values-again : {t₂ : Counts} {v o : ℕ} → a ≡ Done t₂ v o → {p′ : ℕ} → p′ ≡ q + 1 → Storing w₂ t₂ v p′ (k + 1)
+        values-again {t₂} {v} eq z = record {
+          run = rw (z, ← gave same eq .all) (go after next same eq);
           handle = gave same eq .handle;
           few = omega (arith, x .few, s .from);
         }

@@ -198,16 +198,17 @@ Given root library dir w L t e row slot proto at k h depth =
     (interfaceOf (drop at (rowsOf root library dir slot))) (valuesAt w h))
     Stored w t
 
-abbrev pub BodyOf : (root library dir w : List ℕ) → Limits → Counts → (e : code.Env) (id : ℕ) (inner : code.Env) (decl depth : ℕ) → (w′ : List ℕ) → Answer → Type 0
-BodyOf root library dir w L t e id inner decl depth =
+-- the body of the PROTO whose rows are R
+abbrev pub BodyOf : (root library w : List ℕ) → Limits → Counts → (e : code.Env) (id : ℕ) (inner : code.Env) (R : List Row) (depth : ℕ) → (w′ : List ℕ) → Answer → Type 0
+BodyOf root library w L t e id inner R depth =
     Yields root library L (inner .scope)
-    (λ I. foldM (bodyStatement I (copy I depth) (envOf w e) id (envOf w inner)) (bodyOf w (t .charges) (inner .scope) 0 0) (statementsOf (rest (drop decl (rowsOf root library dir (inner .slot))))))
+    (λ I. foldM (bodyStatement I (copy I depth) (envOf w e) id (envOf w inner)) (bodyOf w (t .charges) (inner .scope) 0 0) (statementsOf (rest R)))
     (Bodied (inner .scope)) w t
 
-abbrev pub StatementOf : (root library dir w : List ℕ) → Limits → Counts → (e : code.Env) (id : ℕ) (inner : code.Env) (row out place depth : ℕ) → (w′ : List ℕ) → Answer → Type 0
-StatementOf root library dir w L t e id inner row out place depth =
+abbrev pub StatementOf : (root library w : List ℕ) → Limits → Counts → (e : code.Env) (id : ℕ) (inner : code.Env) (R : List Row) (row out place depth : ℕ) → (w′ : List ℕ) → Answer → Type 0
+StatementOf root library w L t e id inner R row out place depth =
     Yields root library L (inner .scope)
-    (λ I. bodyStatement I (copy I depth) (envOf w e) id (envOf w inner) (bodyOf w (t .charges) (inner .scope) out place) (statementOf (drop row (rowsOf root library dir (inner .slot)))))
+    (λ I. bodyStatement I (copy I depth) (envOf w e) id (envOf w inner) (bodyOf w (t .charges) (inner .scope) out place) (statementOf (drop row R)))
     (Bodied (inner .scope)) w t
 
 -- an answer that leaves the body's root as it was

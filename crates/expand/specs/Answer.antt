@@ -1,7 +1,7 @@
 -- What the program writes, by what Expand answers (document 01, Program).
 use mathlib.Core.List.{List, [], _∷_}
 use mathlib.Core.Path.{_≡_}
-use Prim.Native.Nat.{ℕ, _*_, _<_, min}
+use Prim.Native.Nat.{ℕ, _*_, _≤_, _<_}
 use lib.ListN.{length, take, replicate}
 use Rattle.operation.specs.Operation.{Call, expandWords}
 use Rattle.call.specs.Calls.{callOf, numbersOf}
@@ -14,10 +14,14 @@ abbrev pub firstLine : Outcome → List ℕ
 firstLine (Expanded nodes scopes charges rows) = 0 ∷ 0 ∷ 0 ∷ 0 ∷ nodes ∷ scopes ∷ charges ∷ 0 ∷ []
 firstLine (Refused number first second) = number ∷ first ∷ second ∷ 0 ∷ 0 ∷ 0 ∷ 0 ∷ 0 ∷ []
 
--- "then the output rows": how many, of which out holds 400; a refusal has none
+-- "then the output rows": all of them; a refusal has none
 abbrev pub outRows : Outcome → ℕ
-outRows (Expanded nodes scopes charges rows) = min rows 400
+outRows (Expanded nodes scopes charges rows) = rows
 outRows (Refused number first second) = 0
+
+-- at most K, so that out holds them
+pub record Few (o : Outcome) : Type 0 where
+  pub rows : outRows o ≤ 400
 
 -- "root on standard input, empty library, N = 400, D = 64, K = 400"
 abbrev pub callOn : (root out : List ℕ) → Call

@@ -1,8 +1,7 @@
 // What the program writes of an answer: the first line, and how many rows of out come after it.
 use call::Outcome;
 ghost use mathlib.Core.Path.{_≡_};
-ghost use Prim.Native.Nat.{_≤_};
-ghost use Rattle.expand.specs.Answer.{firstLine, outRows};
+ghost use Rattle.expand.specs.Answer.{firstLine, outRows, Few};
 
 pub fn refused(number: u32, place: u32) -> Outcome
     ensures { λ r. ⌜ r ≡ Outcome.Refused number place 0 ⌝ }
@@ -33,10 +32,10 @@ pub fn line(outcome: Outcome) -> [u32; 8]
     }
 }
 
-// How many rows of out are written; out holds 400.
+// How many rows of out are written: all that the answer has.
 pub fn rows(outcome: Outcome) -> usize
+    requires { ⌜ Few outcome ⌝ }
     ensures { λ r. ⌜ r ≡ outRows outcome ⌝ }
-    ensures { λ r. ⌜ r ≤ 400 ⌝ }
 {
     match outcome {
         Outcome::Expanded {
@@ -44,7 +43,7 @@ pub fn rows(outcome: Outcome) -> usize
             scopes: _,
             charges: _,
             rows,
-        } => if rows < 400 { rows as usize } else { 400 },
+        } => rows as usize,
         Outcome::Refused {
             number: _,
             first: _,

@@ -2,11 +2,12 @@
 use super::answer;
 use call::Outcome;
 use lines::Read;
-ghost use Rattle.expand.specs.Answer.{Expands, ReadRefused, ReadExpanded};
+ghost use Rattle.expand.specs.Answer.{Few, Expands, ReadRefused, ReadExpanded};
 
 // The expansion of some rows, with no library.
 fn expand_rows<'a>(root: &'a [u32], out: &mut [u32]) -> Outcome
     ensures { λ a. ⌜ Expands (now (root .entry)) (now (out .entry)) a (now (out .exit)) ⌝ }
+    ensures { λ a. ⌜ Few a ⌝ }
 {
     let library = [0u32; 0];
     let mut ledger = [0u32; 1200];
@@ -29,6 +30,7 @@ fn expand_rows<'a>(root: &'a [u32], out: &mut [u32]) -> Outcome
 pub fn expand(text: &[u8], out: &mut [u32]) -> Outcome
     ensures { λ r. ⌜ ReadRefused (now (text .entry)) r ⌝ }
     ensures { λ r. ⌜ ReadExpanded (now (text .entry)) (now (out .entry)) r (now (out .exit)) ⌝ }
+    ensures { λ r. ⌜ Few r ⌝ }
 {
     let mut words = [0u32; 4000];
     match lines::read_lines(text, &mut words) {

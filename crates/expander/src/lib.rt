@@ -6,6 +6,7 @@ use ast::ProtoId;
 use directory;
 use journal;
 use journal::Record;
+use lookup::rows;
 use refine::Answer;
 use refine::Counts;
 use refine::Env;
@@ -18,12 +19,13 @@ use walks::walk;
 use walks::walk::Found;
 use words::wide;
 ghost use mathlib.Core.Path.{_≡_};
-ghost use mathlib.Core.Bool.{true};
 ghost use Prim.Native.Nat.{_<_};
 ghost use lib.ListN.{length, getD};
-ghost use Rattle.sheet.specs.Rows.{blank};
-ghost use Rattle.walks.specs.Walk.{Sought, Bare};
-ghost use Rattle.directory.specs.Directory.{Slot};
+ghost use Rattle.sheet.specs.Rows.{rows, blank};
+ghost use Rattle.lookup.specs.Lookup.{sheetOf};
+ghost use Rattle.lookup.specs.Part.{ProtoPart};
+ghost use Rattle.walks.specs.Walk.{Sought, Bared};
+ghost use Rattle.directory.specs.Directory.{numberOf, Slot};
 ghost use Rattle.journal.specs.Records.{tagField, tagInterface, tagStored};
 ghost use Rattle.reading.specs.Fair.{HandleAt};
 ghost use Rattle.parts.specs.Contract.{rowsOf};
@@ -38,7 +40,7 @@ fn row_of<'a>(root: &'a [u32], library: &'a [u32], dir: &[u32], slot: u32, at: u
     requires { ⌜ slot < length (now dir) ⌝ }
     ensures { λ r. ⌜ r ≡ getD (rowsOf (now (root .entry)) (now (library .entry)) (now (dir .entry)) slot) at blank ⌝ }
 {
-    let sheet = lookup::rows::select(root, library, directory::number(dir, slot));
+    let sheet = rows::select(root, library, directory::number(dir, slot));
     row::row_at(sheet, at)
 }
 
@@ -54,16 +56,16 @@ fn next<'a>(
     requires { ⌜ slot < length (now dir) ⌝ }
     ensures { λ x. ⌜ Sought part (rowsOf (now (root .entry)) (now (library .entry)) (now (dir .entry)) slot) at x ⌝ }
 {
-    let sheet = lookup::rows::select(root, library, directory::number(dir, slot));
+    let sheet = rows::select(root, library, directory::number(dir, slot));
     walk::seek(sheet, part, at)
 }
 
-// Whether a node of a slot's document has fields only, from the row after its own on.
+// Whether a node of a slot's document has no interfaces, no statements and no body order, from the row after its own on.
 fn bare<'a>(root: &'a [u32], library: &'a [u32], dir: &[u32], slot: u32, at: usize) -> bool
     requires { ⌜ slot < length (now dir) ⌝ }
-    ensures { λ b. ⌜ (b ≡ true → Bare (rowsOf (now (root .entry)) (now (library .entry)) (now (dir .entry)) slot) at) ⌝ }
+    ensures { λ b. ⌜ Bared (rowsOf (now (root .entry)) (now (library .entry)) (now (dir .entry)) slot) at b ⌝ }
 {
-    let sheet = lookup::rows::select(root, library, directory::number(dir, slot));
+    let sheet = rows::select(root, library, directory::number(dir, slot));
     walk::bare(sheet, at)
 }
 
@@ -204,7 +206,18 @@ fn plain<'a>(
     else {
         return a;
     };
-    let a = fields(root, library, dir, work, lim, s1, env, NodeId(new), row, depth);
+    let a = fields(
+        root,
+        library,
+        dir,
+        work,
+        lim,
+        s1,
+        env,
+        NodeId(new),
+        row,
+        depth,
+    );
     let Answer::Done {
         st: s2,
         value: fs,
@@ -222,7 +235,18 @@ fn plain<'a>(
             place: place,
         };
     }
-    let a = interfaces(root, library, dir, work, lim, s2, env, NodeId(new), row, depth);
+    let a = interfaces(
+        root,
+        library,
+        dir,
+        work,
+        lim,
+        s2,
+        env,
+        NodeId(new),
+        row,
+        depth,
+    );
     let Answer::Done {
         st: s3,
         value: is,
@@ -568,6 +592,7 @@ fn instantiate<'a>(
             second: proto.0,
         };
     };
+    let part = rows::proto_at(root, library, document, decl);
     let a = values(
         root,
         library,
@@ -580,6 +605,7 @@ fn instantiate<'a>(
         slot,
         proto,
         decl,
+        part,
         depth,
     );
     let Answer::Done {
@@ -616,7 +642,7 @@ fn instantiate<'a>(
         env,
         id,
         inner,
-        decl,
+        part,
         depth,
     );
     let Answer::Done {
@@ -639,7 +665,7 @@ fn instantiate<'a>(
     bindings::record_instance(work, lim, u, inner, name, def, NodeId(out), place)
 }
 
-// The values of a PROTO's interfaces, in order; their handle.
+// The values of a PROTO's interfaces, in order; their handle. The part has its rows, the first of them at the row decl.
 fn values<'a>(
     root: &'a [u32],
     library: &'a [u32],
@@ -652,20 +678,22 @@ fn values<'a>(
     slot: u32,
     proto: ProtoId,
     decl: usize,
+    part: &'a [u32],
     depth: usize,
 ) -> Answer
     requires { ⌜ Here (now root) (now library) (now dir) (now work) lim st env ⌝ }
     requires { ⌜ AtRow (now root) (now library) (now dir) (env .slot) row ⌝ }
     requires { ⌜ Slot (now dir) slot ⌝ }
     requires { ⌜ AtRow (now root) (now library) (now dir) slot decl ⌝ }
+    requires { ⌜ ProtoPart (sheetOf (now root) (now library) (numberOf (now dir) slot)) decl (now part) ⌝ }
     ensures { λ a. ⌜ ValuesOf (now (root .entry)) (now (library .entry)) (now (dir .entry)) (now (work .entry)) lim st env row slot (proto .0) decl depth (now (work .exit)) a ⌝ }
 {
     let mut cur = st;
     let mut h: u32 = 0;
-    let mut at = decl + 1;
+    let mut at = 1;
     let mut k: u32 = 0;
     loop {
-        let Found::At(q) = next(root, library, dir, slot, Part::Interfaces, at) else {
+        let Found::At(q) = walk::seek(part, Part::Interfaces, at) else {
             return Answer::Done {
                 st: cur,
                 value: h,
@@ -684,7 +712,7 @@ fn values<'a>(
             row,
             slot,
             proto,
-            q,
+            decl + q,
             k,
             h,
             depth,
@@ -790,7 +818,8 @@ fn given<'a>(
     refine::store(work, lim, s, d.c, d.e, d.f, v, h)
 }
 
-// The statements of a PROTO's body. The first Node is the root: its copy, and the place of its record; place 0 for none.
+// The statements of a PROTO's body, in the part with its rows. The first Node is the root: its copy, and the place of its
+// record; place 0 for none.
 fn body<'a>(
     root: &'a [u32],
     library: &'a [u32],
@@ -801,19 +830,18 @@ fn body<'a>(
     env: Env,
     id: NodeId,
     inner: Env,
-    decl: usize,
+    part: &'a [u32],
     depth: usize,
 ) -> Answer
     requires { ⌜ InBody (now root) (now library) (now dir) (now work) lim st env inner 0 0 ⌝ }
-    requires { ⌜ AtRow (now root) (now library) (now dir) (inner .slot) decl ⌝ }
-    ensures { λ a. ⌜ BodyOf (now (root .entry)) (now (library .entry)) (now (dir .entry)) (now (work .entry)) lim st env (id .0) inner decl depth (now (work .exit)) a ⌝ }
+    ensures { λ a. ⌜ BodyOf (now (root .entry)) (now (library .entry)) (now (work .entry)) lim st env (id .0) inner (rows (now (part .entry))) depth (now (work .exit)) a ⌝ }
 {
     let mut cur = st;
     let mut out: u32 = 0;
     let mut place: u32 = 0;
-    let mut at = decl + 1;
+    let mut at = 1;
     loop {
-        let Found::At(q) = next(root, library, dir, inner.slot, Part::Statements, at) else {
+        let Found::At(q) = walk::seek(part, Part::Statements, at) else {
             return Answer::Done {
                 st: cur,
                 value: out,
@@ -831,6 +859,7 @@ fn body<'a>(
             env,
             id,
             inner,
+            part,
             q,
             out,
             place,
@@ -860,16 +889,16 @@ fn statement<'a>(
     env: Env,
     id: NodeId,
     inner: Env,
+    part: &'a [u32],
     row: usize,
     out: u32,
     place: u32,
     depth: usize,
 ) -> Answer
     requires { ⌜ InBody (now root) (now library) (now dir) (now work) lim st env inner out place ⌝ }
-    requires { ⌜ AtRow (now root) (now library) (now dir) (inner .slot) row ⌝ }
-    ensures { λ a. ⌜ StatementOf (now (root .entry)) (now (library .entry)) (now (dir .entry)) (now (work .entry)) lim st env (id .0) inner row out place depth (now (work .exit)) a ⌝ }
+    ensures { λ a. ⌜ StatementOf (now (root .entry)) (now (library .entry)) (now (work .entry)) lim st env (id .0) inner (rows (now (part .entry))) row out place depth (now (work .exit)) a ⌝ }
 {
-    let r = row_of(root, library, dir, inner.slot, row);
+    let r = row::row_at(part, row);
     let scope = inner.scope;
     if r.a == 0 {
         let a = copy(root, library, dir, work, lim, st, inner, NodeId(r.b), depth);

@@ -139,13 +139,19 @@ pub data Fault (I : Input) (n : ℕ) (s : Known) (i : ℕ) (w : World Known) : �
 abbrev pub withRows : ℕ → Input → Input
 withRows k I = record { root = I .root; library = I .library; limits = record { maxNodes = I .limits .maxNodes; maxDepth = I .limits .maxDepth; maxRows = k } }
 
--- How many rows an input needs: with so many or more the steps come to an end that is no 10, the same for each such limit; with fewer it is 10. An expansion's charges are just the rows needed.
+-- How many rows an input needs: with so many or more the steps come to an end that is no 10, the same for each such limit; with fewer it is 10. An expansion's charges are just the rows needed, and these are the items of document 01's list.
 pub record Needs (I : Input) (need : ℕ) : Type 0 where
   pub end : Answer
   pub other : (d i : ℕ) → end ≡ Answer.Refused 10 d i → ⊥
   pub enough : (k : ℕ) → need ≤ k → expand (withRows k I) ≡ end
   pub short : (k : ℕ) → k < need → expand (withRows k I) ≡ Answer.Refused 10 0 0
   pub exact : (e : Expansion) → end ≡ Answer.Expanded e → e .charges ≡ need
+  pub counts : (k : ℕ) → need ≤ k → (e : Expansion) → end ≡ Answer.Expanded e → (w : World Known) (r : WholeRun (graph (withRows k I)) w) → need ≡ counted (withRows k I) e r
+
+-- Whose charge is refused: one of the top's (document, top, scope 0, a top statement), or one of a node that the steps come to while fewer than D are open.
+pub data ChargedAt (I : Input) : Type 0 where
+  topCharge : ChargedAt I
+  nodeCharge : (m : Met I) → m .depth < I .limits .maxDepth → (node : Node) → nodeAt (docs I) (documentIn (m .scope)) (m .id) ≡ some node → ChargedAt I
 
 -- Every refusal of the steps, and what it is given for.
 pub data Refusal (I : Input) : ℕ → ℕ → ℕ → Type 0 where
@@ -157,5 +163,5 @@ pub data Refusal (I : Input) : ℕ → ℕ → ℕ → Type 0 where
   tooDeep : (m : Met I) → m .depth ≡ I .limits .maxDepth → (node : Node) → nodeAt (docs I) (documentIn (m .scope)) (m .id) ≡ some node → Refusal I 9 0 0
   -- 4, 6, 7, 8: fewer are open, and that node is at fault
   atNode : (m : Met I) → m .depth < I .limits .maxDepth → {c d i : ℕ} → Fault I (m .number) (m .scope) (m .id) (m .world) c d i → Refusal I c d i
-  -- "the one that would make more than K gives 10": more rows are needed
-  tooMany : (need : ℕ) → Needs I need → I .limits .maxRows < need → Refusal I 10 0 0
+  -- "the one that would make more than K gives 10": more rows are needed, and the steps come to that charge
+  tooMany : ChargedAt I → (need : ℕ) → Needs I need → I .limits .maxRows < need → Refusal I 10 0 0

@@ -16,6 +16,7 @@ pub mod Readings
 pub mod Reached
 pub mod Outputs
 pub mod Counted
+pub mod Itemised
 pub mod Expanded
 pub mod Limits
 pub mod Bigger

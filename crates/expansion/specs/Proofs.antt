@@ -9,8 +9,8 @@ pub mod Output
 pub mod Ids
 pub mod Rows
 pub mod Types
-pub mod Needs
 pub mod Counted
+pub mod Needs
 pub mod Demand
 pub mod Runs
 pub mod Room

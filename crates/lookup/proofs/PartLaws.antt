@@ -7,22 +7,22 @@ use Prim.Native.Nat.{ℕ, zero, suc, _+_, _-_, _*_, _≤_, _<_, _/_}
 use native.Mathlib.Omega.{arith}
 use lib.ListN.{length, take, drop, getD, length-take, length-drop, take-append-drop}
 use lib.Dec.{eqb}
-use lib.Seq.{drop-cons, drop-drop}
+use lib.Seq.{drop-cons, drop-drop, drop-append-le, length-take-le}
 use borrow.Author.Tests.{le-leb, ne-eqb}
 use Rattle.ast.specs.Ast.{ProtoDecl}
 use Rattle.ast.specs.Choice.{choose, mapO}
 use Rattle.sheet.specs.declared.row.Row.{Row}
 use Rattle.sheet.specs.declared.part.Part.{Part}
 use Rattle.sheet.specs.declared.part.Part.the-variants.{Interfaces, Statements, Ids}
-use Rattle.sheet.specs.Rows.{rows, blank, front}
+use Rattle.sheet.specs.Rows.{rows, blank, front, rest}
 use Rattle.sheet.specs.Parse.{elements, kindOf, passes, idsOf, interfaceOf, statementOf, routeOf, interfacesOf, statementsOf, protoOf}
 use Rattle.sheet.proofs.RowLaws.{rows-length, rows-count, skip0}
 use Rattle.walks.specs.declared.walk.Found.{Found}
 use Rattle.walks.specs.declared.walk.Found.the-variants.{At, Nothing}
-use Rattle.walks.specs.Walk.{rowsAt, Below}
+use Rattle.walks.specs.Walk.{rowsAt, Below, Stands}
 use Rattle.lookup.specs.Lookup.{sheetOf, Located}
-use Rattle.lookup.specs.Part.{partOf, Says, HandedBack, Ends, Cut, ProtoEnd}
-use Rattle.walks.proofs.WalkLaws.{elements-stop, elements-end}
+use Rattle.lookup.specs.Part.{partOf, Says, HandedBack, Ends, Cut, ProtoEnd, ProtoPart}
+use Rattle.walks.proofs.WalkLaws.{elements-stop, elements-end, front-drop}
 
 -- ---- rows of a part of the words
 
@@ -139,13 +139,80 @@ cut-rows R q to h i c =
     let e : drop q R ≡ getD R q blank ∷ (take m D ++ drop to R) = drop-cons R q blank h ∙ ap (_∷_ (getD R q blank)) (sym (take-append-drop m D) ∙ ap (_++_ (take m D)) w) in
     rw (z, drop-cons R q blank h) (sym (cut-proto (drop to R) c (getD R q blank) (take m D))) ∙ ap protoOf (sym e)
 
+-- ---- the part of a prototype: it is walked as its sheet is
+
+-- the elements of a part do not change with rows that come behind it, but for those rows
+behind : (t : Part) (Q : List Row) → Ends t Q → (P : List Row) → elements t (P ++ Q) ≡ map (λ (l : List Row). l ++ Q) (elements t P)
+unfolding elements
+behind t Q e [] = e
+behind t Q e (r ∷ P) = go (eqb (r .kind) (kindOf t)) (passes t (r .kind)) (behind t Q e P)
+  where
+    go : (b c : Bool) → elements t (P ++ Q) ≡ map (λ (l : List Row). l ++ Q) (elements t P) → choose b ((r ∷ (P ++ Q)) ∷ elements t (P ++ Q)) (choose c (elements t (P ++ Q)) []) ≡ map (λ (l : List Row). l ++ Q) (choose b ((r ∷ P) ∷ elements t P) (choose c (elements t P) []))
+    go true c ih = ap (_∷_ (r ∷ (P ++ Q))) ih
+    go false true ih = ih
+    go false false ih = refl
+
+module _ {s : List ℕ} {from : ℕ} {w : List ℕ} (h : from < length (rows s)) (x : ProtoPart s from w) where
+  abbrev R : List Row
+  R = rows s
+
+  abbrev Q : List Row
+  Q = drop (x .to) R
+
+  upto : x .to ≤ length R
+  upto = x .end .within (omega arith)
+
+  is-part : rows w ≡ take (x .to - from) (drop from R)
+  is-part = ap rows (x .part) ∙ rows-part s from (x .to) (omega (arith, x .end .after)) (omega (arith, upto, rows-count s))
+
+  pub part-long : from + length (rows w) ≡ x .to
+  part-long = omega (arith, ap length is-part ∙ length-take-le (x .to - from) (drop from R) (omega (arith, length-drop from R, upto)), x .end .after)
+
+  pub part-some : 1 ≤ length (rows w)
+  part-some = omega (arith, part-long, x .end .after)
+
+  part-drop : (p : ℕ) → p ≤ length (rows w) → drop (from + p) R ≡ drop p (rows w) ++ Q
+  part-drop p l =
+      let m = x .to - from in
+      let y : from + m ≡ x .to = omega (arith, x .end .after) in
+      let e : rows w ++ Q ≡ drop from R = ap (λ (P : List Row). P ++ Q) is-part ∙ ap (_++_ (take m (drop from R))) (sym (drop-drop m from R ∙ ap (λ (n : ℕ). drop n R) y)) ∙ take-append-drop m (drop from R) in
+      sym (drop-drop p from R) ∙ ap (drop p) (sym e) ∙ drop-append-le p (rows w) Q l
+
+  module _ (t : Part) (ends : Ends t Q) (p : ℕ) (l : p ≤ length (rows w)) where
+    part-elements : elements t (drop (from + p) R) ≡ map (λ (P : List Row). P ++ Q) (elements t (drop p (rows w)))
+    part-elements = ap (elements t) (part-drop p l) ∙ behind t Q ends (drop p (rows w))
+
+    pub part-missing : elements t (drop p (rows w)) ≡ [] → elements t (drop (from + p) R) ≡ []
+    part-missing e = part-elements ∙ ap (map (λ (P : List Row). P ++ Q)) e
+
+  pub part-stands : (t : Part) → Ends t Q → (p : ℕ) {q : ℕ} → Stands t (rows w) p q → Stands t R (from + p) (from + q)
+  part-stands t ends p {q} st =
+      let below : q < length (rows w) = st .below in
+      let l : p ≤ length (rows w) = omega (arith, st .from) in
+      let n : from + suc q ≡ suc (from + q) = omega arith in
+      let here : drop (from + q) R ≡ drop q (rows w) ++ Q = part-drop q (omega arith) in
+      let after : elements t (drop (suc (from + q)) R) ≡ map (λ (P : List Row). P ++ Q) (elements t (drop (suc q) (rows w))) = ap (λ (k : ℕ). elements t (drop k R)) (sym n) ∙ part-elements t ends (suc q) (omega arith) in
+      record {
+        from = omega (arith, st .from);
+        below = omega (arith, part-long, upto);
+        kind = ap (λ (r : Row). r .kind) (sym (front-drop R (from + q)) ∙ ap front (here ∙ ap (λ (P : List Row). P ++ Q) (drop-cons (rows w) q blank below))) ∙ st .kind;
+        here = part-elements t ends p l ∙ ap (map (λ (P : List Row). P ++ Q)) (st .here) ∙ ap₂ _∷_ (sym here) (sym after);
+      }
+
+  part-proto : protoOf (rows w) ≡ protoOf (drop from R)
+  part-proto = ap protoOf is-part ∙ cut-rows R from (x .to) h (x .end .after) (x .end .cut)
+
+  -- its body is the prototype's
+  pub part-body : statementsOf (rest (rows w)) ≡ statementsOf (rest (drop from R))
+  unfolding protoOf
+  part-body = ap (λ (d : ProtoDecl). d .body) part-proto
+
 -- the rows from a prototype's row up to its end say it
-pub handed : (s : List ℕ) (P : Option ProtoDecl) {x : Found} (q to : ℕ) → x ≡ At q → Located protoOf P (rows s) x → ProtoEnd (rows s) (q + 1) to → HandedBack P s (partOf s q to)
-handed s P q to e l z =
+pub handed : (s : List ℕ) (P : Option ProtoDecl) {x : Found} {w : List ℕ} {q : ℕ} → x ≡ At q → Located protoOf P (rows s) x → ProtoPart s q w → HandedBack P s w
+handed s P {w = w} {q} e l z =
     let below : q < length (rows s) = subst (Below (rows s)) e (l .below) in
-    let within : to ≤ length s / 8 = omega (arith, z .within (omega arith), rows-count s) in
     let p : P ≡ some (protoOf (drop q (rows s))) = l .is ∙ ap (λ (y : Found). mapO protoOf (rowsAt (rows s) y)) e in
-    record { from = q; to = to; part = refl; says = subst (λ (o : Option ProtoDecl). Says o (partOf s q to)) (sym p) (ap protoOf (rows-part s q to (omega (arith, z .after)) within) ∙ cut-rows (rows s) q to below (z .after) (z .cut)) }
+    record { from = q; to = z .to; part = z .part; says = subst (λ (o : Option ProtoDecl). Says o w) (sym p) (part-proto below z) }
 
 -- where there is no such prototype, no rows
 pub handed-none : (s : List ℕ) (P : Option ProtoDecl) {x : Found} → x ≡ Nothing → Located protoOf P (rows s) x → HandedBack P s (partOf s 0 0)

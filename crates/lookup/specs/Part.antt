@@ -2,7 +2,7 @@
 use mathlib.Core.Path.{_≡_}
 use mathlib.Core.List.{List, []}
 use mathlib.Core.Option.{Option, none, some}
-use Prim.Native.Nat.{ℕ, _-_, _*_, _/_, _≤_}
+use Prim.Native.Nat.{ℕ, _+_, _-_, _*_, _/_, _≤_}
 use lib.ListN.{length, take, drop}
 use lib.Dec.{leb}
 use Rattle.ast.specs.Ast.{ProtoDecl}
@@ -33,6 +33,12 @@ pub record ProtoEnd (R : List Row) (from to : ℕ) : Type 0 where
   pub after : from ≤ to
   pub within : from ≤ length R → to ≤ length R
   pub cut : Cut (drop to R)
+
+-- w has the rows of a sheet from a prototype's up to its end
+pub record ProtoPart (sheet : List ℕ) (from : ℕ) (w : List ℕ) : Type 0 where
+  pub to : ℕ
+  pub part : w ≡ partOf sheet from to
+  pub end : ProtoEnd (rows sheet) (from + 1) to
 
 -- words that say a prototype: read by themselves they are it; of no prototype there are none
 abbrev pub Says : Option ProtoDecl → List ℕ → Type 0

@@ -6,10 +6,12 @@ use sheet::part::Part;
 use sheet::row;
 use walks::walk::Found;
 ghost use mathlib.Core.Path.{_≡_};
+ghost use Prim.Native.Nat.{_<_};
+ghost use lib.ListN.{length};
 ghost use Rattle.ast.specs.Lookups.{protoAt};
 ghost use Rattle.sheet.specs.Rows.{rows};
 ghost use Rattle.lookup.specs.Lookup.{sheetOf, documentsOf};
-ghost use Rattle.lookup.specs.Part.{partOf, ProtoEnd, HandedBack};
+ghost use Rattle.lookup.specs.Part.{partOf, ProtoEnd, ProtoPart, HandedBack};
 
 // The sheet that a document number selects: 0 the root, any other the library.
 pub fn select<'a>(root: &'a [u32], library: &'a [u32], doc: u32) -> &'a [u32]
@@ -66,6 +68,15 @@ fn proto_end(sheet: &[u32], from: usize) -> usize
     at
 }
 
+// The rows of the prototype that stands at a row.
+pub fn proto_at<'a>(root: &'a [u32], library: &'a [u32], doc: u32, from: usize) -> &'a [u32]
+    requires { ⌜ from < length (rows (sheetOf (now root) (now library) doc)) ⌝ }
+    ensures { λ r. ⌜ ProtoPart (sheetOf (now (root .entry)) (now (library .entry)) doc) from (now r) ⌝ }
+{
+    let to = proto_end(select(root, library, doc), from + 1);
+    rows_of(root, library, doc, from, to)
+}
+
 // A prototype's rows, handed back as a part of the root sheet or of the library; none where there is no such prototype.
 pub fn proto_rows<'a>(root: &'a [u32], library: &'a [u32], doc: u32, id: ProtoId) -> &'a [u32]
     ensures { λ r. ⌜ HandedBack (protoAt (documentsOf (now (root .entry)) (now (library .entry))) doc (id .0)) (sheetOf (now (root .entry)) (now (library .entry)) doc) (now r) ⌝ }
@@ -73,6 +84,5 @@ pub fn proto_rows<'a>(root: &'a [u32], library: &'a [u32], doc: u32, id: ProtoId
     let Found::At(from) = document::proto(root, library, doc, id) else {
         return rows_of(root, library, doc, 0, 0);
     };
-    let to = proto_end(select(root, library, doc), from + 1);
-    rows_of(root, library, doc, from, to)
+    proto_at(root, library, doc, from)
 }

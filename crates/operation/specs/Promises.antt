@@ -105,6 +105,7 @@ pub record Accepted (c : Call) (r : After) : Type 0 where
   -- "The ledger has, for each of these scopes and each plain node reached in it, exactly one entry with that scope, document and source id, and no other entry.": ledgerOnce, ledger, ledgerSize. Entry k is node k's: ledgerOrder, typeNames.
   -- "And only a loop doubles a pod: whenever no instance reached in any of these scopes reaches itself, the body scopes opened = the sum, over all these scopes, of the instances reached in each.": pods.
   -- Document 02, wish 6, "The double-count guarantee covers the new default scopes as well.": defaultCount.
+  -- Document 01, Charges: the charges told are the items of its list, no more and no fewer: charges.
   pub expanded : Expanded (input c) (said r)
   -- "The output is exactly what document 01's steps give"
   pub steps : expand (input c) ≡ Answer.Expanded (said r)

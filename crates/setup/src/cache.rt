@@ -39,7 +39,8 @@ pub fn remember<'a>(root: &'a [u32], library: &'a [u32], dir: &mut [u32], work: 
     let mut at = wide(dir[196]) + 2 * wide(i);
     let mut memo = memo::fresh(&mut work[..from]);
     while at + 2 <= end {
-        let Found::At(row) = instance::root_extern(root, library, dir, work, ExternProtoId(i)) else {
+        let Found::At(row) = instance::root_extern(root, library, dir, work, ExternProtoId(i))
+        else {
             return;
         };
         let aimed = instance::pick_row(root, row, library, dir, table, memo, &mut work[..from]);

@@ -1,5 +1,6 @@
 -- What a walk over a part of a sheet finds.
 use mathlib.Core.Path.{_≡_}
+use mathlib.Core.Bool.{Bool, true, false}
 use mathlib.Core.List.{List, [], _∷_}
 use mathlib.Core.Option.{Option, none, some}
 use Prim.Native.Nat.{ℕ, suc, _+_, _≤_, _<_}
@@ -28,6 +29,11 @@ pub record Bare (R : List Row) (p : ℕ) : Type 0 where
   pub interface : elements Interfaces (drop p R) ≡ []
   pub statements : elements Statements (drop p R) ≡ []
   pub bodyOrder : elements BodyOrder (drop p R) ≡ []
+
+-- b says whether it is so
+pub record Bared (R : List Row) (p : ℕ) (b : Bool) : Type 0 where
+  pub yes : b ≡ true → Bare R p
+  pub no : b ≡ false → Bare R p → ⊥
 
 -- the rows from a found place on
 abbrev pub rowsAt : List Row → Found → Option (List Row)

@@ -2,10 +2,8 @@
 use sheet::part;
 use sheet::part::Part;
 use sheet::row;
-ghost use mathlib.Core.Path.{_≡_};
-ghost use mathlib.Core.Bool.{true};
 ghost use Rattle.sheet.specs.Rows.{rows};
-ghost use Rattle.walks.specs.Walk.{Sought, Bare, Nth, Child};
+ghost use Rattle.walks.specs.Walk.{Sought, Bared, Nth, Child};
 
 pub enum Found {
     At(usize),
@@ -32,9 +30,10 @@ pub fn seek(sheet: &[u32], part: Part, from: usize) -> Found
     Found::Nothing
 }
 
-// Whether a node has fields only, from the row after its own on.
+// Whether a node has no interfaces, no statements and no body order, from the row after its own on. An instance is not
+// looked at.
 pub fn bare(sheet: &[u32], from: usize) -> bool
-    ensures { λ b. ⌜ (b ≡ true → Bare (rows (now (sheet .entry))) from) ⌝ }
+    ensures { λ b. ⌜ Bared (rows (now (sheet .entry))) from b ⌝ }
 {
     let count = sheet.len() / 8;
     let mut at = from;

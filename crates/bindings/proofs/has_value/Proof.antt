@@ -21,10 +21,10 @@ enum-told-2 : tie.Need-enum-told-2
 enum-told-2 c = search needs
 
 returns-2 : tie.Need-returns-2
-returns-2 c = has-without _ _ _ _ _ (c .before .before .before .before .before .before .pre .0) (c .before .before .before .before .before .before .pre .1) (c .before .before .before .if1 .left) _ (c .before .before .value-of .ensures) (c .enum-told2 .given .1)
+returns-2 c = has-at _ _ _ _ _ (c .before .before .before .before .before .before .pre .0) (c .before .before .before .before .before .before .pre .1) (c .before .before .before .if1 .left) _ (c .before .before .value-of .ensures) _ (c .enum-told .given .1)
 
 returns-3 : tie.Need-returns-3
-returns-3 c = has-at _ _ _ _ _ (c .before .before .before .before .before .before .pre .0) (c .before .before .before .before .before .before .pre .1) (c .before .before .before .if1 .left) _ (c .before .before .value-of .ensures) _ (c .enum-told .given .1)
+returns-3 c = has-without _ _ _ _ _ (c .before .before .before .before .before .before .pre .0) (c .before .before .before .before .before .before .pre .1) (c .before .before .before .if1 .left) _ (c .before .before .value-of .ensures) (c .enum-told2 .given .1)
 
 pub has-value-spec : {M : Type 1} → statement M
 has-value-spec = tie.close (tie.spec returns value-of-requires enum-told enum-told-2 returns-2 returns-3)

@@ -28,11 +28,11 @@ slice-aggregate-write-all c = let h = bytes-fit _ _ _ _ (rw (c .before .before .
 write-all-requires : tie.Need-write-all-requires
 write-all-requires c κs = search needs
 
-enum-told : tie.Need-enum-told
-enum-told c = search needs
-
 returns : tie.Need-returns
 returns c = search needs
+
+enum-told : tie.Need-enum-told
+enum-told c = search needs
 
 returns-2 : tie.Need-returns-2
 returns-2 c = search needs
@@ -47,6 +47,6 @@ print-spec =
     array-share-prefix-text
     slice-aggregate-write-all
     write-all-requires
-    enum-told
     returns
+    enum-told
     returns-2)

@@ -9,6 +9,7 @@ use Rattle.expand.proofs.input.read.Reads as read-reads
 use Rattle.expand.proofs.scene.expand.Reads as expand-reads
 use lib.ListN.{length-take}
 use Rattle.expand.proofs.InputLaws.{bytes-within}
+use Rattle.expand.proofs.AnswerLaws.{few-refused}
 use native.Mathlib.Omega.{arith}
 
 read-requires : tie.Need-read-requires
@@ -45,19 +46,19 @@ same-length-2 : tie.Need-same-length-2
 same-length-2 c = search needs
 
 returns : tie.Need-returns
-returns c = search needs
+returns c = c .before .before .expand .ensures .1 .1
 
 same-length-3 : tie.Need-same-length-3
 same-length-3 c = search needs
 
 returns-2 : tie.Need-returns-2
-returns-2 c = search needs
+returns-2 c = few-refused _ (c .refused .ensures)
 
 same-length-4 : tie.Need-same-length-4
 same-length-4 c = search needs
 
 returns-3 : tie.Need-returns-3
-returns-3 c = search needs
+returns-3 c = few-refused _ (c .refused2 .ensures)
 
 pub respond-spec : {M : Type 1} → statement M
 respond-spec =

@@ -64,6 +64,7 @@ use Rattle.expander.proofs.next.Reads as next-reads
 use Rattle.expander.proofs.origin.Reads as origin-reads
 use Rattle.expander.proofs.row_of.Reads as row-of-reads
 use Rattle.journal.proofs.word.Reads as word-reads
+use Rattle.lookup.proofs.rows.proto_at.Reads as proto-at-reads
 use Rattle.parts.proofs.extern_proto.Reads as extern-proto-reads
 use Rattle.parts.proofs.order.Reads as order-reads
 use Rattle.parts.proofs.statements.Reads as statements-reads
@@ -75,26 +76,28 @@ use Rattle.refine.proofs.open.Reads as open-reads
 use Rattle.refine.proofs.own.Reads as own-reads
 use Rattle.refine.proofs.reserve.Reads as reserve-reads
 use Rattle.refine.proofs.store.Reads as store-reads
+use Rattle.sheet.proofs.row.row_at.Reads as row-at-reads
 use Rattle.source.proofs.last_field.Reads as last-field-reads
 use Rattle.source.proofs.node.Reads as node-reads
 use Rattle.source.proofs.proto.Reads as proto-reads
 use Rattle.source.proofs.target.Reads as target-reads
+use Rattle.walks.proofs.walk.seek.Reads as seek-reads
 use Rattle.words.proofs.wide.Reads as wide-reads
 use Rattle.expander.proofs.+body+copy+field+fields+given+instantiate+interface+interfaces+plain+statement+value+values.{statement}
 use Rattle.expander.proofs.+body+copy+field+fields+given+instantiate+interface+interfaces+plain+statement+value+values.Tie.{close}
 use Rattle.expander.proofs.+body+copy+field+fields+given+instantiate+interface+interfaces+plain+statement+value+values.Proof.Setup.{μ-body, μ-copy, μ-field, μ-fields, μ-given, μ-instantiate, μ-interface, μ-interfaces, μ-plain, μ-statement, μ-value, μ-values, body-at, body-below, copy-at, copy-below, field-at, field-below, fields-at, fields-below, given-at, given-below, instantiate-at, instantiate-below, interface-at, interface-below, interfaces-at, interfaces-below, plain-at, plain-below, statement-at, statement-below, value-at, value-below, values-at, values-below, body-cs, copy-cs, field-cs, fields-cs, given-cs, instantiate-cs, interface-cs, interfaces-cs, plain-cs, statement-cs, value-cs, values-cs}
-use Rattle.expander.proofs.+body+copy+field+fields+given+instantiate+interface+interfaces+plain+statement+value+values.Proof.Body.{body-Inv-loop, body-μ-loop, body-add-at, body-loop-holds, body-next-requires, body-enum-known-q, body-enum-told, body-same-length, body-returns, body-add-at-2, body-statement-requires, body-enum-known-a, body-enum-told-2, body-same-length-2, body-returns-2, body-loop-less, body-loop-again}
+use Rattle.expander.proofs.+body+copy+field+fields+given+instantiate+interface+interfaces+plain+statement+value+values.Proof.Body.{body-Inv-loop, body-μ-loop, body-loop-holds, body-seek-requires, body-enum-known-q, body-enum-told, body-same-length, body-returns, body-add-at, body-statement-requires, body-enum-known-a, body-enum-told-2, body-same-length-2, body-returns-2, body-loop-less, body-loop-again}
 use Rattle.expander.proofs.+body+copy+field+fields+given+instantiate+interface+interfaces+plain+statement+value+values.Proof.Copy.{copy-look-requires, copy-enum-known-r, copy-word-requires, copy-word-requires-2, copy-same-length, copy-returns, copy-enum-told, copy-node-requires, copy-enum-known-row, copy-enum-told-2, copy-number-requires, copy-same-length-2, copy-returns-2, copy-same-length-3, copy-returns-3, copy-row-of-requires, copy-target-requires, copy-enum-known-x, copy-enum-told-3, copy-sub-plain, copy-plain-requires, copy-same-length-4, copy-returns-4, copy-sub-instantiate, copy-instantiate-requires, copy-same-length-5, copy-returns-5}
 use Rattle.expander.proofs.+body+copy+field+fields+given+instantiate+interface+interfaces+plain+statement+value+values.Proof.Field.{field-row-of-requires, field-is-field-requires, field-same-length, field-returns, field-add-field-requires, field-same-length-2, field-returns-2, field-add-next, field-next-requires, field-enum-told, field-enum-told-2, field-add-field-requires-2, field-same-length-3, field-returns-3, field-value-requires, field-enum-known-a, field-enum-told-3, field-same-length-4, field-returns-4, field-add-field-requires-3, field-same-length-5, field-returns-5}
 use Rattle.expander.proofs.+body+copy+field+fields+given+instantiate+interface+interfaces+plain+statement+value+values.Proof.Fields.{fields-Inv-loop, fields-μ-loop, fields-add-at, fields-loop-holds, fields-next-requires, fields-enum-known-q, fields-enum-told, fields-same-length, fields-returns, fields-add-at-2, fields-field-requires, fields-enum-known-a, fields-enum-told-2, fields-same-length-2, fields-returns-2, fields-loop-less, fields-loop-again}
 use Rattle.expander.proofs.+body+copy+field+fields+given+instantiate+interface+interfaces+plain+statement+value+values.Proof.Given.{given-row-of-requires, given-last-field-requires, given-enum-known-f, given-row-of-requires-2, given-value-requires, given-enum-known-a, given-enum-told, given-same-length, given-returns, given-store-requires, given-same-length-2, given-returns-2, given-has-value-requires, given-is-given-requires, given-same-length-3, given-returns-3, given-enum-told-2, given-same-length-4, given-returns-4, given-number-requires, given-open-requires, given-enum-known-a-2, given-enum-told-3, given-same-length-5, given-returns-5, given-wide-requires, given-value-requires-2, given-enum-known-b, given-enum-told-4, given-same-length-6, given-returns-6, given-store-requires-2, given-same-length-7, given-returns-7}
-use Rattle.expander.proofs.+body+copy+field+fields+given+instantiate+interface+interfaces+plain+statement+value+values.Proof.Instantiate.{instantiate-number-requires, instantiate-proto-requires, instantiate-enum-known-decl, instantiate-enum-told, instantiate-same-length, instantiate-returns, instantiate-values-requires, instantiate-enum-known-a, instantiate-enum-told-2, instantiate-same-length-2, instantiate-returns-2, instantiate-open-requires, instantiate-enum-known-a-2, instantiate-enum-told-3, instantiate-same-length-3, instantiate-returns-3, instantiate-wide-requires, instantiate-body-requires, instantiate-enum-known-a-3, instantiate-enum-told-4, instantiate-same-length-4, instantiate-returns-4, instantiate-same-length-5, instantiate-returns-5, instantiate-row-of-requires, instantiate-row-of-requires-2, instantiate-record-instance-requires, instantiate-same-length-6, instantiate-returns-6}
+use Rattle.expander.proofs.+body+copy+field+fields+given+instantiate+interface+interfaces+plain+statement+value+values.Proof.Instantiate.{instantiate-number-requires, instantiate-proto-requires, instantiate-enum-known-decl, instantiate-enum-told, instantiate-same-length, instantiate-returns, instantiate-proto-at-requires, instantiate-values-requires, instantiate-enum-known-a, instantiate-enum-told-2, instantiate-same-length-2, instantiate-returns-2, instantiate-open-requires, instantiate-enum-known-a-2, instantiate-enum-told-3, instantiate-same-length-3, instantiate-returns-3, instantiate-wide-requires, instantiate-body-requires, instantiate-enum-known-a-3, instantiate-enum-told-4, instantiate-same-length-4, instantiate-returns-4, instantiate-same-length-5, instantiate-returns-5, instantiate-row-of-requires, instantiate-row-of-requires-2, instantiate-record-instance-requires, instantiate-same-length-6, instantiate-returns-6}
 use Rattle.expander.proofs.+body+copy+field+fields+given+instantiate+interface+interfaces+plain+statement+value+values.Proof.Interface.{interface-row-of-requires, interface-is-interface-requires, interface-same-length, interface-returns, interface-value-requires, interface-enum-known-a, interface-enum-told, interface-same-length-2, interface-returns-2, interface-keep-requires, interface-same-length-3, interface-returns-3}
 use Rattle.expander.proofs.+body+copy+field+fields+given+instantiate+interface+interfaces+plain+statement+value+values.Proof.Interfaces.{interfaces-Inv-loop, interfaces-μ-loop, interfaces-add-at, interfaces-loop-holds, interfaces-next-requires, interfaces-enum-known-q, interfaces-enum-told, interfaces-same-length, interfaces-returns, interfaces-add-at-2, interfaces-interface-requires, interfaces-enum-known-a, interfaces-enum-told-2, interfaces-same-length-2, interfaces-returns-2, interfaces-loop-less, interfaces-loop-again}
 use Rattle.expander.proofs.+body+copy+field+fields+given+instantiate+interface+interfaces+plain+statement+value+values.Proof.Plain.{plain-reserve-requires, plain-enum-known-a, plain-enum-told, plain-same-length, plain-returns, plain-origin-requires, plain-enum-known-a-2, plain-enum-told-2, plain-same-length-2, plain-returns-2, plain-fields-requires, plain-enum-known-a-3, plain-enum-told-3, plain-same-length-3, plain-returns-3, plain-row-of-requires, plain-add-bare, plain-bare-requires, plain-fill-requires, plain-same-length-4, plain-returns-4, plain-interfaces-requires, plain-enum-known-a-4, plain-enum-told-4, plain-same-length-5, plain-returns-5, plain-statements-requires, plain-enum-known-a-5, plain-enum-told-5, plain-same-length-6, plain-returns-6, plain-order-requires, plain-enum-known-a-6, plain-enum-told-6, plain-same-length-7, plain-returns-7, plain-fill-requires-2, plain-same-length-8, plain-returns-8}
-use Rattle.expander.proofs.+body+copy+field+fields+given+instantiate+interface+interfaces+plain+statement+value+values.Proof.Statement.{statement-row-of-requires, statement-copy-requires, statement-enum-known-a, statement-enum-told, statement-same-length, statement-returns, statement-map-requires, statement-same-length-2, statement-returns-2, statement-own-requires, statement-kept-requires, statement-same-length-3, statement-returns-3, statement-extern-proto-requires, statement-kept-requires-2, statement-same-length-4, statement-returns-4, statement-own-requires-2, statement-kept-requires-3, statement-same-length-5, statement-returns-5, statement-returns-6}
+use Rattle.expander.proofs.+body+copy+field+fields+given+instantiate+interface+interfaces+plain+statement+value+values.Proof.Statement.{statement-row-at-requires, statement-copy-requires, statement-enum-known-a, statement-enum-told, statement-same-length, statement-returns, statement-map-requires, statement-same-length-2, statement-returns-2, statement-own-requires, statement-kept-requires, statement-same-length-3, statement-returns-3, statement-extern-proto-requires, statement-kept-requires-2, statement-same-length-4, statement-returns-4, statement-own-requires-2, statement-kept-requires-3, statement-same-length-5, statement-returns-5, statement-returns-6}
 use Rattle.expander.proofs.+body+copy+field+fields+given+instantiate+interface+interfaces+plain+statement+value+values.Proof.Value.{value-Inv-loop, value-μ-loop, value-row-of-requires, value-returns, value-add-at, value-loop-holds, value-next-requires, value-enum-known-q, value-enum-told, value-same-length, value-returns-2, value-add-at-2, value-row-of-requires-2, value-copy-requires, value-enum-known-a, value-enum-told-2, value-same-length-2, value-returns-3, value-keep-requires, value-enum-known-b, value-enum-told-3, value-same-length-3, value-returns-4, value-loop-less, value-loop-again}
-use Rattle.expander.proofs.+body+copy+field+fields+given+instantiate+interface+interfaces+plain+statement+value+values.Proof.Values.{values-Inv-loop, values-μ-loop, values-add-at, values-loop-holds, values-next-requires, values-enum-known-q, values-enum-told, values-same-length, values-returns, values-add-at-2, values-given-requires, values-enum-known-a, values-enum-told-2, values-same-length-2, values-returns-2, values-add-k, values-loop-less, values-loop-again}
+use Rattle.expander.proofs.+body+copy+field+fields+given+instantiate+interface+interfaces+plain+statement+value+values.Proof.Values.{values-Inv-loop, values-μ-loop, values-loop-holds, values-seek-requires, values-enum-known-q, values-enum-told, values-same-length, values-returns, values-add-at, values-add-given, values-given-requires, values-enum-known-a, values-enum-told-2, values-same-length-2, values-returns-2, values-add-k, values-loop-less, values-loop-again}
 
 pub +body+copy+field+fields+given+instantiate+interface+interfaces+plain+statement+value+values-spec : {M : Type 1} → statement M
 +body+copy+field+fields+given+instantiate+interface+interfaces+plain+statement+value+values-spec =
@@ -115,14 +118,13 @@ pub +body+copy+field+fields+given+instantiate+interface+interfaces+plain+stateme
     body.Post
     body-Inv-loop
     body-μ-loop
-    (body-add-at t)
     (body-loop-holds t)
-    (body-next-requires t)
+    (body-seek-requires t)
     (body-enum-known-q t)
     (body-enum-told t)
     (body-same-length t)
     (body-returns t)
-    (body-add-at-2 t)
+    (body-add-at t)
     (body-statement-requires t)
     (body-enum-known-a t)
     (body-enum-told-2 t)
@@ -246,6 +248,7 @@ pub +body+copy+field+fields+given+instantiate+interface+interfaces+plain+stateme
     (instantiate-enum-told t)
     (instantiate-same-length t)
     (instantiate-returns t)
+    (instantiate-proto-at-requires t)
     (instantiate-values-requires t)
     (instantiate-enum-known-a t)
     (instantiate-enum-told-2 t)
@@ -345,7 +348,7 @@ pub +body+copy+field+fields+given+instantiate+interface+interfaces+plain+stateme
     (plain-returns-8 t))
     (λ t. statement-lts.spec (statement-cs t) (statement-at t)
     statement′.Post
-    (statement-row-of-requires t)
+    (statement-row-at-requires t)
     (statement-copy-requires t)
     (statement-enum-known-a t)
     (statement-enum-told t)
@@ -398,14 +401,14 @@ pub +body+copy+field+fields+given+instantiate+interface+interfaces+plain+stateme
     values.Post
     values-Inv-loop
     values-μ-loop
-    (values-add-at t)
     (values-loop-holds t)
-    (values-next-requires t)
+    (values-seek-requires t)
     (values-enum-known-q t)
     (values-enum-told t)
     (values-same-length t)
     (values-returns t)
-    (values-add-at-2 t)
+    (values-add-at t)
+    (values-add-given t)
     (values-given-requires t)
     (values-enum-known-a t)
     (values-enum-told-2 t)

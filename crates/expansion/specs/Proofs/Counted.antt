@@ -18,7 +18,7 @@ use Rattle.steps.specs.Steps
 use Rattle.expansion.specs.Input.{Input, docs, protoOf, lastField}
 use Rattle.expansion.specs.Scopes.{Scope}
 use Rattle.expansion.specs.Ids.{dataIds, optionIds, bindingIds, statementIds}
-use Rattle.expansion.specs.State.{World, State, Result, refusal, ok, Comp, bindR, _>>=_, _>>_, ret, mapM, foldM, lookup, start, withWorld, withNodes}
+use Rattle.expansion.specs.State.{World, State, Result, Comp, bindR, _>>=_, _>>_, ret, mapM, foldM, lookup, start, withWorld, withNodes}
 use Rattle.expansion.specs.Charges.{oneMore, chargeIf, charge, chargeEach, paid}
 use Rattle.expansion.specs.Values.{Values, valueOf, Env, src, Copier, copyData, value, clone}
 use Rattle.expansion.specs.Externs.{lookupExtern, noValue, pushExtern, declare, externProto}
@@ -27,7 +27,7 @@ use Rattle.expansion.specs.Instances.{pushScope, openScope, takeDefault,
 use Rattle.expansion.specs.Copy.{copyNode, mappedOr, copy}
 use Rattle.expansion.specs.Expand.{statement, rootEnv, statements, output}
 use Rattle.expansion.specs.Reached.{Known, bodyIds, defaultIds, declOf, interfaceIds, plainNexts, gives, isSome, nameIfValued, bodyNames, bodyScope, defaultScope, kindBy, kindOf, defaultAction, valueActions, interfaceActions, instanceActions, actionsBy, actionsOf, nodeIn, graph}
-use Rattle.expansion.specs.Outputs.{sumOf, fieldRows, interfaceRows, externRows}
+use Rattle.expansion.specs.Outputs.{sumOf, interfaceRows, externRows}
 use Rattle.expansion.specs.Counted.{ofNode, ofOutput, allButOne, routesIn, bodyRoutes, ofScope, isIn, isSet, associationsIn, valueFor, storedIf, storedFrom, storedBy, bodyValues, ofValue, ofRun}
 use Rattle.expansion.specs.Proofs.Outcome.{Outcome, refused, accepted, Any, bindOut, mapOut, both}
 use Rattle.expansion.specs.Proofs.Names.{Shows, known, none-shown, values-shown, anything}
@@ -421,8 +421,11 @@ module _ (I : Input) where
         go : (o : Option ℕ) (decl : Option ExternProtoDecl) → P vs n e [] x (declare I (src env) y o decl) (λ o. x)
         go (some o) decl = pays-ret o refl
         go none none = λ w w′ k cs st s. refused tt
-        go none (some decl) = pays-after (charge-pays x) (λ u. pays-after (chargeEach-pays (suc x) (decl .interface)) (λ u2. pays-after (chargeEach-pays (length (decl .interface) + suc x) (decl .urls)) (λ u3. leave (λ s. accepted (refl, spent-still s (pushExtern (src env) y decl s) refl
-            (omega (arith, sum-append externRows (s .externProtos) (record { name = decl .name; interface = map noValue (decl .interface); urls = decl .urls } ∷ []), valueless-rows (decl .interface))))))))
+        go none (some decl) = pays-after (charge-pays x) (λ u. pays-after (chargeEach-pays (suc x) (decl .interface)) (λ u2. pays-after (chargeEach-pays (length (decl .interface) + suc x) (decl .urls)) (λ u3. leave (λ s. accepted (
+          refl,
+          spent-still s (pushExtern (src env) y decl s) refl
+              (omega (arith, sum-append externRows (s .externProtos) (record { name = decl .name; interface = map noValue (decl .interface); urls = decl .urls } ∷ []), valueless-rows (decl .interface))),
+        )))))
 
     copyOrigin-pays : (x : ℕ) (env : Env) (o : NodeOrigin) → P vs n e [] x (copyOrigin I env o) (λ o′. x)
     unfolding copyOrigin

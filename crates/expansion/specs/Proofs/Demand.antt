@@ -311,10 +311,10 @@ demand-3 I e = go (statements I start) refl
 
 -- A refusal has its reason: of a 10, that more rows are needed.
 because-of : (I : Input) {c d i : ℕ} → expand I ≡ Answer.Refused c d i → Halt I c d i → Refusal I c d i
-because-of I e noRow = tooFew (rows-needed I .0) (rows-needed I .1) (decLt (I .limits .maxRows) (rows-needed I .0))
+because-of I e (noRow p) = tooFew (rows-needed I .0) (rows-needed I .1) (decLt (I .limits .maxRows) (rows-needed I .0))
   where
     tooFew : (need : ℕ) → Needs I need → Dec (I .limits .maxRows < need) → Refusal I 10 0 0
-    tooFew need h (yes l) = tooMany need h l
+    tooFew need h (yes l) = tooMany p need h l
     tooFew need h (no l) = absurd (h .other 0 0 (sym (h .enough (I .limits .maxRows) (omega arith)) ∙ e))
 because-of I e (because r) = r
 
@@ -342,7 +342,7 @@ numbered (atNode m l (fourBody p h decl r v w x o q)) = omega arith
 numbered (atNode m l (six p h q)) = omega arith
 numbered (atNode m l (seven p h decl r v w q)) = omega arith
 numbered (atNode m l (eight node p q)) = omega arith
-numbered (tooMany need h l) = omega arith
+numbered (tooMany p need h l) = omega arith
 
 -- ---- the other way round
 
@@ -361,7 +361,7 @@ faultless I e q c d i r = go (statements I start) refl q
     at l st h (atNode m k (six p y z)) = let x = rooted I l st h m p y in no-start (sym (ap bodyIds z) ∙ x .2)
     at l st h (atNode m k (seven p y decl r v w z)) = let x = rooted I l st h m p y in z (x .0) (first-node (decl .body) (x .0) (x .1) (sym (ap bodyIds r) ∙ x .2))
     at l st h (atNode m k (eight node p z)) = omega (arith, had-room I l st h m node p)
-    at l st h (tooMany need z k) = refused-not-expanded (sym (z .short (I .limits .maxRows) k) ∙ q)
+    at l st h (tooMany p need z k) = refused-not-expanded (sym (z .short (I .limits .maxRows) k) ∙ q)
 
     go : (z : Result (List Statement)) → statements I start ≡ z → answer I z ≡ Answer.Expanded e → ⊥
     go (refusal c d i) h k = refused-not-expanded k
@@ -380,7 +380,7 @@ refused-4 (atNode m l (fourBody p h decl r v w x o e)) q = e
 refused-4 (atNode m l (six p h e)) q = absurd (omega arith)
 refused-4 (atNode m l (seven p h decl r v w e)) q = absurd (omega arith)
 refused-4 (atNode m l (eight node p e)) q = absurd (omega arith)
-refused-4 (tooMany need h l) q = absurd (omega arith)
+refused-4 (tooMany p need h l) q = absurd (omega arith)
 
 -- 5: there is no such node.
 pub refused-5 : {I : Input} {c d i : ℕ} → Refusal I c d i → c ≡ 5 → nodeAt (docs I) d i ≡ none
@@ -393,7 +393,7 @@ refused-5 (atNode m l (fourBody p h decl r v w x o e)) q = absurd (omega arith)
 refused-5 (atNode m l (six p h e)) q = absurd (omega arith)
 refused-5 (atNode m l (seven p h decl r v w e)) q = absurd (omega arith)
 refused-5 (atNode m l (eight node p e)) q = absurd (omega arith)
-refused-5 (tooMany need h l) q = absurd (omega arith)
+refused-5 (tooMany p need h l) q = absurd (omega arith)
 
 -- 6: there is no such PROTO.
 pub refused-6 : {I : Input} {c d i : ℕ} → Refusal I c d i → c ≡ 6 → protoAt (docs I) d i ≡ none
@@ -406,7 +406,7 @@ refused-6 (atNode m l (fourBody p h decl r v w x o e)) q = absurd (omega arith)
 refused-6 (atNode m l (six p h e)) q = e
 refused-6 (atNode m l (seven p h decl r v w e)) q = absurd (omega arith)
 refused-6 (atNode m l (eight node p e)) q = absurd (omega arith)
-refused-6 (tooMany need h l) q = absurd (omega arith)
+refused-6 (tooMany p need h l) q = absurd (omega arith)
 
 -- 7: that PROTO's body has no Node statement.
 pub refused-7 : {I : Input} {c d i : ℕ} → Refusal I c d i → c ≡ 7 → (decl : ProtoDecl) × (protoAt (docs I) d i ≡ some decl) × ((j : ℕ) → List·Memᴰ (Statement.Node j) (decl .body) → ⊥)
@@ -419,4 +419,4 @@ refused-7 (atNode m l (fourBody p h decl r v w x o e)) q = absurd (omega arith)
 refused-7 (atNode m l (six p h e)) q = absurd (omega arith)
 refused-7 (atNode m l (seven p h decl r v w e)) q = (decl, r, e)
 refused-7 (atNode m l (eight node p e)) q = absurd (omega arith)
-refused-7 (tooMany need h l) q = absurd (omega arith)
+refused-7 (tooMany p need h l) q = absurd (omega arith)

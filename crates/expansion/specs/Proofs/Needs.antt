@@ -14,6 +14,7 @@ use Rattle.ast.specs.Ast.{NodeOrigin, FieldData, FieldValue, FieldBinding, Fiel
 use Rattle.ast.specs.Choice.{andThen}
 use Rattle.ast.specs.Lookups.{nodeAt, protoAt, externProtoAt}
 use Rattle.picks.specs.Picks.{Pick}
+use Rattle.steps.specs.Steps.{World, WholeRun}
 use Rattle.expansion.specs.Input.{Input, docs, pickOf, protoOf, lastField}
 use Rattle.expansion.specs.Scopes.{Scope}
 use Rattle.expansion.specs.Ids.{dataIds}
@@ -25,7 +26,11 @@ use Rattle.expansion.specs.PlainCopy.{reserveIf, reserve, copyOrigin, as
 use Rattle.expansion.specs.Instances.{pushScope, openScope, takeDefault, cloneOr, interfaceValue, store, values, Body, place, bodyStatement, rootOf, recordInstance, instantiate}
 use Rattle.expansion.specs.Copy.{copyNode, mappedOr, copy}
 use Rattle.expansion.specs.Expand.{statement, rootEnv, statements, Expansion, Answer, expansion, answer, expand}
+use Rattle.expansion.specs.Reached.{Known, graph}
+use Rattle.expansion.specs.Counted.{counted}
 use Rattle.expansion.specs.Expanded.{withRows, Needs}
+use Rattle.expansion.specs.Proofs.Outcome.{atOk}
+use Rattle.expansion.specs.Proofs.Counted.{charges-counted}
 
 -- ---- a result for each limit
 
@@ -364,6 +369,7 @@ module _ (I : Input) where
       enough = λ k l. ap (answer (J k)) (t .enough k l) ∙ answer-same k (t .end);
       short = λ k l. ap (answer (J k)) (t .short k (omega arith) l);
       exact = exact (t .ends);
+      counts = λ k l e q w r. sym (exact (t .ends) e q) ∙ counts k (t .end) (t .enough k l) e q w r;
     },
   )
     where
@@ -383,3 +389,10 @@ module _ (I : Input) where
         where
           same : (x e : Expansion) → Answer.Expanded x ≡ Answer.Expanded e → e .charges ≡ x .charges
           same x e q = let r : x ≡ e = cc in ap (λ (y : Expansion). y .charges) (sym r)
+
+      counts : (k : ℕ) (r : Result (List Statement)) → statements (J k) start ≡ r → (e : Expansion) → answer I r ≡ Answer.Expanded e → (w : World Known) (x : WholeRun (graph (J k)) w) → e .charges ≡ counted (J k) e x
+      counts k (refusal c d i) h e q w x = absurd (let z : _≡_ {A = ℕ} 0 1 = cc in omega arith)
+      counts k (ok a s) h e q w x = subst (λ (y : Expansion). y .charges ≡ counted (J k) y x) (same (expansion I a s) e q) (atOk (charges-counted (J k) w x) h)
+        where
+          same : (x e : Expansion) → Answer.Expanded x ≡ Answer.Expanded e → x ≡ e
+          same x e q = cc

@@ -30,7 +30,7 @@ use Rattle.expansion.specs.Instances.{pushScope, openScope, takeDefault,
 use Rattle.expansion.specs.Copy.{copyNode, mappedOr, copy}
 use Rattle.expansion.specs.Expand.{statement, rootEnv, statements}
 use Rattle.expansion.specs.Reached.{Known, entryOf, bodyIds, defaultIds, declOf, interfaceIds, plainNexts, gives, isSome, nameIfValued, bodyNames, bodyScope, defaultScope, kindBy, kindOf, defaultAction, valueActions, interfaceActions, instanceActions, actionsBy, actionsOf, nodeIn, graph}
-use Rattle.expansion.specs.Expanded.{documentIn, PlainAt, InstanceAt, Fault, fourOrigin, fourStatement, fourBody, six, seven, eight, Refusal, atTop, nowhere, tooDeep, atNode}
+use Rattle.expansion.specs.Expanded.{documentIn, PlainAt, InstanceAt, Fault, fourOrigin, fourStatement, fourBody, six, seven, eight, ChargedAt, topCharge, nodeCharge, Refusal, atTop, nowhere, tooDeep, atNode}
 use Rattle.expansion.specs.Proofs.Outcome.{Outcome, refused, accepted, Any, bindOut, mapOut, thenOut, turnOut, both}
 use Rattle.expansion.specs.Proofs.Names.{Shows, known, none-shown, values-shown}
 
@@ -336,12 +336,13 @@ module _ (I : Input) where
     fits : Fits after st′
     run : Within (graph I) Fair left t (see g (st .world)) (see after (st′ .world))
 
-  -- what stops a task that is begun in the world w, where so many nodes may still be opened: the step's own reason; an id that leads nowhere; a node that it comes to with so many open; a node at fault
+  -- what stops a task that is begun in the world w, where so many nodes may still be opened: the step's own reason; an id that leads nowhere; a node that it comes to with so many open; a node at fault; a node with a charge too many
   data Stop (left d : ℕ) (X : ℕ → Type 0) (t : Task Known) (w : Steps.World Known) : ℕ → ℕ → ℕ → Type 0 where
     own : {c f x : ℕ} → Short d X c f x → Stop left d X t w c f x
     lost : {k m i : ℕ} {s : Known} {v : Steps.World Known} → Comes (graph I) t w k m s i v → (Mapped v m i → ⊥) → k ≤ left → nodeAt (docs I) (documentIn s) i ≡ none → Stop left d X t w 5 (documentIn s) i
     deep : {m i : ℕ} {s : Known} {v : Steps.World Known} → Comes (graph I) t w left m s i v → (Mapped v m i → ⊥) → (node : Node) → nodeAt (docs I) (documentIn s) i ≡ some node → Stop left d X t w 9 0 0
     fault : {c f x k m i : ℕ} {s : Known} {v : Steps.World Known} → Comes (graph I) t w k m s i v → (Mapped v m i → ⊥) → k < left → Fault I m s i v c f x → Stop left d X t w c f x
+    overcharged : {k m i : ℕ} {s : Known} {v : Steps.World Known} → Comes (graph I) t w k m s i v → (Mapped v m i → ⊥) → k < left → (node : Node) → nodeAt (docs I) (documentIn s) i ≡ some node → Stop left d X t w 10 0 0
 
   -- The task stops where a part of it does,
   shift : {left d : ℕ} {X : ℕ → Type 0} {t t′ : Task Known} {w w′ : Steps.World Known} → ((k m : ℕ) (s : Known) (i : ℕ) (v : Steps.World Known) → Comes (graph I) t w k m s i v → Comes (graph I) t′ w′ k m s i v) → (c f x : ℕ) → Stop left d X t w c f x → Stop left d X t′ w′ c f x
@@ -349,6 +350,7 @@ module _ (I : Input) where
   shift h c f x (lost y un l e) = lost (h _ _ _ _ _ y) un l e
   shift h c f x (deep y un node e) = deep (h _ _ _ _ _ y) un node e
   shift h c f x (fault y un l e) = fault (h _ _ _ _ _ y) un l e
+  shift h c f x (overcharged y un l node e) = overcharged (h _ _ _ _ _ y) un l node e
 
   -- also where the part is inside a further node; a reason of the part's own is told apart.
   deeper : {left d d′ : ℕ} {X X′ : ℕ → Type 0} {t t′ : Task Known} {w w′ : Steps.World Known} → ((k m : ℕ) (s : Known) (i : ℕ) (v : Steps.World Known) → Comes (graph I) t w k m s i v → Comes (graph I) t′ w′ (suc k) m s i v)
@@ -357,6 +359,7 @@ module _ (I : Input) where
   deeper h o c f x (lost y un l e) = lost (h _ _ _ _ _ y) un (omega arith) e
   deeper h o c f x (deep y un node e) = deep (h _ _ _ _ _ y) un node e
   deeper h o c f x (fault y un l e) = fault (h _ _ _ _ _ y) un (omega arith) e
+  deeper h o c f x (overcharged y un l node e) = overcharged (h _ _ _ _ _ y) un (omega arith) node e
 
   -- the step runs the task, whatever was opened before, or stops on the way
   abbrev Runs : {A : Type 0} → ℕ → ℕ → (ℕ → Type 0) → Task Known → Comp A → Type 0
@@ -598,11 +601,11 @@ module _ (I : Input) where
       inner P s1 e1 r = rw (actions-are env names i node none h, ← e1) r
 
       short : (c f x : ℕ) → Short 0 (λ x. ⊥) c f x → Stop (suc left) d X (one (env .scope) (known env names) i) (see g (st .world)) c f x
-      short c f x rows = own rows
+      short c f x rows = overcharged here un (omega arith) node (h .there)
       short c f x (extern y none-is e) = absurd none-is
 
       mine : length (st .world .ledger) < I .limits .maxNodes → (c f x : ℕ) → Short (src env) (ExternOf node) c f x → Stop (suc left) d X (one (env .scope) (known env names) i) (see g (st .world)) c f x
-      mine l c f x rows = own rows
+      mine l c f x rows = overcharged here un (omega arith) node (h .there)
       mine l c f x (extern y (inl q) e) = fault here un (omega arith) (fourOrigin node at l y q e)
       mine l c f x (extern y (inr q) e) = fault here un (omega arith) (fourStatement node at l y q e)
 
@@ -844,8 +847,8 @@ module _ (I : Input) where
   instantiate-run left f hf d X env names hn i node p h g st ft un none ep = refused (fault here un (omega arith) (six p (record { node = node; there = h .there; instance = h .proto }) ep))
   instantiate-run left f hf d X env names hn i node p h g st ft un (some decl) ep =
       thenOut (both _ (values-run {d = d} {X = X} f hf env names hn p (node .fields) decl ep (decl .interface) [] 0 [] refl refl g st ft) (values-shown I f env names hn p (node .fields) (decl .interface) st))
-      (deeper (λ k m s j v y. inValues (bodyScope p ns) un kind (rw acts y)) (λ c e x r. own r))
-      (λ vs s1 x. thenOut (openScope-world (b .entry) s1) (λ c e x r. own r)
+      (deeper {t = all (env .scope) (known env names) (interfaceActions names p (node .fields) 0 (decl .interface))} {w = see g (st .world)} (λ k m s j v y. inValues (bodyScope p ns) un kind (rw acts y)) charged)
+      (λ vs s1 x. thenOut (openScope-world (b .entry) s1) charged
       (λ n s2 q. thenOut (body-first left f hf env i (inner n vs) ns (x .1) Inside (record { root = none; extraRoots = []; routes = [] }) refl (decl .body) (λ y m. m) (begun s1 (x .0)) s2 (opener-fits (opened-fits b (x .0 .after) s1 n s2 (x .0 .fits) q)))
       (stops n vs (x .1) s1 s2 (x .0) q)
       (λ c s3 rb. last n vs (x .1) s1 s2 (x .0) q c s3 rb (c .root) refl)))
@@ -899,9 +902,14 @@ module _ (I : Input) where
       renumber : (P : Task Known → Type 0) (n : ℕ) (s1 s2 : State) (rv : Valued s1) → Opens (b .entry) s1 n s2 → (rs : List ℕ) → P (all n b (map copyId rs)) → P (all (length (rv .after .scopes)) b (map copyId rs))
       renumber P n s1 s2 rv q rs y = subst (λ (m : ℕ). P (all m b (map copyId rs))) (q .number ∙ count-is (rv .after) s1 (rv .fits)) y
 
+      -- a charge too many is the instance's
+      charged : (c f x : ℕ) → Short d X c f x → Target c f x
+      charged c f x rows = overcharged here un (omega arith) node (h .there)
+      charged c f x (extern y m e) = own (extern y m e)
+
       -- the body's own reasons
       mine : (s1 : State) → Valued s1 → (c f x : ℕ) → Short (p .document) Inside c f x → Target c f x
-      mine s1 rv c f x rows = own rows
+      mine s1 rv c f x rows = overcharged here un (omega arith) node (h .there)
       mine s1 rv c f x (extern y m e) = fault here un (omega arith) (fourBody p at decl ep (see (rv .after) (s1 .world)) (within-run (vals s1 rv)) y m e)
 
       -- where the body stops, the instance does
@@ -955,7 +963,7 @@ module _ (I : Input) where
       last n vs hv s1 s2 rv q x s3 (rootless y z) (some root) er = absurd (let z : _≡_ {A = ℕ} 0 1 = cc in omega arith)
       last n vs hv s1 s2 rv q x s3 (rooted o z fb y) none er = absurd (let z : _≡_ {A = ℕ} 0 1 = cc in omega arith)
       last n vs hv s1 s2 rv q x s3 (rooted o z fb y) (some root) er =
-          thenOut (charge-keep s3) (λ c e x r. own r) (λ u s4 q4. turnOut (recordInstance-keep (decl .name) (node .defName) n x root s4) (λ c e x r. own r) (λ o′ s5 q5. upto (same-then q4 q5) (whole n vs hv fb s1 s2 s3 rv q y)))
+          thenOut (charge-keep s3) charged (λ u s4 q4. turnOut (recordInstance-keep (decl .name) (node .defName) n x root s4) charged (λ o′ s5 q5. upto (same-then q4 q5) (whole n vs hv fb s1 s2 s3 rv q y)))
 
   -- ---- the copier
 
@@ -994,9 +1002,9 @@ module _ (I : Input) where
   pub whole-run : {w : World} (h : Whole w) → WholeRun (graph I) (see (h .after) w)
   whole-run h = within-run (h .within)
 
-  -- A refused one stops on the way: a row too many, or what `Refusal` says.
+  -- A refused one stops on the way: a row too many, of the top or of a node, or what `Refusal` says.
   pub data Halt : ℕ → ℕ → ℕ → Type 0 where
-    noRow : Halt 10 0 0
+    noRow : ChargedAt I → Halt 10 0 0
     because : {c d i : ℕ} → Refusal I c d i → Halt c d i
 
   pub statements-run : Outcome Halt (λ l st′. Whole (st′ .world)) (statements I start)
@@ -1036,14 +1044,15 @@ module _ (I : Input) where
       fits n s2 s3 e q = opened-fits top (record { openers = []; scopes = [] }) s2 n s3 (fits-from _ e none-yet) q
 
       short : (c d x : ℕ) → Short 0 (λ x. ⊥) c d x → Halt c d x
-      short c d x rows = noRow
+      short c d x rows = noRow topCharge
       short c d x (extern y none-is e) = absurd none-is
 
       halt : (c d x : ℕ) → Stop (I .limits .maxDepth) 0 Outside (all 0 top (map copyId (flat statementIds (I .root .statements)))) (see g first) c d x → Halt c d x
-      halt c d x (own rows) = noRow
+      halt c d x (own rows) = noRow topCharge
       halt c d x (own (extern y m e)) = because (atTop y m e)
       halt c d x (lost {k} {m} {i} {s} {v} y un l e) = because (nowhere (record { depth = k; number = m; scope = s; id = i; world = v; comes = y; unmapped = un }) l e)
       halt c d x (deep {m} {i} {s} {v} y un node e) = because (tooDeep (record { depth = I .limits .maxDepth; number = m; scope = s; id = i; world = v; comes = y; unmapped = un }) refl node e)
+      halt c d x (overcharged {k} {m} {i} {s} {v} y un l node e) = noRow (nodeCharge (record { depth = k; number = m; scope = s; id = i; world = v; comes = y; unmapped = un }) l node e)
       halt c d x (fault {k = k} {m} {i} {s} {v} y un l r) = because (atNode (record { depth = k; number = m; scope = s; id = i; world = v; comes = y; unmapped = un }) l r)
 
       whole : (s3 s4 : State) (k : Unseen) → s3 .world ≡ first → Within (graph I) Fair (I .limits .maxDepth) (all 0 top (map copyId (flat statementIds (I .root .statements)))) (see g (s3 .world)) (see k (s4 .world)) → Within (graph I) Fair (I .limits .maxDepth) (all 0 top (map copyId (flat statementIds (I .root .statements)))) (see g first) (see k (s4 .world))

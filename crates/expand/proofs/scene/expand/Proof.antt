@@ -9,6 +9,7 @@ use Rattle.expand.proofs.scene.expand_rows.Reads as expand-rows-reads
 use Rattle.lines.proofs.read_lines.Reads as read-lines-reads
 use lib.ListN.{length-take}
 use Rattle.expand.specs.Answer.{ReadRefused, ReadExpanded}
+use Rattle.expand.proofs.AnswerLaws.{few-refused}
 use Rattle.expand.proofs.LinesLaws.{rows-fit, bad-line-fits, not-refused, refused-so, accepts-not}
 use native.Mathlib.Omega.{arith}
 
@@ -53,15 +54,15 @@ same-length c = search needs
 
 returns : tie.Need-returns
 unfolding ReadRefused ReadExpanded
-returns c = ((λ w e h. absurd (not-refused _ _ _ w _ (rw (c .before .before .before .before .before .before .n .given .1) at (c .before .before .before .before .before .before .before .before .before .read-lines .ensures)) (omega arith) h)), (λ z. rw (c .before .before .before .before .before .before .before .before .before .read-lines .ensures, c .before .before .before .before .before .before .n .given .1) (c .before .before .expand-rows .ensures)))
+returns c = ((λ w e h. absurd (not-refused _ _ _ w _ (rw (c .before .before .before .before .before .before .n .given .1) at (c .before .before .before .before .before .before .before .before .before .read-lines .ensures)) (omega arith) h)), ((λ z. rw (c .before .before .before .before .before .before .before .before .before .read-lines .ensures, c .before .before .before .before .before .before .n .given .1) (c .before .before .expand-rows .ensures .0)), c .before .before .expand-rows .ensures .1))
 
 returns-2 : tie.Need-returns-2
 unfolding ReadRefused ReadExpanded
-returns-2 c = ((λ w e h. let p = refused-so _ _ _ w _ _ (rw (c .before .enum-told .given .1) at (c .before .before .before .before .read-lines .ensures)) (omega arith) in rw (p .0, p .1) (c .refused .ensures)), (λ z. absurd (accepts-not _ _ _ _ _ (rw (c .before .enum-told .given .1) at (c .before .before .before .before .read-lines .ensures)) (omega arith) z)))
+returns-2 c = ((λ w e h. let p = refused-so _ _ _ w _ _ (rw (c .before .enum-told .given .1) at (c .before .before .before .before .read-lines .ensures)) (omega arith) in rw (p .0, p .1) (c .refused .ensures)), ((λ z. absurd (accepts-not _ _ _ _ _ (rw (c .before .enum-told .given .1) at (c .before .before .before .before .read-lines .ensures)) (omega arith) z)), few-refused _ (c .refused .ensures)))
 
 returns-3 : tie.Need-returns-3
 unfolding ReadRefused ReadExpanded
-returns-3 c = ((λ w e h. let p = refused-so _ _ _ w _ _ (rw (c .before .before .i .given .1) at (c .before .before .before .before .before .read-lines .ensures)) (omega arith) in rw (p .0, p .1) (c .refused2 .ensures)), (λ z. absurd (accepts-not _ _ _ _ _ (rw (c .before .before .i .given .1) at (c .before .before .before .before .before .read-lines .ensures)) (omega arith) z)))
+returns-3 c = ((λ w e h. let p = refused-so _ _ _ w _ _ (rw (c .before .before .i .given .1) at (c .before .before .before .before .before .read-lines .ensures)) (omega arith) in rw (p .0, p .1) (c .refused2 .ensures)), ((λ z. absurd (accepts-not _ _ _ _ _ (rw (c .before .before .i .given .1) at (c .before .before .before .before .before .read-lines .ensures)) (omega arith) z)), few-refused _ (c .refused2 .ensures)))
 
 pub expand-spec : {M : Type 1} → statement M
 expand-spec =

@@ -7,6 +7,7 @@ use Rattle.expand.proofs.scene.expand_rows.Lts as lts
 use Rattle.call.proofs.expand.Reads as expand-reads
 use mathlib.Core.Path.{ap}
 use Rattle.operation.specs.Operation.{After}
+use Rattle.expand.proofs.AnswerLaws.{few}
 
 slice-aggregate-expand : tie.Need-slice-aggregate-expand
 slice-aggregate-expand c = search needs
@@ -27,7 +28,7 @@ same-length : tie.Need-same-length
 same-length c = search needs
 
 returns : tie.Need-returns
-returns c = record { answer = ap (λ (r : After). r .answer) (c .before .before .before .before .before .expand .ensures .0); words = ap (λ (r : After). r .out) (c .before .before .before .before .before .expand .ensures .0) }
+returns c = (record { answer = ap (λ (r : After). r .answer) (c .before .before .before .before .before .expand .ensures .0); words = ap (λ (r : After). r .out) (c .before .before .before .before .before .expand .ensures .0) }, few _ _ _ _ _ _ (c .before .before .before .before .before .expand .ensures .1 .1))
 
 pub expand-rows-spec : {M : Type 1} → statement M
 expand-rows-spec =

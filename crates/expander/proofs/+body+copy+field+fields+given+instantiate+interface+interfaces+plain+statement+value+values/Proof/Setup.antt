@@ -51,6 +51,7 @@ use Rattle.expander.proofs.next.Reads as next-reads
 use Rattle.expander.proofs.origin.Reads as origin-reads
 use Rattle.expander.proofs.row_of.Reads as row-of-reads
 use Rattle.journal.proofs.word.Reads as word-reads
+use Rattle.lookup.proofs.rows.proto_at.Reads as proto-at-reads
 use Rattle.parts.proofs.extern_proto.Reads as extern-proto-reads
 use Rattle.parts.proofs.order.Reads as order-reads
 use Rattle.parts.proofs.statements.Reads as statements-reads
@@ -62,10 +63,12 @@ use Rattle.refine.proofs.open.Reads as open-reads
 use Rattle.refine.proofs.own.Reads as own-reads
 use Rattle.refine.proofs.reserve.Reads as reserve-reads
 use Rattle.refine.proofs.store.Reads as store-reads
+use Rattle.sheet.proofs.row.row_at.Reads as row-at-reads
 use Rattle.source.proofs.last_field.Reads as last-field-reads
 use Rattle.source.proofs.node.Reads as node-reads
 use Rattle.source.proofs.proto.Reads as proto-reads
 use Rattle.source.proofs.target.Reads as target-reads
+use Rattle.walks.proofs.walk.seek.Reads as seek-reads
 use Rattle.words.proofs.wide.Reads as wide-reads
 use Prim.Native.Nat.{_+_, _*_, _-_}
 use lib.ListN.{length}
@@ -98,13 +101,13 @@ abbrev pub μ-plain : Measures 3 plain-kinds.ps ℕ
 μ-plain κs a = (a .1 .1 .1 .1 .1 .1 .1 .1 .1 .0) * 16 + 4
 
 abbrev pub μ-statement : Measures 3 statement-kinds.ps ℕ
-μ-statement κs a = (a .1 .1 .1 .1 .1 .1 .1 .1 .1 .1 .1 .1 .0) * 16 + 1
+μ-statement κs a = (a .1 .1 .1 .1 .1 .1 .1 .1 .1 .1 .1 .1 .1 .0) * 16 + 1
 
 abbrev pub μ-value : Measures 3 value-kinds.ps ℕ
 μ-value κs a = (a .1 .1 .1 .1 .1 .1 .1 .1 .0) * 16 + 1
 
 abbrev pub μ-values : Measures 3 values-kinds.ps ℕ
-μ-values κs a = (a .1 .1 .1 .1 .1 .1 .1 .1 .1 .1 .1 .0) * 16 + 3
+μ-values κs a = (a .1 .1 .1 .1 .1 .1 .1 .1 .1 .1 .1 .1 .0) * 16 + 3
 
 abbrev pub body-at : ℕ → In 3 body-kinds.ps
 body-at t = and 3 body-kinds.ps (is 3 body-kinds.ps μ-body t) body.Pre
@@ -179,7 +182,7 @@ abbrev pub values-below : ℕ → In 3 values-kinds.ps
 values-below t = and 3 values-kinds.ps (falls 3 values-kinds.ps _<_ μ-values t) values.Pre
 
 abbrev pub body-cs : ℕ → body-lts.Claims
-body-cs t = (next-reads.Asked, next-reads.Learnt, statement-below t, statement′.Post)
+body-cs t = (seek-reads.Asked, seek-reads.Learnt, statement-below t, statement′.Post)
 
 abbrev pub copy-cs : ℕ → copy-lts.Claims
 copy-cs t = (look-reads.Asked, look-reads.Learnt, word-reads.Asked, word-reads.Learnt, node-reads.Asked, node-reads.Learnt, number-reads.Asked, number-reads.Learnt, row-of-reads.Asked, row-of-reads.Learnt, target-reads.Asked, target-reads.Learnt, plain-below t, plain.Post, instantiate-below t, instantiate.Post)
@@ -194,7 +197,7 @@ abbrev pub given-cs : ℕ → given-lts.Claims
 given-cs t = (row-of-reads.Asked, row-of-reads.Learnt, last-field-reads.Asked, last-field-reads.Learnt, value-below t, value.Post, store-reads.Asked, store-reads.Learnt, has-value-reads.Asked, has-value-reads.Learnt, is-given-reads.Asked, is-given-reads.Learnt, number-reads.Asked, number-reads.Learnt, open-reads.Asked, open-reads.Learnt, wide-reads.Asked, wide-reads.Learnt)
 
 abbrev pub instantiate-cs : ℕ → instantiate-lts.Claims
-instantiate-cs t = (number-reads.Asked, number-reads.Learnt, proto-reads.Asked, proto-reads.Learnt, values-below t, values.Post, open-reads.Asked, open-reads.Learnt, wide-reads.Asked, wide-reads.Learnt, body-below t, body.Post, row-of-reads.Asked, row-of-reads.Learnt, record-instance-reads.Asked, record-instance-reads.Learnt)
+instantiate-cs t = (number-reads.Asked, number-reads.Learnt, proto-reads.Asked, proto-reads.Learnt, proto-at-reads.Asked, proto-at-reads.Learnt, values-below t, values.Post, open-reads.Asked, open-reads.Learnt, wide-reads.Asked, wide-reads.Learnt, body-below t, body.Post, row-of-reads.Asked, row-of-reads.Learnt, record-instance-reads.Asked, record-instance-reads.Learnt)
 
 abbrev pub interface-cs : ℕ → interface-lts.Claims
 interface-cs t = (row-of-reads.Asked, row-of-reads.Learnt, is-interface-reads.Asked, is-interface-reads.Learnt, value-below t, value.Post, keep-reads.Asked, keep-reads.Learnt)
@@ -206,10 +209,10 @@ abbrev pub plain-cs : ℕ → plain-lts.Claims
 plain-cs t = (reserve-reads.Asked, reserve-reads.Learnt, origin-reads.Asked, origin-reads.Learnt, fields-below t, fields.Post, row-of-reads.Asked, row-of-reads.Learnt, bare-reads.Asked, bare-reads.Learnt, fill-reads.Asked, fill-reads.Learnt, interfaces-below t, interfaces.Post, statements-reads.Asked, statements-reads.Learnt, order-reads.Asked, order-reads.Learnt)
 
 abbrev pub statement-cs : ℕ → statement-lts.Claims
-statement-cs t = (row-of-reads.Asked, row-of-reads.Learnt, copy-below t, copy.Post, map-reads.Asked, map-reads.Learnt, own-reads.Asked, own-reads.Learnt, kept-reads.Asked, kept-reads.Learnt, extern-proto-reads.Asked, extern-proto-reads.Learnt)
+statement-cs t = (row-at-reads.Asked, row-at-reads.Learnt, copy-below t, copy.Post, map-reads.Asked, map-reads.Learnt, own-reads.Asked, own-reads.Learnt, kept-reads.Asked, kept-reads.Learnt, extern-proto-reads.Asked, extern-proto-reads.Learnt)
 
 abbrev pub value-cs : ℕ → value-lts.Claims
 value-cs t = (row-of-reads.Asked, row-of-reads.Learnt, next-reads.Asked, next-reads.Learnt, copy-below t, copy.Post, keep-reads.Asked, keep-reads.Learnt)
 
 abbrev pub values-cs : ℕ → values-lts.Claims
-values-cs t = (next-reads.Asked, next-reads.Learnt, given-below t, given.Post)
+values-cs t = (seek-reads.Asked, seek-reads.Learnt, given-below t, given.Post)

@@ -51,6 +51,7 @@ use Rattle.expander.proofs.next.Reads as next-reads
 use Rattle.expander.proofs.origin.Reads as origin-reads
 use Rattle.expander.proofs.row_of.Reads as row-of-reads
 use Rattle.journal.proofs.word.Reads as word-reads
+use Rattle.lookup.proofs.rows.proto_at.Reads as proto-at-reads
 use Rattle.parts.proofs.extern_proto.Reads as extern-proto-reads
 use Rattle.parts.proofs.order.Reads as order-reads
 use Rattle.parts.proofs.statements.Reads as statements-reads
@@ -62,24 +63,28 @@ use Rattle.refine.proofs.open.Reads as open-reads
 use Rattle.refine.proofs.own.Reads as own-reads
 use Rattle.refine.proofs.reserve.Reads as reserve-reads
 use Rattle.refine.proofs.store.Reads as store-reads
+use Rattle.sheet.proofs.row.row_at.Reads as row-at-reads
 use Rattle.source.proofs.last_field.Reads as last-field-reads
 use Rattle.source.proofs.node.Reads as node-reads
 use Rattle.source.proofs.proto.Reads as proto-reads
 use Rattle.source.proofs.target.Reads as target-reads
+use Rattle.walks.proofs.walk.seek.Reads as seek-reads
 use Rattle.words.proofs.wide.Reads as wide-reads
 use Rattle.expander.proofs.+body+copy+field+fields+given+instantiate+interface+interfaces+plain+statement+value+values.Proof.Setup.{μ-body, μ-copy, μ-field, μ-fields, μ-given, μ-instantiate, μ-interface, μ-interfaces, μ-plain, μ-statement, μ-value, μ-values, body-at, body-below, copy-at, copy-below, field-at, field-below, fields-at, fields-below, given-at, given-below, instantiate-at, instantiate-below, interface-at, interface-below, interfaces-at, interfaces-below, plain-at, plain-below, statement-at, statement-below, value-at, value-below, values-at, values-below, body-cs, copy-cs, field-cs, fields-cs, given-cs, instantiate-cs, interface-cs, interfaces-cs, plain-cs, statement-cs, value-cs, values-cs}
 use Prim.Native.Nat.{_+_, _*_, _-_}
 use lib.ListN.{length}
 use mathlib.Core.Path.{_≡_, refl, sym, _∙_}
+use denote.Ref.{now}
+use Rattle.sheet.specs.Rows.{rows}
 use Rattle.cycle.proofs.BodyLaws.{node-stop, node-inside, node-ready, node-mapped, root-ready, node-extra, statement-extern, route-ready, statement-route, statement-nothing}
 use native.Mathlib.Omega.{arith}
 use borrow.Author.Needs.{needs}
 
-pub statement-row-of-requires : (t : ℕ) → statement-lts.Need-row-of-requires (statement-cs t) (statement-at t) statement′.Post
-statement-row-of-requires t c κs = omega (arith, c .before .before .before .before .pre .1 .0 .here .slot .upto, c .before .before .before .before .pre .1 .0 .here .lent .sourced .directory .few, c .before .before .before .before .pre .1 .0 .here .lent .sourced .directory .long)
+pub statement-row-at-requires : (t : ℕ) → statement-lts.Need-row-at-requires (statement-cs t) (statement-at t) statement′.Post
+statement-row-at-requires t c κs = search needs
 
 pub statement-copy-requires : (t : ℕ) → statement-lts.Need-copy-requires (statement-cs t) (statement-at t) statement′.Post
-statement-copy-requires t c κs = (omega (arith, c .before .before .before .before .before .before .before .before .pre .0), c .before .before .before .before .before .before .before .before .pre .1 .0 .here)
+statement-copy-requires t c κs = (omega (arith, c .before .before .before .before .before .before .before .before .before .pre .0), c .before .before .before .before .before .before .before .before .before .pre .1 .here)
 
 pub statement-enum-known-a : (t : ℕ) → statement-lts.Need-enum-known-a (statement-cs t) (statement-at t) statement′.Post
 statement-enum-known-a t c = search needs
@@ -91,19 +96,19 @@ pub statement-same-length : (t : ℕ) → statement-lts.Need-same-length (statem
 statement-same-length t c = search needs
 
 pub statement-returns : (t : ℕ) → statement-lts.Need-returns (statement-cs t) (statement-at t) statement′.Post
-statement-returns t c = node-stop _ _ _ _ _ _ _ _ _ _ _ _ _ (c .before .before .before .before .before .before .before .before .before .before .before .before .before .pre .1 .0) _ (c .before .before .before .before .before .before .before .before .row-of .ensures) (c .before .before .before .before .before .before .if1 .taken) (c .before .before .before .before .copy .ensures) (c .enum-told .given .1)
+statement-returns t c = node-stop _ _ _ _ _ _ _ _ _ (rows (now (c .before .before .before .before .before .before .before .before .before .before .before .before .before .before .args .part))) (c .before .before .before .before .before .before .before .before .before .before .before .before .before .before .args .row) _ _ _ (c .before .before .before .before .before .before .before .before .before .before .before .before .before .before .pre .1) _ (c .before .before .before .before .before .before .before .before .row-at .ensures) (c .before .before .before .before .before .before .if1 .taken) (c .before .before .before .before .copy .ensures) (c .enum-told .given .1)
 
 pub statement-map-requires : (t : ℕ) → statement-lts.Need-map-requires (statement-cs t) (statement-at t) statement′.Post
-statement-map-requires t c κs = let i = node-inside _ _ _ _ _ _ _ (c .before .before .before .before .before .before .before .before .before .before .before .before .before .before .before .before .args .id .0) _ (c .before .before .before .before .before .before .before .before .before .before .before .before .before .before .before .before .args .row) _ _ _ (c .before .before .before .before .before .before .before .before .before .before .before .before .before .before .before .before .pre .1 .0) _ (c .before .before .before .before .before .before .before .before .before .before .before .row-of .ensures) (c .before .before .before .before .before .before .before .before .before .if1 .taken) (c .before .before .before .before .before .before .before .copy .ensures) (c .before .before .before .a .given .1) in (i .here .standing, (i .env, node-ready _ _ _ _ _ _ _ (c .before .before .before .before .before .before .before .before .before .before .before .before .before .before .before .before .args .id .0) _ (c .before .before .before .before .before .before .before .before .before .before .before .before .before .before .before .before .args .row) _ _ _ (c .before .before .before .before .before .before .before .before .before .before .before .before .before .before .before .before .pre .1 .0) _ (c .before .before .before .before .before .before .before .before .before .before .before .row-of .ensures) (c .before .before .before .before .before .before .before .before .before .if1 .taken) (c .before .before .before .before .before .before .before .copy .ensures) (c .before .before .before .a .given .1)))
+statement-map-requires t c κs = let i = node-inside _ _ _ _ _ _ _ (c .before .before .before .before .before .before .before .before .before .before .before .before .before .before .before .before .before .args .id .0) _ (rows (now (c .before .before .before .before .before .before .before .before .before .before .before .before .before .before .before .before .before .args .part))) (c .before .before .before .before .before .before .before .before .before .before .before .before .before .before .before .before .before .args .row) _ _ _ (c .before .before .before .before .before .before .before .before .before .before .before .before .before .before .before .before .before .pre .1) _ (c .before .before .before .before .before .before .before .before .before .before .before .row-at .ensures) (c .before .before .before .before .before .before .before .before .before .if1 .taken) (c .before .before .before .before .before .before .before .copy .ensures) (c .before .before .before .a .given .1) in (i .here .standing, (i .env, node-ready _ _ _ _ _ _ _ (c .before .before .before .before .before .before .before .before .before .before .before .before .before .before .before .before .before .args .id .0) _ (rows (now (c .before .before .before .before .before .before .before .before .before .before .before .before .before .before .before .before .before .args .part))) (c .before .before .before .before .before .before .before .before .before .before .before .before .before .before .before .before .before .args .row) _ _ _ (c .before .before .before .before .before .before .before .before .before .before .before .before .before .before .before .before .before .pre .1) _ (c .before .before .before .before .before .before .before .before .before .before .before .row-at .ensures) (c .before .before .before .before .before .before .before .before .before .if1 .taken) (c .before .before .before .before .before .before .before .copy .ensures) (c .before .before .before .a .given .1)))
 
 pub statement-same-length-2 : (t : ℕ) → statement-lts.Need-same-length-2 (statement-cs t) (statement-at t) statement′.Post
 statement-same-length-2 t c = search needs
 
 pub statement-returns-2 : (t : ℕ) → statement-lts.Need-returns-2 (statement-cs t) (statement-at t) statement′.Post
-statement-returns-2 t c = node-mapped _ _ _ _ _ _ _ _ _ _ _ _ _ (c .before .before .before .before .before .before .before .before .before .before .before .before .before .before .before .before .before .before .before .pre .1 .0) _ (c .before .before .before .before .before .before .before .before .before .before .before .before .before .before .row-of .ensures) (c .before .before .before .before .before .before .before .before .before .before .before .before .if1 .taken) (c .before .before .before .before .before .before .before .before .before .before .copy .ensures) (c .before .before .before .before .before .before .a .given .1) (c .before .before .before .before .if2 .taken) _ (c .before .before .map .ensures)
+statement-returns-2 t c = node-mapped _ _ _ _ _ _ _ _ _ (rows (now (c .before .before .before .before .before .before .before .before .before .before .before .before .before .before .before .before .before .before .before .before .args .part))) (c .before .before .before .before .before .before .before .before .before .before .before .before .before .before .before .before .before .before .before .before .args .row) _ _ _ (c .before .before .before .before .before .before .before .before .before .before .before .before .before .before .before .before .before .before .before .before .pre .1) _ (c .before .before .before .before .before .before .before .before .before .before .before .before .before .before .row-at .ensures) (c .before .before .before .before .before .before .before .before .before .before .before .before .if1 .taken) (c .before .before .before .before .before .before .before .before .before .before .copy .ensures) (c .before .before .before .before .before .before .a .given .1) (c .before .before .before .before .if2 .taken) _ (c .before .before .map .ensures)
 
 pub statement-own-requires : (t : ℕ) → statement-lts.Need-own-requires (statement-cs t) (statement-at t) statement′.Post
-statement-own-requires t c κs = (node-inside _ _ _ _ _ _ _ (c .before .before .before .before .before .before .before .before .before .before .before .before .before .before .before .before .args .id .0) _ (c .before .before .before .before .before .before .before .before .before .before .before .before .before .before .before .before .args .row) _ _ _ (c .before .before .before .before .before .before .before .before .before .before .before .before .before .before .before .before .pre .1 .0) _ (c .before .before .before .before .before .before .before .before .before .before .before .row-of .ensures) (c .before .before .before .before .before .before .before .before .before .if1 .taken) (c .before .before .before .before .before .before .before .copy .ensures) (c .before .before .before .a .given .1) .here .standing, root-ready _ _ _ _ _ _ _ (c .before .before .before .before .before .before .before .before .before .before .before .before .before .before .before .before .args .id .0) _ (c .before .before .before .before .before .before .before .before .before .before .before .before .before .before .before .before .args .row) _ _ _ (c .before .before .before .before .before .before .before .before .before .before .before .before .before .before .before .before .pre .1 .0) _ (c .before .before .before .before .before .before .before .before .before .before .before .row-of .ensures) (c .before .before .before .before .before .before .before .before .before .if1 .taken) (c .before .before .before .before .before .before .before .copy .ensures) (c .before .before .before .a .given .1))
+statement-own-requires t c κs = (node-inside _ _ _ _ _ _ _ (c .before .before .before .before .before .before .before .before .before .before .before .before .before .before .before .before .before .args .id .0) _ (rows (now (c .before .before .before .before .before .before .before .before .before .before .before .before .before .before .before .before .before .args .part))) (c .before .before .before .before .before .before .before .before .before .before .before .before .before .before .before .before .before .args .row) _ _ _ (c .before .before .before .before .before .before .before .before .before .before .before .before .before .before .before .before .before .pre .1) _ (c .before .before .before .before .before .before .before .before .before .before .before .row-at .ensures) (c .before .before .before .before .before .before .before .before .before .if1 .taken) (c .before .before .before .before .before .before .before .copy .ensures) (c .before .before .before .a .given .1) .here .standing, root-ready _ _ _ _ _ _ _ (c .before .before .before .before .before .before .before .before .before .before .before .before .before .before .before .before .before .args .id .0) _ (rows (now (c .before .before .before .before .before .before .before .before .before .before .before .before .before .before .before .before .before .args .part))) (c .before .before .before .before .before .before .before .before .before .before .before .before .before .before .before .before .before .args .row) _ _ _ (c .before .before .before .before .before .before .before .before .before .before .before .before .before .before .before .before .before .pre .1) _ (c .before .before .before .before .before .before .before .before .before .before .before .row-at .ensures) (c .before .before .before .before .before .before .before .before .before .if1 .taken) (c .before .before .before .before .before .before .before .copy .ensures) (c .before .before .before .a .given .1))
 
 pub statement-kept-requires : (t : ℕ) → statement-lts.Need-kept-requires (statement-cs t) (statement-at t) statement′.Post
 statement-kept-requires t c κs = search needs
@@ -112,10 +117,10 @@ pub statement-same-length-3 : (t : ℕ) → statement-lts.Need-same-length-3 (st
 statement-same-length-3 t c = search needs
 
 pub statement-returns-3 : (t : ℕ) → statement-lts.Need-returns-3 (statement-cs t) (statement-at t) statement′.Post
-statement-returns-3 t c = rw (c .kept .ensures) (node-extra _ _ _ _ _ _ _ _ _ _ _ _ _ (c .before .before .before .before .before .before .before .before .before .before .before .before .before .before .before .before .before .before .before .before .pre .1 .0) _ (c .before .before .before .before .before .before .before .before .before .before .before .before .before .before .before .row-of .ensures) (c .before .before .before .before .before .before .before .before .before .before .before .before .before .if1 .taken) (c .before .before .before .before .before .before .before .before .before .before .before .copy .ensures) (c .before .before .before .before .before .before .before .a .given .1) (c .before .before .before .before .before .if2 .left) _ (c .before .before .before .own .ensures))
+statement-returns-3 t c = rw (c .kept .ensures) (node-extra _ _ _ _ _ _ _ _ _ (rows (now (c .before .before .before .before .before .before .before .before .before .before .before .before .before .before .before .before .before .before .before .before .before .args .part))) (c .before .before .before .before .before .before .before .before .before .before .before .before .before .before .before .before .before .before .before .before .before .args .row) _ _ _ (c .before .before .before .before .before .before .before .before .before .before .before .before .before .before .before .before .before .before .before .before .before .pre .1) _ (c .before .before .before .before .before .before .before .before .before .before .before .before .before .before .before .row-at .ensures) (c .before .before .before .before .before .before .before .before .before .before .before .before .before .if1 .taken) (c .before .before .before .before .before .before .before .before .before .before .before .copy .ensures) (c .before .before .before .before .before .before .before .a .given .1) (c .before .before .before .before .before .if2 .left) _ (c .before .before .before .own .ensures))
 
 pub statement-extern-proto-requires : (t : ℕ) → statement-lts.Need-extern-proto-requires (statement-cs t) (statement-at t) statement′.Post
-statement-extern-proto-requires t c κs = (c .before .before .before .before .before .before .before .before .before .before .pre .1 .0 .here .standing, (c .before .before .before .before .before .before .before .before .before .before .pre .1 .0 .here .lent, c .before .before .before .before .before .before .before .before .before .before .pre .1 .0 .here .slot))
+statement-extern-proto-requires t c κs = (c .before .before .before .before .before .before .before .before .before .before .before .pre .1 .here .standing, (c .before .before .before .before .before .before .before .before .before .before .before .pre .1 .here .lent, c .before .before .before .before .before .before .before .before .before .before .before .pre .1 .here .slot))
 
 pub statement-kept-requires-2 : (t : ℕ) → statement-lts.Need-kept-requires-2 (statement-cs t) (statement-at t) statement′.Post
 statement-kept-requires-2 t c κs = search needs
@@ -124,10 +129,10 @@ pub statement-same-length-4 : (t : ℕ) → statement-lts.Need-same-length-4 (st
 statement-same-length-4 t c = search needs
 
 pub statement-returns-4 : (t : ℕ) → statement-lts.Need-returns-4 (statement-cs t) (statement-at t) statement′.Post
-statement-returns-4 t c = rw (c .kept2 .ensures) (statement-extern _ _ _ _ _ _ _ _ _ _ _ _ _ (c .before .before .before .before .before .before .before .before .before .before .before .before .before .before .pre .1 .0) _ (c .before .before .before .before .before .before .before .before .before .row-of .ensures) (c .before .before .before .before .before .if3 .taken) _ (c .before .before .before .extern-proto .ensures))
+statement-returns-4 t c = rw (c .kept2 .ensures) (statement-extern _ _ _ _ _ _ _ _ _ (rows (now (c .before .before .before .before .before .before .before .before .before .before .before .before .before .before .before .args .part))) (c .before .before .before .before .before .before .before .before .before .before .before .before .before .before .before .args .row) _ _ _ (c .before .before .before .before .before .before .before .before .before .before .before .before .before .before .before .pre .1) _ (c .before .before .before .before .before .before .before .before .before .row-at .ensures) (c .before .before .before .before .before .if3 .taken) _ (c .before .before .before .extern-proto .ensures))
 
 pub statement-own-requires-2 : (t : ℕ) → statement-lts.Need-own-requires-2 (statement-cs t) (statement-at t) statement′.Post
-statement-own-requires-2 t c κs = (c .before .before .before .before .before .before .before .before .before .before .before .before .pre .1 .0 .here .standing, route-ready _ _ _ _ _ _ _ (c .before .before .before .before .before .before .before .before .before .before .before .before .args .id .0) _ (c .before .before .before .before .before .before .before .before .before .before .before .before .args .row) _ _ (c .before .before .before .before .before .before .before .before .before .before .before .before .args .depth) (c .before .before .before .before .before .before .before .before .before .before .before .before .pre .1 .0) _ (c .before .before .before .before .before .before .before .row-of .ensures) (c .before .if4 .taken))
+statement-own-requires-2 t c κs = (c .before .before .before .before .before .before .before .before .before .before .before .before .before .pre .1 .here .standing, route-ready _ _ _ _ _ _ _ (c .before .before .before .before .before .before .before .before .before .before .before .before .before .args .id .0) _ (rows (now (c .before .before .before .before .before .before .before .before .before .before .before .before .before .args .part))) (c .before .before .before .before .before .before .before .before .before .before .before .before .before .args .row) _ _ (c .before .before .before .before .before .before .before .before .before .before .before .before .before .args .depth) (c .before .before .before .before .before .before .before .before .before .before .before .before .before .pre .1) _ (c .before .before .before .before .before .before .before .row-at .ensures) (c .before .if4 .taken))
 
 pub statement-kept-requires-3 : (t : ℕ) → statement-lts.Need-kept-requires-3 (statement-cs t) (statement-at t) statement′.Post
 statement-kept-requires-3 t c κs = search needs
@@ -136,7 +141,7 @@ pub statement-same-length-5 : (t : ℕ) → statement-lts.Need-same-length-5 (st
 statement-same-length-5 t c = search needs
 
 pub statement-returns-5 : (t : ℕ) → statement-lts.Need-returns-5 (statement-cs t) (statement-at t) statement′.Post
-statement-returns-5 t c = rw (c .kept3 .ensures) (statement-route _ _ _ _ _ _ _ _ _ _ _ _ _ (c .before .before .before .before .before .before .before .before .before .before .before .before .before .before .before .before .pre .1 .0) _ (c .before .before .before .before .before .before .before .before .before .before .before .row-of .ensures) (c .before .before .before .before .before .if4 .taken) _ (c .before .before .before .own2 .ensures))
+statement-returns-5 t c = rw (c .kept3 .ensures) (statement-route _ _ _ _ _ _ _ _ _ (rows (now (c .before .before .before .before .before .before .before .before .before .before .before .before .before .before .before .before .before .args .part))) (c .before .before .before .before .before .before .before .before .before .before .before .before .before .before .before .before .before .args .row) _ _ _ (c .before .before .before .before .before .before .before .before .before .before .before .before .before .before .before .before .before .pre .1) _ (c .before .before .before .before .before .before .before .before .before .before .before .row-at .ensures) (c .before .before .before .before .before .if4 .taken) _ (c .before .before .before .own2 .ensures))
 
 pub statement-returns-6 : (t : ℕ) → statement-lts.Need-returns-6 (statement-cs t) (statement-at t) statement′.Post
-statement-returns-6 t c = statement-nothing _ _ _ _ _ _ _ _ _ _ _ _ _ (c .before .before .before .before .before .before .before .before .before .before .before .pre .1 .0) _ (c .before .before .before .before .before .before .row-of .ensures) (c .before .before .before .before .if1 .left) (c .before .before .if3 .left) (c .if4 .left)
+statement-returns-6 t c = statement-nothing _ _ _ _ _ _ _ _ _ (rows (now (c .before .before .before .before .before .before .before .before .before .before .before .before .args .part))) (c .before .before .before .before .before .before .before .before .before .before .before .before .args .row) _ _ _ (c .before .before .before .before .before .before .before .before .before .before .before .before .pre .1) _ (c .before .before .before .before .before .before .row-at .ensures) (c .before .before .before .before .if1 .left) (c .before .before .if3 .left) (c .if4 .left)

@@ -51,6 +51,7 @@ use Rattle.expander.proofs.next.Reads as next-reads
 use Rattle.expander.proofs.origin.Reads as origin-reads
 use Rattle.expander.proofs.row_of.Reads as row-of-reads
 use Rattle.journal.proofs.word.Reads as word-reads
+use Rattle.lookup.proofs.rows.proto_at.Reads as proto-at-reads
 use Rattle.parts.proofs.extern_proto.Reads as extern-proto-reads
 use Rattle.parts.proofs.order.Reads as order-reads
 use Rattle.parts.proofs.statements.Reads as statements-reads
@@ -62,10 +63,12 @@ use Rattle.refine.proofs.open.Reads as open-reads
 use Rattle.refine.proofs.own.Reads as own-reads
 use Rattle.refine.proofs.reserve.Reads as reserve-reads
 use Rattle.refine.proofs.store.Reads as store-reads
+use Rattle.sheet.proofs.row.row_at.Reads as row-at-reads
 use Rattle.source.proofs.last_field.Reads as last-field-reads
 use Rattle.source.proofs.node.Reads as node-reads
 use Rattle.source.proofs.proto.Reads as proto-reads
 use Rattle.source.proofs.target.Reads as target-reads
+use Rattle.walks.proofs.walk.seek.Reads as seek-reads
 use Rattle.words.proofs.wide.Reads as wide-reads
 use Rattle.expander.proofs.+body+copy+field+fields+given+instantiate+interface+interfaces+plain+statement+value+values.Proof.Setup.{μ-body, μ-copy, μ-field, μ-fields, μ-given, μ-instantiate, μ-interface, μ-interfaces, μ-plain, μ-statement, μ-value, μ-values, body-at, body-below, copy-at, copy-below, field-at, field-below, fields-at, fields-below, given-at, given-below, instantiate-at, instantiate-below, interface-at, interface-below, interfaces-at, interfaces-below, plain-at, plain-below, statement-at, statement-below, value-at, value-below, values-at, values-below, body-cs, copy-cs, field-cs, fields-cs, given-cs, instantiate-cs, interface-cs, interfaces-cs, plain-cs, statement-cs, value-cs, values-cs}
 use Prim.Native.Nat.{_+_, _*_, _-_}
@@ -74,28 +77,27 @@ use mathlib.Core.Path.{_∙_}
 use Prim.Native.Nat.{_-_}
 use lib.ListN.{length}
 use Rattle.walks.proofs.WalkLaws.{stands, missing}
-use Rattle.parts.specs.Contract.{rowsOf}
+use Prim.Native.Nat.{_≤_}
+use Rattle.sheet.specs.declared.part.Part.the-variants.{Interfaces}
+use Rattle.sheet.specs.Rows.{rows}
+use Rattle.lookup.proofs.PartLaws.{part-some, part-missing, part-stands}
 use Rattle.cycle.proofs.Run.{since}
 use Rattle.cycle.proofs.Walks.{rows-few}
-use Rattle.source.proofs.SourcedLaws.{slot-within}
 use Rattle.cycle.proofs.ValuesLaws.{Storing, values-start, values-end, values-here, values-again, values-stop}
 use native.Mathlib.Omega.{arith}
 use borrow.Author.Needs.{needs}
 
 abbrev pub values-Inv-loop : values-lts.InvT-loop
-values-Inv-loop root library dir work₀ lim env row slot proto decl depth cur₀ h₀ at₀ k₀ work cur h at k = Storing root library dir work₀ lim cur₀ env row slot (proto .0) decl depth work cur h at k
+values-Inv-loop root library dir work₀ lim env row slot proto decl part depth cur₀ h₀ at₀ k₀ work cur h at k = (at ≤ length (rows part)) × Storing root library dir work₀ lim cur₀ env row slot (proto .0) decl depth work cur h (decl + at) k
 
 abbrev pub values-μ-loop : values-lts.MeasureT-loop
-values-μ-loop root library dir work₀ lim env row slot proto decl depth cur₀ h₀ at₀ k₀ work cur h at k = length (rowsOf root library dir slot) - at
-
-pub values-add-at : (t : ℕ) → values-lts.Need-add-at (values-cs t) (values-at t) values.Post values-Inv-loop values-μ-loop
-values-add-at t c = omega (arith, c .before .before .before .before .pre .1 .1 .1 .1 .below, rows-few (c .before .before .before .before .pre .1 .0 .lent) (c .before .before .before .before .args .slot))
+values-μ-loop root library dir work₀ lim env row slot proto decl part depth cur₀ h₀ at₀ k₀ work cur h at k = length (rows part) - at
 
 pub values-loop-holds : (t : ℕ) → values-lts.Need-loop-holds (values-cs t) (values-at t) values.Post values-Inv-loop values-μ-loop
-values-loop-holds t c = values-start _ _ _ _ _ _ _ _ _ _ _ _ (c .before .before .before .before .pre .1 .0)
+values-loop-holds t c = (part-some (c .before .before .before .before .before .pre .1 .1 .1 .1 .0 .below) (c .before .before .before .before .before .pre .1 .1 .1 .1 .1), values-start _ _ _ _ _ _ _ _ _ _ _ _ (c .before .before .before .before .before .pre .1 .0))
 
-pub values-next-requires : (t : ℕ) → values-lts.Need-next-requires (values-cs t) (values-at t) values.Post values-Inv-loop values-μ-loop
-values-next-requires t c κs = slot-within (c .before .before .before .before .before .pre .1 .0 .lent .sourced) (c .before .before .before .before .before .pre .1 .1 .1 .0)
+pub values-seek-requires : (t : ℕ) → values-lts.Need-seek-requires (values-cs t) (values-at t) values.Post values-Inv-loop values-μ-loop
+values-seek-requires t c κs = search needs
 
 pub values-enum-known-q : (t : ℕ) → values-lts.Need-enum-known-q (values-cs t) (values-at t) values.Post values-Inv-loop values-μ-loop
 values-enum-known-q t c = search needs
@@ -104,16 +106,19 @@ pub values-enum-told : (t : ℕ) → values-lts.Need-enum-told (values-cs t) (va
 values-enum-told t c = search needs
 
 pub values-same-length : (t : ℕ) → values-lts.Need-same-length (values-cs t) (values-at t) values.Post values-Inv-loop values-μ-loop
-values-same-length t c = since (c .before .before .before .loop .inv .run) .long
+values-same-length t c = since (c .before .before .before .loop .inv .1 .run) .long
 
 pub values-returns : (t : ℕ) → values-lts.Need-returns (values-cs t) (values-at t) values.Post values-Inv-loop values-μ-loop
-values-returns t c = values-end _ _ _ _ _ _ _ _ _ _ _ _ (c .before .before .before .before .before .before .before .before .pre .1 .0) (c .before .before .before .loop .inv) (missing _ _ _ (c .before .before .next .ensures) (c .enum-told .given .1))
+values-returns t c = values-end _ _ _ _ _ _ _ _ _ _ _ _ (c .before .before .before .before .before .before .before .before .before .pre .1 .0) (c .before .before .before .loop .inv .1) (part-missing (c .before .before .before .before .before .before .before .before .before .pre .1 .1 .1 .1 .0 .below) (c .before .before .before .before .before .before .before .before .before .pre .1 .1 .1 .1 .1) Interfaces (c .before .before .before .before .before .before .before .before .before .pre .1 .1 .1 .1 .1 .end .cut .interfaces) (c .before .before .before .loop .at) (c .before .before .before .loop .inv .0) (missing _ _ _ (c .before .before .seek .ensures) (c .enum-told .given .1)))
 
-pub values-add-at-2 : (t : ℕ) → values-lts.Need-add-at-2 (values-cs t) (values-at t) values.Post values-Inv-loop values-μ-loop
-values-add-at-2 t c = omega (arith, (stands _ _ _ (c .before .before .before .next .ensures) (c .before .q .given .1)) .below, rows-few (c .before .before .before .before .before .before .before .before .before .pre .1 .0 .lent) (c .before .before .before .before .before .before .before .before .before .args .slot))
+pub values-add-at : (t : ℕ) → values-lts.Need-add-at (values-cs t) (values-at t) values.Post values-Inv-loop values-μ-loop
+values-add-at t c = omega (arith, (part-stands (c .before .before .before .before .before .before .before .before .before .before .pre .1 .1 .1 .1 .0 .below) (c .before .before .before .before .before .before .before .before .before .before .pre .1 .1 .1 .1 .1) Interfaces (c .before .before .before .before .before .before .before .before .before .before .pre .1 .1 .1 .1 .1 .end .cut .interfaces) (c .before .before .before .before .loop .at) (stands _ _ _ (c .before .before .before .seek .ensures) (c .before .q .given .1))) .below, rows-few (c .before .before .before .before .before .before .before .before .before .before .pre .1 .0 .lent) (c .before .before .before .before .before .before .before .before .before .before .args .slot))
+
+pub values-add-given : (t : ℕ) → values-lts.Need-add-given (values-cs t) (values-at t) values.Post values-Inv-loop values-μ-loop
+values-add-given t c = omega (arith, (part-stands (c .before .before .before .before .before .before .before .before .before .before .before .pre .1 .1 .1 .1 .0 .below) (c .before .before .before .before .before .before .before .before .before .before .before .pre .1 .1 .1 .1 .1) Interfaces (c .before .before .before .before .before .before .before .before .before .before .before .pre .1 .1 .1 .1 .1 .end .cut .interfaces) (c .before .before .before .before .before .loop .at) (stands _ _ _ (c .before .before .before .before .seek .ensures) (c .before .before .q .given .1))) .below, rows-few (c .before .before .before .before .before .before .before .before .before .before .before .pre .1 .0 .lent) (c .before .before .before .before .before .before .before .before .before .before .before .args .slot))
 
 pub values-given-requires : (t : ℕ) → values-lts.Need-given-requires (values-cs t) (values-at t) values.Post values-Inv-loop values-μ-loop
-values-given-requires t c κs = (omega (arith, c .before .before .before .before .before .before .before .before .before .before .pre .0), (values-here _ _ _ _ _ _ _ _ _ _ _ _ (c .before .before .before .before .before .before .before .before .before .before .pre .1 .0) (c .before .before .before .before .before .loop .inv), (c .before .before .before .before .before .before .before .before .before .before .pre .1 .1 .0, (c .before .before .before .before .before .before .before .before .before .before .pre .1 .1 .1 .0, (record { below = (stands _ _ _ (c .before .before .before .before .next .ensures) (c .before .before .q .given .1)) .below }, c .before .before .before .before .before .loop .inv .handle)))))
+values-given-requires t c κs = (omega (arith, c .before .before .before .before .before .before .before .before .before .before .before .pre .0), (values-here _ _ _ _ _ _ _ _ _ _ _ _ (c .before .before .before .before .before .before .before .before .before .before .before .pre .1 .0) (c .before .before .before .before .before .loop .inv .1), (c .before .before .before .before .before .before .before .before .before .before .before .pre .1 .1 .0, (c .before .before .before .before .before .before .before .before .before .before .before .pre .1 .1 .1 .0, (record { below = (part-stands (c .before .before .before .before .before .before .before .before .before .before .before .pre .1 .1 .1 .1 .0 .below) (c .before .before .before .before .before .before .before .before .before .before .before .pre .1 .1 .1 .1 .1) Interfaces (c .before .before .before .before .before .before .before .before .before .before .before .pre .1 .1 .1 .1 .1 .end .cut .interfaces) (c .before .before .before .before .before .loop .at) (stands _ _ _ (c .before .before .before .before .seek .ensures) (c .before .before .q .given .1))) .below }, c .before .before .before .before .before .loop .inv .1 .handle)))))
 
 pub values-enum-known-a : (t : ℕ) → values-lts.Need-enum-known-a (values-cs t) (values-at t) values.Post values-Inv-loop values-μ-loop
 values-enum-known-a t c = search needs
@@ -122,16 +127,16 @@ pub values-enum-told-2 : (t : ℕ) → values-lts.Need-enum-told-2 (values-cs t)
 values-enum-told-2 t c = search needs
 
 pub values-same-length-2 : (t : ℕ) → values-lts.Need-same-length-2 (values-cs t) (values-at t) values.Post values-Inv-loop values-μ-loop
-values-same-length-2 t c = (c .before .before .before .before .given .kept .1 .1 .1 .0) ∙ since (c .before .before .before .before .before .before .before .before .before .before .loop .inv .run) .long
+values-same-length-2 t c = (c .before .before .before .before .given .kept .1 .1 .1 .0) ∙ since (c .before .before .before .before .before .before .before .before .before .before .loop .inv .1 .run) .long
 
 pub values-returns-2 : (t : ℕ) → values-lts.Need-returns-2 (values-cs t) (values-at t) values.Post values-Inv-loop values-μ-loop
-values-returns-2 t c = values-stop _ _ _ _ _ _ _ _ _ _ _ _ (c .before .before .before .before .before .before .before .before .before .before .before .before .before .before .before .pre .1 .0) (c .before .before .before .before .before .before .before .before .before .before .loop .inv) (stands _ _ _ (c .before .before .before .before .before .before .before .before .before .next .ensures) (c .before .before .before .before .before .before .before .q .given .1)) (c .before .before .before .before .given .ensures) (c .enum-told2 .given .1)
+values-returns-2 t c = values-stop _ _ _ _ _ _ _ _ _ _ _ _ (c .before .before .before .before .before .before .before .before .before .before .before .before .before .before .before .before .pre .1 .0) (c .before .before .before .before .before .before .before .before .before .before .loop .inv .1) (part-stands (c .before .before .before .before .before .before .before .before .before .before .before .before .before .before .before .before .pre .1 .1 .1 .1 .0 .below) (c .before .before .before .before .before .before .before .before .before .before .before .before .before .before .before .before .pre .1 .1 .1 .1 .1) Interfaces (c .before .before .before .before .before .before .before .before .before .before .before .before .before .before .before .before .pre .1 .1 .1 .1 .1 .end .cut .interfaces) (c .before .before .before .before .before .before .before .before .before .before .loop .at) (stands _ _ _ (c .before .before .before .before .before .before .before .before .before .seek .ensures) (c .before .before .before .before .before .before .before .q .given .1))) (c .before .before .before .before .given .ensures) (c .enum-told2 .given .1)
 
 pub values-add-k : (t : ℕ) → values-lts.Need-add-k (values-cs t) (values-at t) values.Post values-Inv-loop values-μ-loop
-values-add-k t c = omega (arith, c .before .before .before .before .before .before .before .before .before .before .before .loop .inv .few, (stands _ _ _ (c .before .before .before .before .before .before .before .before .before .before .next .ensures) (c .before .before .before .before .before .before .before .before .q .given .1)) .from, (stands _ _ _ (c .before .before .before .before .before .before .before .before .before .before .next .ensures) (c .before .before .before .before .before .before .before .before .q .given .1)) .below, rows-few (c .before .before .before .before .before .before .before .before .before .before .before .before .before .before .before .before .pre .1 .0 .lent) (c .before .before .before .before .before .before .before .before .before .before .before .before .before .before .before .before .args .slot))
+values-add-k t c = omega (arith, c .before .before .before .before .before .before .before .before .before .before .before .loop .inv .1 .few, (part-stands (c .before .before .before .before .before .before .before .before .before .before .before .before .before .before .before .before .before .pre .1 .1 .1 .1 .0 .below) (c .before .before .before .before .before .before .before .before .before .before .before .before .before .before .before .before .before .pre .1 .1 .1 .1 .1) Interfaces (c .before .before .before .before .before .before .before .before .before .before .before .before .before .before .before .before .before .pre .1 .1 .1 .1 .1 .end .cut .interfaces) (c .before .before .before .before .before .before .before .before .before .before .before .loop .at) (stands _ _ _ (c .before .before .before .before .before .before .before .before .before .before .seek .ensures) (c .before .before .before .before .before .before .before .before .q .given .1))) .from, (part-stands (c .before .before .before .before .before .before .before .before .before .before .before .before .before .before .before .before .before .pre .1 .1 .1 .1 .0 .below) (c .before .before .before .before .before .before .before .before .before .before .before .before .before .before .before .before .before .pre .1 .1 .1 .1 .1) Interfaces (c .before .before .before .before .before .before .before .before .before .before .before .before .before .before .before .before .before .pre .1 .1 .1 .1 .1 .end .cut .interfaces) (c .before .before .before .before .before .before .before .before .before .before .before .loop .at) (stands _ _ _ (c .before .before .before .before .before .before .before .before .before .before .seek .ensures) (c .before .before .before .before .before .before .before .before .q .given .1))) .below, rows-few (c .before .before .before .before .before .before .before .before .before .before .before .before .before .before .before .before .before .pre .1 .0 .lent) (c .before .before .before .before .before .before .before .before .before .before .before .before .before .before .before .before .before .args .slot))
 
 pub values-loop-less : (t : ℕ) → values-lts.Need-loop-less (values-cs t) (values-at t) values.Post values-Inv-loop values-μ-loop
-values-loop-less t c = omega (arith, (stands _ _ _ (c .before .before .before .before .before .before .before .before .before .before .next .ensures) (c .before .before .before .before .before .before .before .before .q .given .1)) .from, (stands _ _ _ (c .before .before .before .before .before .before .before .before .before .before .next .ensures) (c .before .before .before .before .before .before .before .before .q .given .1)) .below)
+values-loop-less t c = omega (arith, (stands _ _ _ (c .before .before .before .before .before .before .before .before .before .before .seek .ensures) (c .before .before .before .before .before .before .before .before .q .given .1)) .from, (stands _ _ _ (c .before .before .before .before .before .before .before .before .before .before .seek .ensures) (c .before .before .before .before .before .before .before .before .q .given .1)) .below)
 
 pub values-loop-again : (t : ℕ) → values-lts.Need-loop-again (values-cs t) (values-at t) values.Post values-Inv-loop values-μ-loop
-values-loop-again t c = values-again _ _ _ _ _ _ _ _ _ _ _ _ (c .before .before .before .before .before .before .before .before .before .before .before .before .before .before .before .before .pre .1 .0) (c .before .before .before .before .before .before .before .before .before .before .before .loop .inv) (stands _ _ _ (c .before .before .before .before .before .before .before .before .before .before .next .ensures) (c .before .before .before .before .before .before .before .before .q .given .1)) (c .before .before .before .before .before .given .ensures) (c .before .a .given .1)
+values-loop-again t c = (omega (arith, (stands _ _ _ (c .before .before .before .before .before .before .before .before .before .before .seek .ensures) (c .before .before .before .before .before .before .before .before .q .given .1)) .below), values-again _ _ _ _ _ _ _ _ _ _ _ _ (c .before .before .before .before .before .before .before .before .before .before .before .before .before .before .before .before .before .pre .1 .0) (c .before .before .before .before .before .before .before .before .before .before .before .loop .inv .1) (part-stands (c .before .before .before .before .before .before .before .before .before .before .before .before .before .before .before .before .before .pre .1 .1 .1 .1 .0 .below) (c .before .before .before .before .before .before .before .before .before .before .before .before .before .before .before .before .before .pre .1 .1 .1 .1 .1) Interfaces (c .before .before .before .before .before .before .before .before .before .before .before .before .before .before .before .before .before .pre .1 .1 .1 .1 .1 .end .cut .interfaces) (c .before .before .before .before .before .before .before .before .before .before .before .loop .at) (stands _ _ _ (c .before .before .before .before .before .before .before .before .before .before .seek .ensures) (c .before .before .before .before .before .before .before .before .q .given .1))) (c .before .before .before .before .before .given .ensures) (c .before .a .given .1) (omega arith))

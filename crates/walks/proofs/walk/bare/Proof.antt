@@ -5,27 +5,25 @@ use Rattle.walks.proofs.walk.bare.Reads as reads
 use Rattle.walks.proofs.walk.bare.Lts as lts
 use Rattle.sheet.proofs.part.passes.Reads as passes-reads
 use Rattle.sheet.proofs.row.row_at.Reads as row-at-reads
-use mathlib.Core.Path.{_≡_, refl, sym, _∙_}
-use mathlib.Core.Bool.{true}
+use mathlib.Core.Path.{_≡_, sym, _∙_}
 use Prim.Native.Nat.{_-_, _/_}
 use native.Mathlib.Omega.{arith}
-use borrow.Author.Tests.{ltb-true, not-true, not-false}
+use borrow.Author.Tests.{not-true, not-false}
 use denote.Ref.{now}
 use lib.ListN.{length}
 use Rattle.sheet.specs.Rows.{rows}
 use Rattle.sheet.proofs.RowLaws.{rows-length}
-use Rattle.walks.specs.Walk.{Bare}
-use Rattle.walks.proofs.BareLaws.{bare-end, bare-pass, bare-low, bare-high}
+use Rattle.walks.proofs.BareLaws.{Walking, walking, walking-on, bared-end, bared-low, bared-at}
 use borrow.Author.Needs.{needs}
 
 abbrev Inv-loop : tie.InvT-loop
-Inv-loop sheet from count at₀ at = (Bare (rows sheet) at → Bare (rows sheet) from)
+Inv-loop sheet from count at₀ at = Walking (rows sheet) from at
 
 abbrev μ-loop : tie.MeasureT-loop
 μ-loop sheet from count at₀ at = length sheet / 8 - at
 
 loop-holds : tie.Need-loop-holds Inv-loop μ-loop
-loop-holds c = λ x. x
+loop-holds c = walking (rows (now (c .before .args .sheet))) (c .before .args .from)
 
 row-at-requires : tie.Need-row-at-requires Inv-loop μ-loop
 row-at-requires c κs = search needs
@@ -34,10 +32,10 @@ passes-requires : tie.Need-passes-requires Inv-loop μ-loop
 passes-requires c κs = search needs
 
 returns : tie.Need-returns Inv-loop μ-loop
-returns c = λ y. (c .before .before .before .before .before .loop .inv) (bare-low (rows (now (c .before .before .before .before .before .before .before .args .sheet))) (c .before .before .before .before .before .loop .at) (omega (arith, c .before .before .before .before .loop-test .taken, rows-length (now (c .before .before .before .before .before .before .before .args .sheet)))) (c .before .before .before .row-at .ensures) (sym (c .before .before .passes .ensures) ∙ not-true _ (c .before .if1 .taken)) (c .if2 .taken))
+returns c = bared-low (c .before .before .before .before .before .loop .inv) (omega (arith, c .before .before .before .before .loop-test .taken, rows-length (now (c .before .before .before .before .before .before .before .args .sheet)))) (c .before .before .before .row-at .ensures) (sym (c .before .before .passes .ensures) ∙ not-true _ (c .before .if1 .taken)) (c .if2 .taken)
 
 returns-2 : tie.Need-returns-2 Inv-loop μ-loop
-returns-2 c = λ y. (c .before .before .before .before .before .loop .inv) (bare-high (rows (now (c .before .before .before .before .before .before .before .args .sheet))) (c .before .before .before .before .before .loop .at) (omega (arith, c .before .before .before .before .loop-test .taken, rows-length (now (c .before .before .before .before .before .before .before .args .sheet)))) (c .before .before .before .row-at .ensures) (sym (c .before .before .passes .ensures) ∙ not-true _ (c .before .if1 .taken)) (ltb-true 6 _ y))
+returns-2 c = bared-at (c .before .before .before .before .before .loop .inv) (omega (arith, c .before .before .before .before .loop-test .taken, rows-length (now (c .before .before .before .before .before .before .before .args .sheet)))) (c .before .before .before .row-at .ensures) (sym (c .before .before .passes .ensures) ∙ not-true _ (c .before .if1 .taken)) (λ z. omega (arith, c .if2 .left))
 
 add-at : tie.Need-add-at Inv-loop μ-loop
 add-at c = omega arith
@@ -46,10 +44,10 @@ loop-less : tie.Need-loop-less Inv-loop μ-loop
 loop-less c = omega arith
 
 loop-again : tie.Need-loop-again Inv-loop μ-loop
-loop-again c = λ x. (c .before .before .before .before .loop .inv) (bare-pass (rows (now (c .before .before .before .before .before .before .args .sheet))) (c .before .before .before .before .loop .at) (omega (arith, c .before .before .before .loop-test .taken, rows-length (now (c .before .before .before .before .before .before .args .sheet)))) (c .before .before .row-at .ensures) (sym (c .before .passes .ensures) ∙ not-false _ (c .if1 .left)) x)
+loop-again c = walking-on (c .before .before .before .before .loop .inv) (omega (arith, c .before .before .before .loop-test .taken, rows-length (now (c .before .before .before .before .before .before .args .sheet)))) (c .before .before .row-at .ensures) (sym (c .before .passes .ensures) ∙ not-false _ (c .if1 .left))
 
 returns-3 : tie.Need-returns-3 Inv-loop μ-loop
-returns-3 c = λ y. (c .before .loop .inv) (bare-end (rows (now (c .before .before .before .args .sheet))) (c .before .loop .at) (omega (arith, c .loop-test .left, rows-length (now (c .before .before .before .args .sheet)))))
+returns-3 c = bared-end (c .before .loop .inv) (omega (arith, c .loop-test .left, rows-length (now (c .before .before .before .args .sheet))))
 
 pub bare-spec : {M : Type 1} → statement M
 bare-spec =
