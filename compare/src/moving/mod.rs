@@ -60,7 +60,8 @@ pub fn mutants(count: u64, seed: u64) -> u64 {
             }
         }
     }
-    println!("{} broken reckonings, {unnoticed} not noticed", MUTANTS.len());
+    let calls = Calls::new(count, seed).count();
+    println!("{} broken reckonings over {calls} calls each, {unnoticed} not noticed", MUTANTS.len());
     unnoticed
 }
 

@@ -1,5 +1,5 @@
 -- The answer, by the tests that led to it.
-use mathlib.Core.Path.{_≡_, refl, sym, ap, _∙_}
+use mathlib.Core.Path.{_≡_, sym}
 use mathlib.Core.Bool.{true, false}
 use mathlib.Core.List.{List}
 use Prim.Native.Nat.{ℕ, suc, _+_, _-_, _≤_, _<_}
@@ -7,7 +7,7 @@ use native.Mathlib.Omega.{arith}
 use lib.ListN.{length}
 use borrow.Author.Tests.{lt-ltb, le-ltb}
 use Rattle.moving.specs.declared.Peak.{Peak}
-use Rattle.moving.specs.Moving.{total, along, totals, anyOver, Answer, refused, outcome, moved}
+use Rattle.moving.specs.Moving.{total, totals, anyOver, Answer, refused, outcome, moved}
 use Rattle.moving.specs.Slides.{Slid}
 use Rattle.moving.specs.Promises.{Promises}
 use Rattle.moving.proofs.SlideLaws.{along-length}

@@ -1,16 +1,16 @@
 -- The promises hold of every call.
-use mathlib.Core.Path.{_≡_, refl, sym, ap, _∙_, subst}
+use mathlib.Core.Path.{_≡_, refl, sym, _∙_, subst}
 use mathlib.Core.Bool.{Bool, true, false, _||_}
-use mathlib.Core.List.{List, [], _∷_}
-use Prim.Native.Nat.{ℕ, zero, suc, _+_, _*_, _-_, _≤_, _<_}
+use mathlib.Core.List.{List}
+use Prim.Native.Nat.{ℕ, _+_, _-_, _≤_, _<_}
 use native.Mathlib.Omega.{arith}
 use lib.ListN.{length, getD, drop, List·getD-append}
 use lib.Dec.{ltb}
-use borrow.Author.Tests.{ltb-true, ltb-false, lt-ltb, le-ltb}
+use borrow.Author.Tests.{ltb-true, ltb-false, le-ltb}
 use Rattle.words.specs.Words.{over}
 use Rattle.words.proofs.WordLaws.{over-length, over-kept}
-use Rattle.moving.specs.Moving.{total, places, along, totals, largestOf, placeOf, outside, anyOver, Answer, refused, refuseIf, accepted, outcome, lentAfter, moved}
-use Rattle.moving.specs.Promises.{Width, Small, Refused, Accepted, Promises, wrongWidth, countOver, tooFew, otherwise}
+use Rattle.moving.specs.Moving.{total, places, totals, largestOf, placeOf, outside, anyOver, Answer, refused, refuseIf, accepted, outcome, lentAfter, moved}
+use Rattle.moving.specs.Promises.{Width, Small, Accepted, Promises, wrongWidth, countOver, tooFew, otherwise}
 use Rattle.moving.proofs.SumLaws.{last-plain, small-at, total-small, over-found}
 use Rattle.moving.proofs.PeakLaws.{largest-most, largest-stands, place-first, place-upto, none-largest, none-place}
 use Rattle.moving.proofs.SlideLaws.{along-length, along-at}
@@ -53,14 +53,14 @@ module _ (counts : List ℕ) (w : ℕ) (lent : List ℕ) where
     refusal = refl;
     count = count-is;
     plain = λ leg h k.
-      let p = leg + 1 - w in
-      let i : p < length T = omega (arith, count-is) in
-      written-at p i ∙ total-at p i ∙ sym (last-plain w counts p leg (omega arith));
+        let p = leg + 1 - w in
+        let i : p < length T = omega (arith, count-is) in
+        written-at p i ∙ total-at p i ∙ sym (last-plain w counts p leg (omega arith));
     among = λ h. let s = largest-stands T h in (s .within, written-at (placeOf (largestOf T) T) (s .within) ∙ s .there);
     most = λ p h. rw (written-at p h) (largest-most T p);
     first = λ p h.
-      let i : p < length T = omega (arith, place-upto (largestOf T) T) in
-      rw (written-at p i) (omega (arith, largest-most T p, place-first (largestOf T) T p h));
+        let i : p < length T = omega (arith, place-upto (largestOf T) T) in
+        rw (written-at p i) (omega (arith, largest-most T p, place-first (largestOf T) T p h));
     none = λ h. let e : length T ≡ 0 = omega (arith, count-is) in (e, none-largest T e, none-place (largestOf T) T e);
     fits = λ p h. rw (written-at p h, total-at p h) (omega (arith, total-small w counts p small, wide .high));
     long = over-length T lent (omega (arith, count-is));

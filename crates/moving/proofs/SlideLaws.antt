@@ -1,16 +1,16 @@
 -- The loops that sum the first counts and that move the window.
-use mathlib.Core.Path.{_≡_, refl, sym, ap, _∙_}
+use mathlib.Core.Path.{_≡_, refl, sym, _∙_}
 use mathlib.Core.Bool.{false}
 use mathlib.Core.List.{List, [], _∷_, _++_, append-assoc}
-use Prim.Native.Nat.{ℕ, zero, suc, _+_, _*_, _-_, _≤_, _<_, max}
+use Prim.Native.Nat.{ℕ, zero, suc, _+_, _-_, _≤_, _<_, max}
 use native.Mathlib.Omega.{arith}
 use native.Mathlib.Decide.{ℕ-discrete}
 use native.Mathlib.Numerals.{add-one}
 use lib.ListN.{length, take, drop, getD, set, length-append, length-set, List·getD-append}
 use lib.Seq.{drop-cons, set-at, getD-at}
-use Rattle.moving.specs.Moving.{sum, total, along, largestOf, placeOf, anyOver}
-use Rattle.moving.specs.Slides.{Summable, Slidable, Slid}
-use Rattle.moving.proofs.SumLaws.{sum-last, small-at, first-small, total-small, total-added, total-taken}
+use Rattle.moving.specs.Moving.{sum, total, along, largestOf, anyOver}
+use Rattle.moving.specs.Slides.{Summable, Slid}
+use Rattle.moving.proofs.SumLaws.{sum-last, small-at, sum-small, total-small, total-added, total-taken}
 use Rattle.moving.proofs.PeakLaws.{largest-more, place-new, place-old}
 
 -- ---- along
@@ -19,13 +19,13 @@ pub along-length : (n : ℕ) (f : ℕ → ℕ) → length (along n f) ≡ n
 along-length zero f = refl
 along-length (suc n) f = omega (arith, length-append (along n f) (f n ∷ []), along-length n f)
 
+at-more : (n : ℕ) (f : ℕ → ℕ) (p : ℕ) → (p < n → getD (along n f) p 0 ≡ f p) → Dec (p ≡ n) → p < suc n → getD (along n f ++ (f n ∷ [])) p 0 ≡ f p
+at-more n f p before (yes e) h = rw e (getD-at (along n f) (f n) [] 0 n (along-length n f))
+at-more n f p before (no d) h = List·getD-append (along n f) (f n ∷ []) 0 p (omega (arith, along-length n f)) ∙ before (omega arith)
+
 pub along-at : (n : ℕ) (f : ℕ → ℕ) (p : ℕ) → p < n → getD (along n f) p 0 ≡ f p
 along-at zero f p h = absurd (omega arith)
-along-at (suc n) f p h = by (ℕ-discrete p n)
-  where
-    by : Dec (p ≡ n) → getD (along n f ++ (f n ∷ [])) p 0 ≡ f p
-    by (yes e) = rw e (getD-at (along n f) (f n) [] 0 n (along-length n f))
-    by (no d) = List·getD-append (along n f) (f n ∷ []) 0 p (omega (arith, along-length n f)) ∙ along-at n f p (omega arith)
+along-at (suc n) f p h = at-more n f p (along-at n f p) (ℕ-discrete p n) h
 
 -- ---- the first counts
 
@@ -40,7 +40,7 @@ module _ {counts : List ℕ} {n : ℕ} (s : Summable counts n) where
 
   module _ {so-far i : ℕ} (g : Summing counts n so-far i) where
     pub summing-fits : i < n → so-far + getD counts i 0 < 18446744073709551616
-    summing-fits h = omega (arith, s .few, g .is, first-small i counts (s .small), small-at counts (s .small) i)
+    summing-fits h = omega (arith, s .few, g .is, sum-small i counts (s .small), small-at counts (s .small) i)
 
     pub summing-again : i < n → Summing counts n (so-far + getD counts i 0) (i + 1)
     summing-again h = record { upto = omega arith; is = rw (add-one i) (omega (arith, g .is, sum-last i counts)) }

@@ -1,5 +1,5 @@
 -- Sums of counts: one count more at either end, the window's move, and that no sum wraps.
-use mathlib.Core.Path.{_≡_, refl, sym, ap, _∙_}
+use mathlib.Core.Path.{_≡_, refl, sym, _∙_}
 use mathlib.Core.Bool.{Bool, true, false, _||_}
 use mathlib.Core.List.{List, [], _∷_}
 use Prim.Native.Nat.{ℕ, zero, suc, _+_, _*_, _-_, _≤_, _<_}
@@ -10,7 +10,7 @@ use lib.Dec.{ltb}
 use lib.Seq.{drop-cons, drop-drop, getD-drop, drop-length}
 use borrow.Author.Tests.{ltb-true, ltb-false, lt-ltb, le-ltb}
 use Rattle.moving.specs.Moving.{sum, total, anyOver}
-use Rattle.moving.specs.Promises.{Small, lastOf, Moves}
+use Rattle.moving.specs.Promises.{lastOf, Moves}
 
 -- ---- one count more
 
@@ -67,7 +67,7 @@ small-at [] e i = omega arith
 small-at (x ∷ l) e zero = ltb-false 4294967295 x (either-false (ltb 4294967295 x) (anyOver l) e .0)
 small-at (x ∷ l) e (suc i) = small-at l (either-false (ltb 4294967295 x) (anyOver l) e .1) i
 
-sum-small : (n : ℕ) (l : List ℕ) → anyOver l ≡ false → sum (take n l) ≤ 4294967295 * n
+pub sum-small : (n : ℕ) (l : List ℕ) → anyOver l ≡ false → sum (take n l) ≤ 4294967295 * n
 sum-small zero l e = omega arith
 sum-small (suc n) [] e = omega arith
 sum-small (suc n) (x ∷ l) e = omega (arith, sum-small n l (either-false (ltb 4294967295 x) (anyOver l) e .1), ltb-false 4294967295 x (either-false (ltb 4294967295 x) (anyOver l) e .0))
@@ -76,9 +76,6 @@ over-drop : (p : ℕ) (l : List ℕ) → anyOver l ≡ false → anyOver (drop p
 over-drop zero l e = e
 over-drop (suc p) [] e = refl
 over-drop (suc p) (x ∷ l) e = over-drop p l (either-false (ltb 4294967295 x) (anyOver l) e .1)
-
-pub first-small : (n : ℕ) (counts : List ℕ) → anyOver counts ≡ false → sum (take n counts) ≤ 4294967295 * n
-first-small n counts e = sum-small n counts e
 
 pub total-small : (n : ℕ) (counts : List ℕ) (p : ℕ) → anyOver counts ≡ false → total n counts p ≤ 4294967295 * n
 unfolding total
@@ -90,15 +87,13 @@ pub record Over (counts : List ℕ) : Type 0 where
   pub within : leg < length counts
   pub large : 4294967295 < getD counts leg 0
 
+over-more : (x : ℕ) (l : List ℕ) → (anyOver l ≡ true → Over l) → (b : Bool) → ltb 4294967295 x ≡ b → (b || anyOver l) ≡ true → Over (x ∷ l)
+over-more x l later true q e = record { leg = 0; within = omega arith; large = ltb-true 4294967295 x q }
+over-more x l later false q e = let r = later e in record { leg = suc (r .leg); within = omega (arith, r .within); large = r .large }
+
 pub over-found : (counts : List ℕ) → anyOver counts ≡ true → Over counts
 over-found [] e = let z : _≡_ {A = ℕ} 0 1 = cc in absurd (omega arith)
-over-found (x ∷ l) e = by-first (ltb 4294967295 x) refl
-  where
-    by-first : (b : Bool) → ltb 4294967295 x ≡ b → Over (x ∷ l)
-    by-first true q = record { leg = 0; within = omega arith; large = ltb-true 4294967295 x q }
-    by-first false q =
-        let r = over-found l (rw q at e) in
-        record { leg = suc (r .leg); within = omega (arith, r .within); large = r .large }
+over-found (x ∷ l) e = over-more x l (over-found l) (ltb 4294967295 x) refl e
 
 -- ---- the loop that looks for one
 

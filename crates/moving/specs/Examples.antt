@@ -1,7 +1,6 @@
 -- Computed examples of the moving totals.
 use mathlib.Core.Path.{_≡_, refl}
-use mathlib.Core.List.{List, [], _∷_}
-use Prim.Native.Nat.{ℕ}
+use mathlib.Core.List.{[], _∷_}
 use lib.ListN.{replicate}
 use Rattle.moving.specs.Moving.{total, totals, refused, outcome, moved, saidOf}
 

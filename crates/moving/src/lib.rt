@@ -1,6 +1,5 @@
 // Moving totals along the coast (document 02, wish 11).
 ghost use mathlib.Core.Path.{_≡_};
-ghost use mathlib.Core.Bool.{false};
 ghost use lib.ListN.{length, take};
 ghost use Rattle.moving.specs.Moving.{sum, anyOver, answerOf, moved};
 ghost use Rattle.moving.specs.Slides.{Summable, Slidable, Slid};

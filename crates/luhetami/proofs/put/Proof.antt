@@ -6,7 +6,7 @@ use Rattle.luhetami.proofs.put.Lts as lts
 use mathlib.Core.Path.{_≡_, refl}
 use Prim.Native.Nat.{_-_}
 use lib.ListN.{length}
-use Rattle.luhetami.proofs.ExportLaws.{Putting, put-again, put-end}
+use Rattle.words.proofs.WordLaws.{Putting, put-start, put-again, put-end}
 use native.Mathlib.Omega.{arith}
 
 abbrev Inv-loop : tie.InvT-loop
@@ -16,7 +16,7 @@ abbrev μ-loop : tie.MeasureT-loop
 μ-loop answer₀ words i₀ answer i = length words - i
 
 loop-holds : tie.Need-loop-holds Inv-loop μ-loop
-loop-holds c = record { upto = omega arith; long = refl; same = refl }
+loop-holds c = put-start
 
 mul-answer : tie.Need-mul-answer Inv-loop μ-loop
 mul-answer c = omega arith
