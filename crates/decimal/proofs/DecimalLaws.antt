@@ -1,16 +1,15 @@
 -- The bytes of a number, in any width: how many, stored one by one, and that different numbers have different bytes.
 use mathlib.Core.Path.{_≡_, refl, sym, ap, _∙_}
 use mathlib.Core.List.{List, [], _∷_, _++_}
-use Prim.Native.Nat.{ℕ, zero, suc, _+_, _*_, _-_, _^_, _/_, _%_, _≤_, _<_}
+use Prim.Native.Nat.{ℕ, zero, suc, _+_, _-_, _^_, _/_, _%_, _≤_, _<_}
 use native.Mathlib.Omega.{arith}
 use native.Mathlib.Decide.{ℕ-discrete}
-use native.Mathlib.Numerals.{add-one}
 use native.Mathlib.Nat.{pow-zero, pow-suc}
-use lib.ListN.{length, getD, take, set, length-append, length-replicate}
+use lib.ListN.{length, getD, take, set, length-append, List·getD-append}
 use lib.Seq.{sets, take-at, getD-at}
 use borrow.Author.Tests.{eq-eqb, ne-eqb}
 use Rattle.decimal.specs.Decimal.{digitLeft, before, justified, spaces}
-use Rattle.decimal.proofs.StoreLaws.{sets-append, sets-last}
+use Rattle.decimal.proofs.StoreLaws.{sets-last}
 
 -- ---- how many
 
@@ -105,6 +104,27 @@ justified-tells (suc k) m n h p q e =
     omega (arith, s .last)
 
 -- ---- the last byte of a number is a digit, and what comes before a short number is spaces
+
+-- a number with few digits has room where there are more
+pub wider : (e d n k : ℕ) → e + d ≡ k → n < 10 ^ d → n < 10 ^ k
+wider zero d n k h p = let z : d ≡ k = omega arith in rw z at p
+wider (suc e) d n k h p = wider e (suc d) n k (omega arith) (omega (arith, pow-suc 10 d))
+
+-- at place i there are d bytes further to the right, and the number has at most so many digits
+before-blank : (k n i d : ℕ) → i + suc d ≡ k → n < 10 ^ d → getD (before k n) i 0 ≡ 32
+unfolding before digitLeft
+before-blank zero n i d h p = absurd (omega arith)
+before-blank (suc k) n i zero h p =
+    let z : n ≡ 0 = omega (arith, pow-zero 10) in
+    getD-at (before k (n / 10)) (digitLeft n) [] 0 i (before-length k (n / 10) ∙ omega arith) ∙ rw (eq-eqb n 0 z)
+before-blank (suc k) n i (suc d) h p =
+    List·getD-append (before k (n / 10)) (digitLeft n ∷ []) 0 i (omega (arith, before-length k (n / 10))) ∙
+    before-blank k (n / 10) i d (omega arith) (omega (arith, pow-suc 10 d))
+
+pub justified-blank : (k n i d : ℕ) → i + suc d ≡ k → n / 10 < 10 ^ d → getD (justified (suc k) n) i 0 ≡ 32
+unfolding justified
+justified-blank k n i d h p =
+    List·getD-append (before k (n / 10)) ((48 + n % 10) ∷ []) 0 i (omega (arith, before-length k (n / 10))) ∙ before-blank k (n / 10) i d h p
 
 pub justified-last : (k n : ℕ) → getD (justified (suc k) n) k 0 ≡ 48 + n % 10
 unfolding justified
