@@ -7,6 +7,7 @@
  *     luhetami_expand         a sheet with prototypes to one without
  *     luhetami_write_lines    rows of a sheet to lines of text
  *     luhetami_moving         counts of legs to moving totals
+ *     luhetami_pages          an expanded document and its ledger to pages of text
  *
  * Rules for all of them:
  *
@@ -19,7 +20,7 @@
  *   not disturb each other. A call nests as deep as max_depth and takes less than 4 KiB of stack for each level: 2 MiB
  *   suffice for 512 (measured, not proved).
  * - The result is the refusal, 0 where the call is accepted. The same number is the first word of answer. An answer that is
- *   too short is refused (1, 12, 14 or 27, by function) before anything else, and then no word of it is written.
+ *   too short is refused (1, 12, 14, 27 or 29, by function) before anything else, and then no word of it is written.
  * - Where a call is refused, every lent slice keeps its words, but for answer, and work.
  */
 #ifndef LUHETAMI_H
@@ -87,13 +88,18 @@ enum luhetami_refusal {
     /* luhetami_moving, in this order */
     LUHETAMI_WIDTH = 25,     /* a width outside 1 to 64 */
     LUHETAMI_COUNT = 26,     /* a count over 4,294,967,295 */
-    LUHETAMI_FEW_TOTALS = 27 /* totals too short, or answer too short */
+    LUHETAMI_FEW_TOTALS = 27, /* totals too short, or answer too short */
+
+    /* luhetami_pages, in this order */
+    LUHETAMI_PAGES_MALFORMED = 28, /* no expanded document, a ledger not of three words a node, or work too short */
+    LUHETAMI_PAGES_BYTES = 29      /* text too short, or answer too short */
 };
 
 /* The words of answer. */
 #define LUHETAMI_EXPAND_ANSWER ((size_t)7) /* refusal, first place, second place, nodes, scopes, charges, rows of out */
 #define LUHETAMI_LINES_ANSWER ((size_t)3)  /* refusal, place, count */
 #define LUHETAMI_MOVING_ANSWER ((size_t)4) /* refusal, totals, largest, place */
+#define LUHETAMI_PAGES_ANSWER ((size_t)2)  /* refusal, bytes */
 
 /* The most legs that a moving total is of, and the largest count of a leg. */
 #define LUHETAMI_MOST_WIDTH UINT32_C(64)
@@ -101,6 +107,15 @@ enum luhetami_refusal {
 
 /* The totals that luhetami_moving writes, for a width of 1 to 64: one for each leg from the width-th on. More may be lent. */
 #define LUHETAMI_TOTALS(counts_len, width) ((counts_len) < (size_t)(width) ? (size_t)0 : (counts_len) - (size_t)(width) + 1)
+
+/* A page: its lines, the bytes of a line with its end, and the nodes that it has room for. */
+#define LUHETAMI_PAGE_LINES ((size_t)60)
+#define LUHETAMI_LINE_BYTES ((size_t)73)
+#define LUHETAMI_PAGE_NODES ((size_t)59)
+
+/* What luhetami_pages needs: bytes of text for so many nodes, words of work for so many words of a document. More may be lent. */
+#define LUHETAMI_PAGES_TEXT(nodes) (((size_t)(nodes) + 58) / 59 * 60 * 73)
+#define LUHETAMI_PAGES_WORK(document_len) ((size_t)16 * ((size_t)(document_len) / 8))
 
 /*
  * Expands the prototypes of a scene.
@@ -175,6 +190,29 @@ uint32_t luhetami_moving(const uint64_t *counts, size_t counts_len,
                          uint32_t width,
                          uint64_t *totals, size_t totals_len,
                          uint64_t *answer, size_t answer_len);
+
+/*
+ * Pages for the logbook: for each node of an expanded document, in the order of its id, a line of six numbers.
+ *
+ * A page is 60 lines of 72 bytes and a line end, byte 10. The first has the page number, from 1, right-justified in 72 bytes. Each
+ * further one has six numbers right-justified in 12 bytes: node id, scope, document, source id, type name, DEF name. The last is
+ * blank where the node has none. The last page is filled with blank lines. For no nodes there is no page.
+ *
+ * document    an expanded document, as luhetami_expand writes one or anybody else. It is only read; no row cap binds it.
+ * ledger      three words for each node of the document, no more and no less: scope, document, source id. They are printed as they
+ *             are. It is only read.
+ * text        LUHETAMI_PAGES_TEXT(nodes) bytes, or more. Accepted: the pages, answer[1] bytes; bytes past them stay. Refused, all
+ *             stay.
+ * work        LUHETAMI_PAGES_WORK(document_len) words, or more; nothing is said of what it holds after. Less is refused with 28.
+ * answer      2 words: refusal, bytes (0 where refused). Words past the second stay.
+ *
+ * A document of more than 4,294,967,295 nodes is refused with 28: an id is below LUHETAMI_NONE.
+ */
+uint32_t luhetami_pages(const uint32_t *document, size_t document_len,
+                        const uint32_t *ledger, size_t ledger_len,
+                        uint8_t *text, size_t text_len,
+                        uint32_t *work, size_t work_len,
+                        uint64_t *answer, size_t answer_len);
 
 #ifdef __cplusplus
 }

@@ -1,6 +1,6 @@
 #!/usr/bin/env python3
 """Makes the scenes from flights.txt: NAME.lines, NAME.expected, the library's files, and the lists in README.md; and
-season.expected, the table of season.counts.
+season.expected, the table of season.counts; and logbook/, the expanded document of a scene, its ledger and their page.
 
 The expected answers come from reckon.py, and never from the program. Run again, it writes the same bytes.
 """
@@ -29,6 +29,8 @@ LIBRARIES = {
     "corrected-file": [("whaleFile", "whales"), ("belugaFile", "belugas"), ("whaleFile", "whales-corrected")],
 }
 SEASON_WIDTH = 3
+LOGBOOK = "defaults"
+PAGE_LINES = 60
 
 
 class Names:
@@ -208,6 +210,18 @@ def season(counts, width):
     return "".join(line + "\n" for line in lines)
 
 
+def logbook(rows, ledger):
+    """The pages of an expanded document: for each node its id, its ledger's entry, its type name and its DEF name, if any."""
+    nodes = [(i, *entry, r[1], r[2]) for i, (entry, r) in enumerate(zip(ledger, (r for r in rows if r[0] == 2)))]
+    fields = [["" if column == 5 and n == NONE else n for column, n in enumerate(node)] for node in nodes]
+    lines = ["".join(f"{n:>12}" for n in node) for node in fields]
+    text = []
+    for page, first in enumerate(range(0, len(lines), PAGE_LINES - 1), 1):
+        text.append(f"{page:>72}")
+        text += (lines[first : first + PAGE_LINES - 1] + [" " * 72] * PAGE_LINES)[: PAGE_LINES - 1]
+    return "".join(line + "\n" for line in text)
+
+
 def main():
     names = Names()
     scenes = read_flights(names)
@@ -236,6 +250,12 @@ def main():
 
     counts = [int(count) for count in (FOLDER / "season.counts").read_text().split()]
     (FOLDER / "season.expected").write_text(season(counts, SEASON_WIDTH))
+
+    _, out, ledger, _ = expand(words_of(sheets[LOGBOOK]), [], *LIMITS)
+    (FOLDER / "logbook").mkdir(exist_ok=True)
+    (FOLDER / "logbook" / "document.lines").write_bytes(lines_of(out))
+    (FOLDER / "logbook" / "ledger.txt").write_text("".join("".join(f"{n:11}" for n in entry) + "\n" for entry in ledger))
+    (FOLDER / "logbook" / "expected.txt").write_text(logbook(out, ledger))
 
     page = FOLDER / "README.md"
     lists = page_lists(scenes, answers, names)

@@ -12,7 +12,7 @@ use crate::frames::{GARBAGE, LEDGER, OUT, SCOPES};
 use crate::linked::{self, Lent, LINKED};
 use crate::memory::{faults, now, Fresh};
 use crate::scenes::{large, Scene, MOST_CHARGES};
-use crate::{moving, reckon, rust};
+use crate::{moving, pages, reckon, rust};
 
 /// A scene, the same at half its size, and how many times the original's speed is wanted.
 struct Bench {
@@ -404,7 +404,8 @@ pub fn run(part: &str) -> u64 {
         }
         println!();
     }
-    let wrong = all.iter().filter(|m| m.library.as_ref().is_some_and(|l| !l.right)).count() as u64 + moving::bench(part);
+    let wrong = all.iter().filter(|m| m.library.as_ref().is_some_and(|l| !l.right)).count() as u64;
+    let wrong = wrong + moving::bench(part) + pages::bench(part);
     println!("{wrong} wrong answers");
     wrong
 }

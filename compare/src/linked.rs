@@ -45,6 +45,26 @@ extern "C" {
         answer: *mut u64,
         answer_length: usize,
     ) -> u32;
+    fn luhetami_pages(
+        document: *const u32,
+        document_length: usize,
+        ledger: *const u32,
+        ledger_length: usize,
+        text: *mut u8,
+        text_length: usize,
+        work: *mut u32,
+        work_length: usize,
+        answer: *mut u64,
+        answer_length: usize,
+    ) -> u32;
+    fn luhetami_write_lines(
+        words: *const u32,
+        words_length: usize,
+        lines: *mut u8,
+        lines_length: usize,
+        answer: *mut u32,
+        answer_length: usize,
+    ) -> u32;
 }
 
 /// One call of the library with a call's limits and these sheets.
@@ -98,5 +118,51 @@ pub fn moving(counts: &[u64], width: u32, totals: &mut [u64], answer: &mut [u64]
 
 #[cfg(not(feature = "library"))]
 pub fn moving(_: &[u64], _: u32, _: &mut [u64], _: &mut [u64]) -> u32 {
+    unreachable!("no library is linked")
+}
+
+/// One call of the library's pages.
+#[cfg(feature = "library")]
+pub fn pages(document: &[u32], ledger: &[u32], text: &mut [u8], work: &mut [u32], answer: &mut [u64]) -> u32 {
+    // Safety: every pointer comes with the length of its own slice, and the slices do not overlap.
+    unsafe {
+        luhetami_pages(
+            document.as_ptr(),
+            document.len(),
+            ledger.as_ptr(),
+            ledger.len(),
+            text.as_mut_ptr(),
+            text.len(),
+            work.as_mut_ptr(),
+            work.len(),
+            answer.as_mut_ptr(),
+            answer.len(),
+        )
+    }
+}
+
+#[cfg(not(feature = "library"))]
+pub fn pages(_: &[u32], _: &[u32], _: &mut [u8], _: &mut [u32], _: &mut [u64]) -> u32 {
+    unreachable!("no library is linked")
+}
+
+/// One call of the library's Write lines.
+#[cfg(feature = "library")]
+pub fn write_lines(words: &[u32], lines: &mut [u8], answer: &mut [u32]) -> u32 {
+    // Safety: every pointer comes with the length of its own slice, and the slices do not overlap.
+    unsafe {
+        luhetami_write_lines(
+            words.as_ptr(),
+            words.len(),
+            lines.as_mut_ptr(),
+            lines.len(),
+            answer.as_mut_ptr(),
+            answer.len(),
+        )
+    }
+}
+
+#[cfg(not(feature = "library"))]
+pub fn write_lines(_: &[u32], _: &mut [u8], _: &mut [u32]) -> u32 {
     unreachable!("no library is linked")
 }

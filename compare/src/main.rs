@@ -20,6 +20,7 @@ mod memory;
 mod moving;
 mod mutants;
 mod output;
+mod pages;
 mod pairs;
 mod picks;
 mod random;
@@ -57,6 +58,8 @@ compare pairs mutants COUNT SEED           every reckoning in which a limit show
 compare library COUNT SEED                 the linked static library (feature `library`)
 compare moving mutants COUNT SEED          moving totals: every broken reckoning over the small runs and COUNT random ones
 compare moving library COUNT SEED          moving totals: the linked static library
+compare pages mutants COUNT SEED           pages: every broken reckoning over the numbers of nodes and COUNT random documents
+compare pages library COUNT SEED           pages: the linked static library
 compare bench [PART]                       times of the original, the linked library and copying; scenes whose name has PART
 compare bench spin PART SECONDS            the library's calls alone, for a profiler
 compare bench small PART COUNT             the same on scenes that fit the caches, so many calls: time a node";
@@ -116,6 +119,7 @@ fn command() -> Result<u64, String> {
             Ok(0)
         }
         ["moving", "mutants", count, seed] => Ok(moving::mutants(number(count)?, number(seed)?)),
+        ["pages", "mutants", count, seed] => Ok(pages::mutants(number(count)?, number(seed)?)),
         ["bench"] => Ok(bench::run("")),
         ["bench", "spin", part, seconds] => Ok(bench::spin(part, number(seconds)?)),
         ["bench", "small", part, count] => Ok(bench::small(part, number(count)?)),
@@ -126,6 +130,8 @@ fn command() -> Result<u64, String> {
         ["library", count, seed] => Ok(library::run(number(count)?, number(seed)?)),
         #[cfg(feature = "library")]
         ["moving", "library", count, seed] => Ok(moving::library(number(count)?, number(seed)?)),
+        #[cfg(feature = "library")]
+        ["pages", "library", count, seed] => Ok(pages::library(number(count)?, number(seed)?)),
         _ => Err(USAGE.into()),
     }
 }

@@ -14,16 +14,25 @@ const SILENCE: Duration = Duration::from_secs(1);
 /// The kind of the row that begins a file of a library.
 const FILE_ROW: u32 = 12;
 
-/// The words of a file in Lines form.
+/// The words of a file in Lines form, for Expand: no more rows than it takes.
 pub fn read_sheet(path: &str) -> Result<Vec<u32>, Stop> {
-    let lines = read_bytes(path).map_err(|e| Stop::system(&format!("reading {path}"), e))?;
-    let rows = (lines.len() / ROW_BYTES).min(MOST_SHEET_ROWS);
+    read_rows(path, MOST_SHEET_ROWS)
+}
+
+/// The words of an expanded document in Lines form, of any length.
+pub fn read_document(path: &str) -> Result<Vec<u32>, Stop> {
+    read_rows(path, usize::MAX / ROW_BYTES - 1)
+}
+
+fn read_rows(path: &str, most: usize) -> Result<Vec<u32>, Stop> {
+    let lines = read_bytes(path, most).map_err(|e| Stop::system(&format!("reading {path}"), e))?;
+    let rows = (lines.len() / ROW_BYTES).min(most);
     let mut words = vec![0; rows * ROW_WORDS];
     match library::read_lines(&lines, &mut words) {
         Ok(_) => Ok(words),
         Err((refusal, place)) => {
             let what = match refusal {
-                12 if lines.len() > MOST_SHEET_ROWS * ROW_BYTES => format!("more than {MOST_SHEET_ROWS} rows"),
+                12 if lines.len() > most * ROW_BYTES => format!("more than {most} rows"),
                 12 => format!("{} bytes, not a multiple of {ROW_BYTES}", lines.len()),
                 13 => format!("line {place}, counted from 0, isn't eight numbers in {ROW_BYTES} bytes"),
                 _ => String::from("its lines"),
@@ -60,11 +69,11 @@ pub fn read_text(path: &str) -> io::Result<Vec<u8>> {
     Ok(text)
 }
 
-/// The bytes of a file, or of standard input for `-`. More than a sheet may have are not read to their end: one byte past
+/// The bytes of a file, or of standard input for `-`. More than so many rows are not read to their end: one byte past
 /// the last row is as much refused (12) as all the others would be.
-fn read_bytes(path: &str) -> io::Result<Vec<u8>> {
+fn read_bytes(path: &str, most_rows: usize) -> io::Result<Vec<u8>> {
     let mut source = open(path)?;
-    let most = MOST_SHEET_ROWS * ROW_BYTES + 1;
+    let most = most_rows * ROW_BYTES + 1;
     let mut bytes = Vec::new();
     let mut piece = vec![0; 1 << 20];
     let mut told = Instant::now();

@@ -59,6 +59,18 @@ mod c {
             answer: *mut u64,
             answer_len: usize,
         ) -> u32;
+        pub fn luhetami_pages(
+            document: *const u32,
+            document_len: usize,
+            ledger: *const u32,
+            ledger_len: usize,
+            text: *mut u8,
+            text_len: usize,
+            work: *mut u32,
+            work_len: usize,
+            answer: *mut u64,
+            answer_len: usize,
+        ) -> u32;
     }
 }
 
@@ -185,4 +197,31 @@ pub fn moving(counts: &[u64], width: u32, totals: &mut [u64]) -> Moving {
     };
     let [_, totals, largest, place] = answer;
     Moving { refusal, totals, largest, place }
+}
+
+/// What writing the pages answered.
+pub struct Paged {
+    pub refusal: u32,
+    pub bytes: u64,
+}
+
+/// The pages of an expanded document and its ledger.
+pub fn pages(document: &[u32], ledger: &[u32], text: &mut [u8], work: &mut Zeroed) -> Paged {
+    let mut answer = [0; 2];
+    // Safety: as in `expand`.
+    let refusal = unsafe {
+        c::luhetami_pages(
+            document.as_ptr(),
+            document.len(),
+            ledger.as_ptr(),
+            ledger.len(),
+            text.as_mut_ptr(),
+            text.len(),
+            work.as_mut_ptr(),
+            work.len(),
+            answer.as_mut_ptr(),
+            answer.len(),
+        )
+    };
+    Paged { refusal, bytes: answer[1] }
 }

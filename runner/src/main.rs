@@ -8,6 +8,7 @@ mod library;
 mod memory;
 mod moving;
 mod options;
+mod pages;
 
 use std::fs::File;
 use std::io::{self, BufWriter, Write};
@@ -84,6 +85,7 @@ fn run(command: &Command) -> Result<(), Stop> {
     match command {
         Command::Expand(options) => expand(options),
         Command::Moving(options) => moving::run(options),
+        Command::Pages(options) => pages::run(options),
         Command::Help => Ok(()),
     }
 }

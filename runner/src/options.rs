@@ -2,11 +2,12 @@
 
 use std::ffi::OsString;
 
-use crate::moving;
+use crate::{moving, pages};
 
 pub const USAGE: &str = "\
 usage: luhetami [OPTION]... SCENE.lines
        luhetami moving WIDTH COUNTS
+       luhetami pages DOCUMENT.lines LEDGER
 
 Expands the prototypes of a scene and writes the expanded rows, in Lines form, to standard output; the answer, in words and
 in numbers, goes to standard error. SCENE.lines may be - for standard input.
@@ -35,8 +36,20 @@ input. WIDTH is 1 to 64. For example, three legs at a time:
   ..
   accepted: totals 10, largest 8 of legs 3 to 5, at place 2 [0 10 8 2]
 
-The exit status is 0 where the call is accepted, the refusal's number (1 to 10, 12 to 14, 25 to 27) where it is refused, 64 where the
-arguments are wrong, 65 where a line of COUNTS is no number and 74 where the operating system refuses something.
+luhetami pages prints the logbook of an expanded document: pages of 60 lines of 72 bytes, each with its number and 59 nodes, in
+the order of their ids: node id, scope, document, source id, type name and DEF name, if any. LEDGER is what --ledger wrote. Either
+may be - for standard input. For example:
+
+  $ luhetami --ledger ledger.txt scenes/defaults.lines > expanded.lines
+  $ luhetami pages expanded.lines ledger.txt
+                                                                         1
+             0           1           0           0          13          21
+             1           0           0           1           7
+  ..
+  accepted: nodes 7, pages 1, bytes 4380 [0 4380]
+
+The exit status is 0 where the call is accepted, the refusal's number (1 to 10, 12 to 14, 25 to 29) where it is refused, 64 where the
+arguments are wrong, 65 where a line of COUNTS or LEDGER has no numbers and 74 where the operating system refuses something.
 ";
 
 pub struct Options {
@@ -53,6 +66,7 @@ pub struct Options {
 pub enum Command {
     Expand(Options),
     Moving(moving::Options),
+    Pages(pages::Options),
     Help,
 }
 
@@ -72,8 +86,12 @@ pub fn parse(arguments: impl Iterator<Item = OsString>) -> Result<Command, Strin
     let mut first = true;
     while let Some(argument) = arguments.next() {
         let argument = argument?;
-        if std::mem::take(&mut first) && argument == "moving" {
-            return parse_moving(arguments);
+        if std::mem::take(&mut first) {
+            match argument.as_str() {
+                "moving" => return parse_moving(arguments),
+                "pages" => return parse_pages(arguments),
+                _ => {}
+            }
         }
         if argument == "--help" {
             return Ok(Command::Help);
@@ -112,6 +130,18 @@ fn parse_moving(arguments: impl Iterator<Item = Result<String, String>>) -> Resu
     match <[String; 2]>::try_from(arguments) {
         Ok([width, file]) => Ok(Command::Moving(moving::Options { width: number(&width)?, file })),
         Err(arguments) => Err(format!("moving wants a width and a file, not {} arguments", arguments.len())),
+    }
+}
+
+/// The arguments of `pages`.
+fn parse_pages(arguments: impl Iterator<Item = Result<String, String>>) -> Result<Command, String> {
+    let arguments = arguments.collect::<Result<Vec<String>, String>>()?;
+    if arguments.iter().any(|argument| argument == "--help") {
+        return Ok(Command::Help);
+    }
+    match <[String; 2]>::try_from(arguments) {
+        Ok([document, ledger]) => Ok(Command::Pages(pages::Options { document, ledger })),
+        Err(arguments) => Err(format!("pages wants a document and a ledger, not {} arguments", arguments.len())),
     }
 }
 

@@ -15,7 +15,8 @@ use Rattle.lines.specs.declared.Field.{Field}
 use Rattle.lines.specs.declared.Field.the-variants.{Spaces, Number, Bad}
 use Rattle.ast.specs.Choice.{choose}
 use Rattle.lines.specs.Read.{withDigit, next, reads, fieldOf}
-use Rattle.lines.specs.Write.{digitLeft, before, field}
+use Rattle.decimal.specs.Decimal.{digitLeft, before, justified}
+use Rattle.lines.specs.Write.{field}
 
 reads-append : (f : Field) (a b : List ℕ) → reads f (a ++ b) ≡ reads (reads f a) b
 reads-append f [] b = refl
@@ -58,7 +59,7 @@ before-read (suc k) n h p =
     rw (before-read k (n / 10) (omega arith) (omega (arith, pow-suc 10 k))) (left-read n h)
 
 pub field-read : (n : ℕ) → n ≤ 4294967295 → fieldOf (field n) ≡ Number n
-unfolding field
+unfolding justified
 field-read n h =
     reads-append Spaces (before 10 (n / 10)) ((48 + n % 10) ∷ []) ∙
     rw (before-read 10 (n / 10) (omega arith) (omega arith)) (last-read n h)
@@ -158,7 +159,7 @@ shown l (suc k) h =
     rw (take-suc l k 0 h, reads-append Spaces (take k l) (getD l k 0 ∷ [])) (shows-next k (take k l) (fieldOf (take k l)) (getD l k 0) (shown l k (omega arith)))
 
 pub number-shown : (l : List ℕ) (n : ℕ) → 11 ≤ length l → fieldOf (take 11 l) ≡ Number n → (n ≤ 4294967295) × (field n ≡ take 11 l)
-unfolding field
+unfolding justified
 number-shown l n h e =
     let t = take-suc l 10 0 h in
     let f = reads-append Spaces (take 10 l) (getD l 10 0 ∷ []) in

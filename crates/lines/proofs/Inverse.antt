@@ -14,7 +14,7 @@ use Rattle.ast.specs.Choice.{choose}
 use Rattle.lines.specs.Answer.{Answer, accepted, refused}
 use Rattle.lines.specs.Read.{goodLine, numbers, goodLines, wordsOf, readLines}
 use Rattle.lines.specs.Write.{line, linesOf, writeLines}
-use Rattle.lines.proofs.ListLaws.{sets-front}
+use Rattle.decimal.proofs.StoreLaws.{sets-front}
 use Rattle.lines.proofs.ReadLaws.{words-length, all-good}
 use Rattle.lines.proofs.WriteLaws.{lines-length, all-fit}
 use Rattle.lines.proofs.LineLaws.{Words, line-read, lines-read, line-shown, lines-shown}

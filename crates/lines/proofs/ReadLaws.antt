@@ -12,7 +12,8 @@ use Rattle.lines.specs.declared.Field.{Field}
 use Rattle.ast.specs.Choice.{choose}
 use Rattle.lines.specs.Answer.{accepted, refused}
 use Rattle.lines.specs.Read.{next, reads, fieldOf, isNumber, valueOf, areNumbers, numbers, goodLine, goodLines, wordsOf, readLines}
-use Rattle.lines.proofs.ListLaws.{turn, over, hop, part, sets-append, sets-front}
+use Rattle.decimal.proofs.StoreLaws.{sets-append, sets-front}
+use Rattle.lines.proofs.ListLaws.{turn, over, hop, part}
 
 module _ (l : List ℕ) where
   -- ---- the bytes of a field

@@ -1,43 +1,21 @@
 -- The loops of the writer: what is left, from here, comes to what all comes to from the start.
-use mathlib.Core.Path.{_≡_, refl, sym, ap, _∙_}
+use mathlib.Core.Path.{_≡_, refl, sym, _∙_}
 use mathlib.Core.List.{List, [], _∷_, append-assoc}
 use Prim.Native.Nat.{ℕ, zero, suc, _+_, _*_, _-_, _/_, _%_, _≤_, _<_}
 use native.Mathlib.Omega.{arith}
 use lib.ListN.{length, take, drop, getD, set, length-append, length-take, length-drop}
 use lib.Seq.{sets}
 use borrow.Author.Tests.{eq-eqb, ne-eqb, lt-ltb, le-ltb}
+use Rattle.decimal.proofs.StoreLaws.{sets-append, sets-front}
+use Rattle.decimal.proofs.DecimalLaws.{justified-length}
 use Rattle.lines.specs.Answer.{accepted, refused}
-use Rattle.lines.specs.Write.{digitLeft, before, field, fields, line, linesOf, writeLines}
-use Rattle.lines.proofs.ListLaws.{turn, over, hop, part, sets-append, sets-last, sets-front}
+use Rattle.lines.specs.Write.{field, fields, line, linesOf, writeLines}
+use Rattle.lines.proofs.ListLaws.{turn, over, hop, part}
 
 -- ---- the bytes of a number
 
-pub before-length : (k n : ℕ) → length (before k n) ≡ k
-unfolding before
-before-length zero n = refl
-before-length (suc k) n = simp length-append (let h = before-length k (n / 10) in omega arith)
-
 pub field-length : (n : ℕ) → length (field n) ≡ 11
-unfolding field
-field-length n = simp length-append (let h = before-length 10 (n / 10) in omega arith)
-
--- the last digit, stored first
-pub field-put : (l : List ℕ) (at n : ℕ) → sets (set l (at + 10) (48 + n % 10)) at (before 10 (n / 10)) ≡ sets l at (field n)
-unfolding field
-field-put l at n = sym (sets-last l at (at + 10) (before 10 (n / 10)) _ (ap (λ (k : ℕ). at + k) (before-length 10 (n / 10))))
-
--- and each byte before the one stored last
-pub before-put : (l : List ℕ) (at i n : ℕ) → 0 < i → sets (set l (at + (i - 1)) (digitLeft n)) at (before (i - 1) (n / 10)) ≡ sets l at (before i n)
-unfolding before
-before-put l at i n h =
-    let e : i ≡ suc (i - 1) = omega arith in
-    sym
-    (ap (λ (k : ℕ). sets l at (before k n)) e ∙
-    sets-last l at (at + (i - 1)) (before (i - 1) (n / 10)) _ (ap (λ (k : ℕ). at + k) (before-length (i - 1) (n / 10))))
-
-pub before-end : (l : List ℕ) (at i n : ℕ) → i ≤ 0 → sets l at (before i n) ≡ l
-unfolding before
-before-end l at i n h = let e : i ≡ 0 = omega arith in rw e
+field-length n = justified-length 11 n
 
 -- ---- the fields of a line, and the lines of a text
 

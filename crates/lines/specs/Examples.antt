@@ -6,10 +6,11 @@ use Prim.Native.Nat.{ℕ}
 use Prim.Native.Char.{code}
 use Prim.Native.String.{String, [] as none, _∷_ as _∷ˢ_}
 use lib.ListN.{replicate}
+use Rattle.decimal.specs.Decimal.{digitLeft, before, justified}
 use Rattle.lines.specs.declared.Field.the-variants.{Spaces, Number, Bad}
 use Rattle.lines.specs.Answer.{accepted, refused}
 use Rattle.lines.specs.Read.{withDigit, next, fieldOf, goodLine, readLines}
-use Rattle.lines.specs.Write.{digitLeft, before, field, writeLines}
+use Rattle.lines.specs.Write.{writeLines}
 
 -- the bytes of a text
 bytes : String → List ℕ
@@ -25,7 +26,7 @@ text : String
 text = "          0          0          0          0          1          1          6          0\n"
 
 row-written : writeLines row (replicate 90 7) ≡ (accepted 89, bytes text ++ (7 ∷ []))
-unfolding bytes row text digitLeft before field writeLines
+unfolding bytes row text digitLeft before justified writeLines
 row-written = refl
 
 -- into nine words: the last one stays

@@ -1,28 +1,19 @@
 -- Rows of words, written as lines of text (document 01, Write lines and Lines).
 use mathlib.Core.Bool.{not, _||_}
 use mathlib.Core.List.{List, [], _∷_, _++_}
-use Prim.Native.Nat.{ℕ, zero, suc, _+_, _*_, _/_, _%_}
+use Prim.Native.Nat.{ℕ, zero, suc, _*_, _/_, _%_}
 use lib.Dec.{ltb, eqb}
 use lib.ListN.{length, take, drop}
 use Rattle.lines.specs.declared.Written.{Written}
 use Rattle.lines.specs.declared.Written.the-variants.{Bytes, Refused}
 use Rattle.ast.specs.Choice.{choose}
+use Rattle.decimal.specs.Decimal.{justified}
 use Rattle.lines.specs.Answer.{Answer, accepted, refused}
 
 -- ---- Lines: "each without leading zeros, right-justified with spaces in 11 bytes"
 
--- the last digit (48 is '0') of what is left of a number, or a space (32) if nothing is
-unfoldable pub digitLeft : ℕ → ℕ
-digitLeft n = choose (eqb n 0) 32 (48 + n % 10)
-
--- what is left of a number, right-justified with spaces in k bytes
-unfoldable pub before : ℕ → ℕ → List ℕ
-before zero n = []
-before (suc k) n = before k (n / 10) ++ (digitLeft n ∷ [])
-
--- a number in 11 bytes ends in its last digit, which may be 0
-unfoldable pub field : ℕ → List ℕ
-field n = before 10 (n / 10) ++ ((48 + n % 10) ∷ [])
+abbrev pub field : ℕ → List ℕ
+field n = justified 11 n
 
 -- ---- Lines: "A row is eight numbers, .., then byte 10"
 

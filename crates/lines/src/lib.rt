@@ -1,10 +1,10 @@
 // Rows of eight numbers as lines of text: the reader and the writer (document 01, Read lines, Write lines and Lines).
 ghost use mathlib.Core.Path.{_≡_};
-ghost use Prim.Native.Nat.{_+_, _*_, _%_, _≤_};
+ghost use Prim.Native.Nat.{_+_, _*_, _≤_};
 ghost use lib.ListN.{length, take, drop};
 ghost use lib.Seq.{sets};
 ghost use Rattle.lines.specs.Read.{withDigit, next, fieldOf, isNumber, valueOf, goodLine, numbers, goodLines, wordsOf, readAnswer, readLines};
-ghost use Rattle.lines.specs.Write.{digitLeft, field, line, linesOf, writeAnswer, writeLines};
+ghost use Rattle.lines.specs.Write.{line, linesOf, writeAnswer, writeLines};
 
 // What the bytes of a field come to: spaces alone, a number, or neither.
 enum Field {
@@ -170,35 +170,6 @@ pub fn read_lines(lines: &[u8], words: &mut [u32]) -> Read
 
 // ---- writing
 
-// The last digit of a number.
-fn digit(n: u32) -> u8
-    ensures { λ r. ⌜ r ≡ 48 + n % 10 ⌝ }
-{
-    b'0' + (n % 10) as u8
-}
-
-// The last digit of what is left of a number, or a space if nothing is.
-fn digit_left(n: u32) -> u8
-    ensures { λ r. ⌜ r ≡ digitLeft n ⌝ }
-{
-    if n == 0 { b' ' } else { digit(n) }
-}
-
-// A number, right-justified, into the 11 bytes at a place.
-fn put_number(lines: &mut [u8], at: usize, n: u32)
-    requires { ⌜ at + 11 ≤ length (now lines) ⌝ }
-    ensures { λ r. ⌜ now (lines .exit) ≡ sets (now (lines .entry)) at (field n) ⌝ }
-{
-    let mut i = 10;
-    let mut rest = n / 10;
-    lines[at + 10] = digit(n);
-    while 0 < i {
-        i -= 1;
-        lines[at + i] = digit_left(rest);
-        rest /= 10;
-    }
-}
-
 // The row of words at `from`, as the line at `at`.
 fn put_row(words: &[u32], from: usize, lines: &mut [u8], at: usize)
     requires { ⌜ (from + 8 ≤ length (now words)) × (at + 89 ≤ length (now lines)) ⌝ }
@@ -206,7 +177,7 @@ fn put_row(words: &[u32], from: usize, lines: &mut [u8], at: usize)
 {
     let mut i = 0;
     while i < 8 {
-        put_number(lines, at + 11 * i, words[from + i]);
+        decimal::put_number(lines, at + 11 * i, 11, words[from + i]);
         i += 1;
     }
     lines[at + 88] = 10;

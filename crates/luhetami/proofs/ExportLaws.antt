@@ -20,6 +20,8 @@ use Rattle.answer.proofs.AnswerLaws.{exported-told}
 use Rattle.moving.specs.declared.Moved.{Moved}
 use Rattle.moving.specs.Moving.{answerOf, saidOf}
 use Rattle.moving.specs.Moving as Moving
+use Rattle.pages.specs.declared.Paged.{Paged}
+use Rattle.pages.specs.Pages as Pages
 use Rattle.luhetami.specs.Exports.{numberWords, expandC, SaysC, Demand1C, Demand3C, lineWords, unlessShort, readCounted, writeCounted}
 
 -- ---- luhetami_expand
@@ -88,3 +90,8 @@ module _ (words lines : List ℕ) where
 
 pub moving-told : (lent answer : List ℕ) → 4 ≤ length answer → (a : Moved) {after lent' : List ℕ} {result : ℕ} {r : Moving.Answer × List ℕ} → (answerOf a, lent') ≡ r → (result ≡ answerOf a .refusal) × (after ≡ over (answerWords (answerOf a .refusal) (answerOf a .count ∷ answerOf a .largest ∷ answerOf a .place ∷ [])) answer) → record { result = result; lent = lent'; answer = after } ≡ exported 27 4 lent answer (saidOf r)
 moving-told lent answer h a e p = rw (← e) (exported-told 27 4 lent answer (saidOf (answerOf a, _)) h p)
+
+-- ---- luhetami_pages
+
+pub pages-told : (lent answer : List ℕ) → 2 ≤ length answer → (a : Paged) {after lent' : List ℕ} {result : ℕ} {r : Pages.Answer × List ℕ} → (Pages.answerOf a, lent') ≡ r → (result ≡ Pages.answerOf a .refusal) × (after ≡ over (answerWords (Pages.answerOf a .refusal) (Pages.answerOf a .bytes ∷ [])) answer) → record { result = result; lent = lent'; answer = after } ≡ exported 29 2 lent answer (Pages.saidPaged r)
+pages-told lent answer h a e p = rw (← e) (exported-told 29 2 lent answer (Pages.saidPaged (Pages.answerOf a, _)) h p)

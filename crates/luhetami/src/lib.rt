@@ -3,12 +3,14 @@ use call::Outcome;
 use lines::Read;
 use lines::Written;
 use moving::Moved;
+use pages::Paged;
 ghost use mathlib.Core.Path.{_≡_};
 ghost use Prim.Native.Nat.{_≤_, _<_};
 ghost use lib.ListN.{length, getD};
 ghost use Rattle.words.specs.Words.{over};
 ghost use Rattle.answer.specs.Answer.{exported};
 ghost use Rattle.moving.specs.Moving.{moved, saidOf};
+ghost use Rattle.pages.specs.Pages.{paged, saidPaged};
 ghost use Rattle.call.specs.Calls.{callOf};
 ghost use Rattle.luhetami.specs.Exports.{SaysC, Demand1C, Demand3C, readC, writeC};
 
@@ -128,5 +130,26 @@ pub extern "C" fn luhetami_moving(
         Moved::WidthOutside => answer::put(answer, 25, &[0, 0, 0]),
         Moved::CountOver => answer::put(answer, 26, &[0, 0, 0]),
         Moved::TooFew => answer::put(answer, 27, &[0, 0, 0]),
+    }
+}
+
+// Pages. Answer: refusal, bytes.
+#[no_mangle]
+pub extern "C" fn luhetami_pages(
+    document: &[u32],
+    ledger: &[u32],
+    text: &mut [u8],
+    work: &mut [u32],
+    answer: &mut [u64],
+) -> u32
+    ensures { λ r. ⌜ record { result = r; lent = now (text .exit); answer = now (answer .exit) } ≡ exported 29 2 (now (text .entry)) (now (answer .entry)) (saidPaged (paged (now (document .entry)) (now (ledger .entry)) (length (now (work .entry))) (now (text .entry)))) ⌝ }
+{
+    if answer.len() < 2 {
+        return 29;
+    }
+    match pages::pages(document, ledger, text, work) {
+        Paged::Bytes(bytes) => answer::put(answer, 0, &[bytes as u64]),
+        Paged::Malformed => answer::put(answer, 28, &[0]),
+        Paged::TooFew => answer::put(answer, 29, &[0]),
     }
 }

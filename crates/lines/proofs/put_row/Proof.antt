@@ -3,7 +3,7 @@ use Rattle.lines.proofs.put_row.Statement.{statement}
 use Rattle.lines.proofs.put_row.Tie as tie
 use Rattle.lines.proofs.put_row.Reads as reads
 use Rattle.lines.proofs.put_row.Lts as lts
-use Rattle.lines.proofs.put_number.Reads as put-number-reads
+use Rattle.decimal.proofs.put_number.Reads as put-number-reads
 use mathlib.Core.Path.{_≡_, refl, sym, _∙_}
 use Prim.Native.Nat.{_≤_, _-_}
 use lib.ListN.{length, take, drop, length-set}

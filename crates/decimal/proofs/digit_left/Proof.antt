@@ -1,12 +1,12 @@
 -- Written by `needs write`, from answers.txt: edit that. The proof.
 use borrow.Author.Needs.{needs}
-use Rattle.lines.proofs.digit_left.Statement.{statement}
-use Rattle.lines.proofs.digit_left.Tie as tie
-use Rattle.lines.proofs.digit_left.Reads as reads
-use Rattle.lines.proofs.digit_left.Lts as lts
-use Rattle.lines.proofs.digit.Reads as digit-reads
+use Rattle.decimal.proofs.digit_left.Statement.{statement}
+use Rattle.decimal.proofs.digit_left.Tie as tie
+use Rattle.decimal.proofs.digit_left.Reads as reads
+use Rattle.decimal.proofs.digit_left.Lts as lts
+use Rattle.decimal.proofs.digit.Reads as digit-reads
 use borrow.Author.Tests.{eq-eqb, ne-eqb}
-use Rattle.lines.specs.Write.{digitLeft}
+use Rattle.decimal.specs.Decimal.{digitLeft}
 
 digit-requires : tie.Need-digit-requires
 digit-requires c κs = search needs

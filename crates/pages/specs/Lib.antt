@@ -1,0 +1,4 @@
+pub mod Pages
+pub mod Steps
+pub mod Promises
+pub mod Examples
