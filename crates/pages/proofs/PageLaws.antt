@@ -29,7 +29,7 @@ name-length (some n) = justified-length 12 n
 
 pub heading-length : (p : ℕ) → length (heading p) ≡ 73
 unfolding heading
-heading-length p = omega (arith, length-append (justified 72 (p + 1)) lineEnd, justified-length 72 (p + 1))
+heading-length p = simp (length-append, justified-length)
 
 pub blank-length : length blankLine ≡ 73
 unfolding blankLine
@@ -37,15 +37,7 @@ blank-length = refl
 
 pub node-length : (i : ℕ) (entry : List ℕ) (x : Node) → length (nodeLine i entry x) ≡ 73
 unfolding nodeLine
-node-length i entry x =
-    let a = justified 12 i in
-    let b = justified 12 (getD entry 0 0) in
-    let c = justified 12 (getD entry 1 0) in
-    let d = justified 12 (getD entry 2 0) in
-    let e = justified 12 (x .typeName) in
-    let f = nameText (x .defName) in
-    omega
-    (arith, length-append a (b ++ (c ++ (d ++ (e ++ (f ++ lineEnd))))), length-append b (c ++ (d ++ (e ++ (f ++ lineEnd)))), length-append c (d ++ (e ++ (f ++ lineEnd))), length-append d (e ++ (f ++ lineEnd)), length-append e (f ++ lineEnd), length-append f lineEnd, justified-length 12 i, justified-length 12 (getD entry 0 0), justified-length 12 (getD entry 1 0), justified-length 12 (getD entry 2 0), justified-length 12 (x .typeName), name-length (x .defName))
+node-length i entry x = simp (length-append, justified-length, name-length)
 
 module _ (nodes : List Node) (ledger : List ℕ) where
   of-length : (i : ℕ) (entry : List ℕ) (x : Option Node) → length (lineOf i entry x) ≡ 73

@@ -28,10 +28,6 @@ module _ (sheet ledger : List ℕ) (work : ℕ) where
 
   -- ---- what is malformed
 
-  pub well-not : Well sheet ledger work → malformed sheet ledger work ≡ false
-  unfolding malformed
-  well-not w = rw (w .expanded, le-ltb work (16 * (length sheet / 8)) (w .room), le-ltb none# (length nodes) (w .ids), eq-eqb (length ledger) (3 * length nodes) (w .entries))
-
   pub not-well : malformed sheet ledger work ≡ false → Well sheet ledger work
   unfolding malformed
   not-well e =
@@ -39,6 +35,10 @@ module _ (sheet ledger : List ℕ) (work : ℕ) where
       let b = neither (ltb work (16 * (length sheet / 8))) _ (a .1) in
       let c = neither (ltb none# (length nodes)) _ (b .1) in
       record { expanded = not-false (isExpanded sheet) (a .0); room = ltb-false _ _ (b .0); ids = ltb-false _ _ (c .0); entries = eqb-true _ _ (not-false (eqb (length ledger) (3 * length nodes)) (c .1)) }
+
+  pub well-not : Well sheet ledger work → malformed sheet ledger work ≡ false
+  unfolding malformed
+  well-not w = rw (w .expanded, le-ltb work (16 * (length sheet / 8)) (w .room), le-ltb none# (length nodes) (w .ids), eq-eqb (length ledger) (3 * length nodes) (w .entries))
 
   -- ---- an accepted call
 
