@@ -33,10 +33,12 @@ fn places(legs: usize, width: u32) -> usize {
 /// The same run with one total too few, just enough and two more.
 fn lent(counts: Vec<u64>, width: u32) -> impl Iterator<Item = Call> {
     let needed = places(counts.len(), width);
-    [needed.checked_sub(1), Some(needed), Some(needed + 2)]
-        .into_iter()
-        .flatten()
-        .map(move |totals| Call { counts: counts.clone(), width, totals, answer: ANSWER })
+    [needed.checked_sub(1), Some(needed), Some(needed + 2)].into_iter().flatten().map(move |totals| Call {
+        counts: counts.clone(),
+        width,
+        totals,
+        answer: ANSWER,
+    })
 }
 
 /// Every run of few legs with small counts, and every width.
@@ -51,8 +53,9 @@ fn small() -> impl Iterator<Item = Call> {
 fn widths() -> impl Iterator<Item = Call> {
     (0..=WIDTHS).chain(FAR_WIDTHS).flat_map(|width| {
         let middle = width.min(WIDTHS) as usize;
-        (middle.saturating_sub(2)..middle + 4)
-            .flat_map(move |legs| [MOST_COUNT, MOST_COUNT + 1].into_iter().flat_map(move |count| lent(vec![count; legs], width)))
+        (middle.saturating_sub(2)..middle + 4).flat_map(move |legs| {
+            [MOST_COUNT, MOST_COUNT + 1].into_iter().flat_map(move |count| lent(vec![count; legs], width))
+        })
     })
 }
 

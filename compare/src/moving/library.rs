@@ -50,7 +50,11 @@ fn differs(call: &Call, expected: &After) -> Option<String> {
     if result != expected.result {
         return Some(format!("result {result}, not {}", expected.result));
     }
-    let slices = [("counts", &counts, &call.counts), ("totals", &totals, &expected.totals), ("answer", &answer, &expected.answer)];
+    let slices = [
+        ("counts", &counts, &call.counts),
+        ("totals", &totals, &expected.totals),
+        ("answer", &answer, &expected.answer),
+    ];
     for (name, slice, right) in slices {
         let (words, guarded) = slice.after();
         if !guarded {

@@ -60,9 +60,7 @@ const SHAPES: [Shape; 38] = [
     ("the largest at place 0, then smaller ones", |c, a| {
         largest(c, a).is_some_and(|(l, p)| p == 0 && written(c, a).iter().any(|t| *t < l))
     }),
-    ("the largest at the last place", |c, a| {
-        largest(c, a).is_some_and(|(_, p)| p > 0 && p + 1 == written(c, a).len())
-    }),
+    ("the largest at the last place", |c, a| largest(c, a).is_some_and(|(_, p)| p > 0 && p + 1 == written(c, a).len())),
     ("the largest in between", |c, a| largest(c, a).is_some_and(|(_, p)| p > 0 && p + 1 < written(c, a).len())),
     ("a total that goes down", |c, a| written(c, a).windows(2).any(|t| t[1] < t[0])),
     ("a count of 4294967295", |c, a| accepted(c, a) && c.counts.contains(&MOST_COUNT)),
@@ -80,10 +78,15 @@ const SHAPES: [Shape; 38] = [
     ("26, a count of 4294967296", |c, a| refused(26, c, a) && c.counts.contains(&(MOST_COUNT + 1))),
     ("26, a count of 18446744073709551615", |c, a| refused(26, c, a) && c.counts.contains(&u64::MAX)),
     ("26, the first leg's alone", |c, a| {
-        refused(26, c, a) && c.counts.len() > 1 && c.counts[0] > MOST_COUNT && c.counts[1..].iter().all(|n| *n <= MOST_COUNT)
+        refused(26, c, a)
+            && c.counts.len() > 1
+            && c.counts[0] > MOST_COUNT
+            && c.counts[1..].iter().all(|n| *n <= MOST_COUNT)
     }),
     ("26, the last leg's alone", |c, a| {
-        refused(26, c, a) && c.counts.len() > 1 && c.counts.iter().position(|n| *n > MOST_COUNT) == Some(c.counts.len() - 1)
+        refused(26, c, a)
+            && c.counts.len() > 1
+            && c.counts.iter().position(|n| *n > MOST_COUNT) == Some(c.counts.len() - 1)
     }),
     ("26 in a run shorter than W", |c, a| refused(26, c, a) && short_run(c)),
     ("26 and 27", |c, a| refused(26, c, a) && few(c)),
