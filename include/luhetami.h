@@ -8,6 +8,7 @@
  *     luhetami_write_lines    rows of a sheet to lines of text
  *     luhetami_moving         counts of legs to moving totals
  *     luhetami_pages          an expanded document and its ledger to pages of text
+ *     luhetami_check          whether a sheet fits a form, and the first row that doesn't
  *
  * Rules for all of them:
  *
@@ -19,8 +20,9 @@
  * - Nothing is allocated, kept between calls or read from elsewhere. Calls in several threads with slices of their own do
  *   not disturb each other. A call nests as deep as max_depth and takes less than 4 KiB of stack for each level: 2 MiB
  *   suffice for 512 (measured, not proved).
- * - The result is the refusal, 0 where the call is accepted. The same number is the first word of answer. An answer that is
- *   too short is refused (1, 12, 14, 27 or 29, by function) before anything else, and then no word of it is written.
+ * - The result is the refusal, 0 where the call is accepted; of luhetami_check it is 1 where the sheet fits and 0 where it
+ *   doesn't. The same number is the first word of answer. An answer that is too short is refused (1, 12, 14, 27 or 29, by
+ *   function; 0 by luhetami_check) before anything else, and then no word of it is written.
  * - Where a call is refused, every lent slice keeps its words, but for answer, and work.
  */
 #ifndef LUHETAMI_H
@@ -100,6 +102,7 @@ enum luhetami_refusal {
 #define LUHETAMI_LINES_ANSWER ((size_t)3)  /* refusal, place, count */
 #define LUHETAMI_MOVING_ANSWER ((size_t)4) /* refusal, totals, largest, place */
 #define LUHETAMI_PAGES_ANSWER ((size_t)2)  /* refusal, bytes */
+#define LUHETAMI_CHECK_ANSWER ((size_t)2)  /* 1 or 0, row */
 
 /* The most legs that a moving total is of, and the largest count of a leg. */
 #define LUHETAMI_MOST_WIDTH UINT32_C(64)
@@ -212,6 +215,30 @@ uint32_t luhetami_pages(const uint32_t *document, size_t document_len,
                         const uint32_t *ledger, size_t ledger_len,
                         uint8_t *text, size_t text_len,
                         uint32_t *work, size_t work_len,
+                        uint64_t *answer, size_t answer_len);
+
+/* What a sheet is to be, for luhetami_check. */
+enum luhetami_form {
+    LUHETAMI_FORM_ROOT = 0,      /* one document */
+    LUHETAMI_FORM_LIBRARY = 1,   /* any number of files, each a row of kind 12 and a document */
+    LUHETAMI_FORM_EXPANDED = 2,  /* an expanded document */
+    LUHETAMI_FORM_DOCUMENTS = 3, /* any number of expanded documents, one after another: each begins at a row of kind 1 */
+    LUHETAMI_FORM_PROTOS = 4     /* any number of protos: each a row of kind 7 and its interfaces, no body statements */
+};
+
+/*
+ * Whether a sheet fits a form, and where it ceases to.
+ *
+ * words       the sheet, of words_len words. It is only read; no row cap binds it.
+ * form        one of enum luhetami_form. No sheet fits another number: the answer is 0 and row 0.
+ * answer      2 words: 1 where the sheet fits, else 0; the row, from 0: the first that does not fit, the number of whole rows where
+ *             the sheet ends early, or where every whole row fits and words are left over; 0 where it fits. Words past the second stay.
+ *
+ * The result is the first word of answer. An answer of fewer than two words gives 0, and none is written. No work is needed; the
+ * time is in proportion to the rows.
+ */
+uint32_t luhetami_check(const uint32_t *words, size_t words_len,
+                        uint32_t form,
                         uint64_t *answer, size_t answer_len);
 
 #ifdef __cplusplus

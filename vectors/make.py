@@ -1,5 +1,5 @@
 #!/usr/bin/env python3
-"""Makes crates/vectors/stdin, the cases, and crates/vectors/stdout, what they have to print.
+"""Makes crates/test_vectors/stdin, the cases, and crates/test_vectors/stdout, what they have to print.
 
 The answers come from reading.py, and never from the program.
 

@@ -57,6 +57,8 @@ extern "C" {
         answer: *mut u64,
         answer_length: usize,
     ) -> u32;
+    fn luhetami_check(words: *const u32, words_length: usize, form: u32, answer: *mut u64, answer_length: usize)
+        -> u32;
     fn luhetami_write_lines(
         words: *const u32,
         words_length: usize,
@@ -143,6 +145,18 @@ pub fn pages(document: &[u32], ledger: &[u32], text: &mut [u8], work: &mut [u32]
 
 #[cfg(not(feature = "library"))]
 pub fn pages(_: &[u32], _: &[u32], _: &mut [u8], _: &mut [u32], _: &mut [u64]) -> u32 {
+    unreachable!("no library is linked")
+}
+
+/// One call of the library's check of a sheet.
+#[cfg(feature = "library")]
+pub fn check(words: &[u32], form: u32, answer: &mut [u64]) -> u32 {
+    // Safety: every pointer comes with the length of its own slice, and the slices do not overlap.
+    unsafe { luhetami_check(words.as_ptr(), words.len(), form, answer.as_mut_ptr(), answer.len()) }
+}
+
+#[cfg(not(feature = "library"))]
+pub fn check(_: &[u32], _: u32, _: &mut [u64]) -> u32 {
     unreachable!("no library is linked")
 }
 

@@ -5,6 +5,7 @@ mod bench;
 mod bound;
 mod call;
 mod charges;
+mod checks;
 mod closure;
 #[cfg(feature = "library")]
 mod coverage;
@@ -19,6 +20,7 @@ mod linked;
 mod memory;
 mod moving;
 mod mutants;
+mod operation;
 mod output;
 mod pages;
 mod pairs;
@@ -60,6 +62,8 @@ compare moving mutants COUNT SEED          moving totals: every broken reckoning
 compare moving library COUNT SEED          moving totals: the linked static library
 compare pages mutants COUNT SEED           pages: every broken reckoning over the numbers of nodes and COUNT random documents
 compare pages library COUNT SEED           pages: the linked static library
+compare check mutants COUNT SEED           the check of a sheet: every broken reckoning over the small sheets and COUNT random ones
+compare check library COUNT SEED           the check of a sheet: the linked static library
 compare bench [PART]                       times of the original, the linked library and copying; scenes whose name has PART
 compare bench spin PART SECONDS            the library's calls alone, for a profiler
 compare bench small PART COUNT             the same on scenes that fit the caches, so many calls: time a node";
@@ -118,8 +122,9 @@ fn command() -> Result<u64, String> {
             frames::answer(cases, answers, mutant).map_err(|e| e.to_string())?;
             Ok(0)
         }
-        ["moving", "mutants", count, seed] => Ok(moving::mutants(number(count)?, number(seed)?)),
-        ["pages", "mutants", count, seed] => Ok(pages::mutants(number(count)?, number(seed)?)),
+        ["moving", "mutants", count, seed] => Ok(operation::mutants::<moving::Moving>(number(count)?, number(seed)?)),
+        ["pages", "mutants", count, seed] => Ok(operation::mutants::<pages::Pages>(number(count)?, number(seed)?)),
+        ["check", "mutants", count, seed] => Ok(operation::mutants::<checks::Checks>(number(count)?, number(seed)?)),
         ["bench"] => Ok(bench::run("")),
         ["bench", "spin", part, seconds] => Ok(bench::spin(part, number(seconds)?)),
         ["bench", "small", part, count] => Ok(bench::small(part, number(count)?)),
@@ -129,9 +134,11 @@ fn command() -> Result<u64, String> {
         #[cfg(feature = "library")]
         ["library", count, seed] => Ok(library::run(number(count)?, number(seed)?)),
         #[cfg(feature = "library")]
-        ["moving", "library", count, seed] => Ok(moving::library(number(count)?, number(seed)?)),
+        ["moving", "library", count, seed] => Ok(operation::library::<moving::Moving>(number(count)?, number(seed)?)),
         #[cfg(feature = "library")]
-        ["pages", "library", count, seed] => Ok(pages::library(number(count)?, number(seed)?)),
+        ["pages", "library", count, seed] => Ok(operation::library::<pages::Pages>(number(count)?, number(seed)?)),
+        #[cfg(feature = "library")]
+        ["check", "library", count, seed] => Ok(operation::library::<checks::Checks>(number(count)?, number(seed)?)),
         _ => Err(USAGE.into()),
     }
 }

@@ -59,6 +59,13 @@ mod c {
             answer: *mut u64,
             answer_len: usize,
         ) -> u32;
+        pub fn luhetami_check(
+            words: *const u32,
+            words_len: usize,
+            form: u32,
+            answer: *mut u64,
+            answer_len: usize,
+        ) -> u32;
         pub fn luhetami_pages(
             document: *const u32,
             document_len: usize,
@@ -224,4 +231,47 @@ pub fn pages(document: &[u32], ledger: &[u32], text: &mut [u8], work: &mut Zeroe
         )
     };
     Paged { refusal, bytes: answer[1] }
+}
+
+/// What a sheet is to be, by its number.
+#[derive(Clone, Copy)]
+pub enum Form {
+    Root = 0,
+    Library = 1,
+    Expanded = 2,
+    Documents = 3,
+    Protos = 4,
+}
+
+impl Form {
+    /// The form of a name that an option gives.
+    pub fn named(name: &str) -> Option<Form> {
+        match name {
+            "root" => Some(Form::Root),
+            "library" => Some(Form::Library),
+            "expanded" => Some(Form::Expanded),
+            "documents" => Some(Form::Documents),
+            "protos" => Some(Form::Protos),
+            _ => None,
+        }
+    }
+
+    pub fn in_words(self) -> &'static str {
+        match self {
+            Form::Root => "a root sheet",
+            Form::Library => "a library",
+            Form::Expanded => "an expanded document",
+            Form::Documents => "expanded documents one after another",
+            Form::Protos => "protos without body statements",
+        }
+    }
+}
+
+/// The first row of a sheet that doesn't fit, or the row count where it ends early; nothing where it fits.
+pub fn check(words: &[u32], form: Form) -> Option<usize> {
+    let mut answer = [0; 2];
+    // Safety: as in `expand`.
+    let fits =
+        unsafe { c::luhetami_check(words.as_ptr(), words.len(), form as u32, answer.as_mut_ptr(), answer.len()) };
+    (fits == 0).then_some(answer[1] as usize)
 }

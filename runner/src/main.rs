@@ -3,6 +3,7 @@
 //! It decides nothing that is proved: it reads files, calls the library, and writes what the library answered.
 
 mod answer;
+mod check;
 mod input;
 mod library;
 mod memory;
@@ -86,6 +87,7 @@ fn run(command: &Command) -> Result<(), Stop> {
         Command::Expand(options) => expand(options),
         Command::Moving(options) => moving::run(options),
         Command::Pages(options) => pages::run(options),
+        Command::Check(options) => check::run(options),
         Command::Help => Ok(()),
     }
 }
@@ -126,7 +128,7 @@ fn expand(options: &Options) -> Result<(), Stop> {
 }
 
 /// K for the first call, where it isn't given. After refusal 10 it is four times that, up to the cap. What is accepted then is
-/// what K at its cap gives: `SameFlight` of crates/operation/specs/Limits.antt.
+/// what K at its cap gives: `SameFlight` of crates/expansion_operation/specs/Limits.antt.
 fn first_rows(sheets: &Sheets) -> u32 {
     (4 * (sheets.root_rows + sheets.library_rows)).clamp(4096, MOST_ROWS as usize) as u32
 }

@@ -2,12 +2,14 @@
 
 use std::ffi::OsString;
 
-use crate::{moving, pages};
+use crate::library::Form;
+use crate::{check, moving, pages};
 
 pub const USAGE: &str = "\
 usage: luhetami [OPTION]... SCENE.lines
        luhetami moving WIDTH COUNTS
        luhetami pages DOCUMENT.lines LEDGER
+       luhetami check [--form FORM] FILE.lines
 
 Expands the prototypes of a scene and writes the expanded rows, in Lines form, to standard output; the answer, in words and
 in numbers, goes to standard error. SCENE.lines may be - for standard input.
@@ -48,8 +50,17 @@ may be - for standard input. For example:
   ..
   accepted: nodes 7, pages 1, bytes 4380 [0 4380]
 
+luhetami check tells whether the rows of a file fit a form, or else the first row, from 0, that doesn't. FORM is root (without
+--form), library, expanded, documents (expanded documents one after another) or protos (protos without body statements). For example:
+
+  $ luhetami check scenes/both-windows.lines
+  scenes/both-windows.lines: 21 rows, a root sheet [1 0]
+  $ luhetami check --form expanded scenes/both-windows.lines
+  luhetami: scenes/both-windows.lines: not an expanded document: row 13, counted from 0, doesn't fit: 2 16 17 1 0 0 0 0 [0 13]
+
 The exit status is 0 where the call is accepted, the refusal's number (1 to 10, 12 to 14, 25 to 29) where it is refused, 64 where the
-arguments are wrong, 65 where a line of COUNTS or LEDGER has no numbers and 74 where the operating system refuses something.
+arguments are wrong, 65 where a line of COUNTS or LEDGER has no numbers or a file does not fit its form, and 74 where the operating
+system refuses something.
 ";
 
 pub struct Options {
@@ -67,6 +78,7 @@ pub enum Command {
     Expand(Options),
     Moving(moving::Options),
     Pages(pages::Options),
+    Check(check::Options),
     Help,
 }
 
@@ -90,6 +102,7 @@ pub fn parse(arguments: impl Iterator<Item = OsString>) -> Result<Command, Strin
             match argument.as_str() {
                 "moving" => return parse_moving(arguments),
                 "pages" => return parse_pages(arguments),
+                "check" => return parse_check(arguments),
                 _ => {}
             }
         }
@@ -142,6 +155,28 @@ fn parse_pages(arguments: impl Iterator<Item = Result<String, String>>) -> Resul
     match <[String; 2]>::try_from(arguments) {
         Ok([document, ledger]) => Ok(Command::Pages(pages::Options { document, ledger })),
         Err(arguments) => Err(format!("pages wants a document and a ledger, not {} arguments", arguments.len())),
+    }
+}
+
+/// The arguments of `check`.
+fn parse_check(mut arguments: impl Iterator<Item = Result<String, String>>) -> Result<Command, String> {
+    let mut form = Form::Root;
+    let mut files = Vec::new();
+    while let Some(argument) = arguments.next() {
+        let argument = argument?;
+        match argument.as_str() {
+            "--help" => return Ok(Command::Help),
+            "--form" => {
+                let name = arguments.next().unwrap_or_else(|| Err(format!("{argument} wants a value")))?;
+                form = Form::named(&name).ok_or(format!("no form: {name}"))?;
+            }
+            option if option.starts_with("--") => return Err(format!("unknown option {option}")),
+            _ => files.push(argument),
+        }
+    }
+    match <[String; 1]>::try_from(files) {
+        Ok([file]) => Ok(Command::Check(check::Options { form, file })),
+        Err(files) => Err(format!("check wants one file, not {}", files.len())),
     }
 }
 

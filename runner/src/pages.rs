@@ -2,8 +2,9 @@
 
 use std::io::{self, Write};
 
+use crate::check::misfit;
 use crate::input;
-use crate::library::{self, Paged, ROW_WORDS};
+use crate::library::{self, Form, Paged, ROW_WORDS};
 use crate::memory::Zeroed;
 use crate::Stop;
 
@@ -41,10 +42,10 @@ pub fn run(options: &Options) -> Result<(), Stop> {
             eprintln!("accepted: nodes {nodes}, pages {}, bytes {bytes} [0 {bytes}]", bytes as usize / PAGE_BYTES);
             return Ok(());
         }
-        MALFORMED if ledger.len() != ENTRY_WORDS * nodes => {
-            format!("{}: {} numbers, not three for each of {nodes} nodes", options.ledger, ledger.len())
-        }
-        MALFORMED => format!("{}: no expanded document", options.document),
+        MALFORMED => match library::check(&document, Form::Expanded) {
+            Some(row) => format!("{}: {}", options.document, misfit(&document, Form::Expanded, row)),
+            None => format!("{}: {} numbers, not three for each of {nodes} nodes", options.ledger, ledger.len()),
+        },
         _ => String::from("too few lent bytes"),
     };
     Err(Stop::Refused(refusal, format!("refused {refusal}: {what} [{refusal} 0]")))

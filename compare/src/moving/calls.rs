@@ -104,18 +104,6 @@ fn random(seed: u64, number: u64) -> Call {
 }
 
 /// The calls of a seed, one after the other.
-pub struct Calls(Box<dyn Iterator<Item = Call>>);
-
-impl Calls {
-    pub fn new(count: u64, seed: u64) -> Calls {
-        Calls(Box::new(small().chain(widths()).chain((0..count).map(move |number| random(seed, number)))))
-    }
-}
-
-impl Iterator for Calls {
-    type Item = Call;
-
-    fn next(&mut self) -> Option<Call> {
-        self.0.next()
-    }
+pub fn calls(count: u64, seed: u64) -> Box<dyn Iterator<Item = Call>> {
+    Box::new(small().chain(widths()).chain((0..count).map(move |number| random(seed, number))))
 }

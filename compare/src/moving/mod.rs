@@ -10,10 +10,8 @@ mod reckon;
 mod shapes;
 
 pub use bench::run as bench;
-#[cfg(feature = "library")]
-pub use library::run as library;
 
-use calls::Calls;
+use crate::operation::{before, Operation};
 use reckon::{reckon, Mutant, MUTANTS};
 
 /// One call: what is handed in, and how long the lent slices are.
@@ -25,11 +23,6 @@ pub struct Call {
     pub answer: usize,
 }
 
-/// Every word that a lent slice holds before a call, by its place.
-pub fn before(place: usize) -> u64 {
-    0x5D5D_0000_0000_0000 + place as u64
-}
-
 /// The result, and every word of the lent slices after the call.
 #[derive(Clone, Debug, PartialEq, Eq)]
 pub struct After {
@@ -38,31 +31,25 @@ pub struct After {
     pub answer: Vec<u64>,
 }
 
-/// The broken reckonings over the calls of a seed: the number of those that nothing tells from the right one.
-pub fn mutants(count: u64, seed: u64) -> u64 {
-    let mut unnoticed = 0;
-    for &(mutant, what) in MUTANTS {
-        let differs = |call: &Call| reckon(call, Some(mutant)) != reckon(call, None);
-        let mut smallest: Option<Call> = None;
-        let mut differences = 0;
-        for call in Calls::new(count, seed).filter(differs) {
-            differences += 1;
-            let size = |call: &Call| call.counts.len() + call.totals + call.answer;
-            if smallest.as_ref().is_none_or(|s| size(&call) < size(s)) {
-                smallest = Some(call);
-            }
-        }
-        match smallest {
-            Some(call) => println!("{mutant:?}: {what}: {differences} differences, the smallest {call:?}"),
-            None => {
-                println!("{mutant:?}: {what}: NOT NOTICED");
-                unnoticed += 1;
-            }
-        }
+pub struct Moving;
+
+impl Operation for Moving {
+    type Call = Call;
+    type After = After;
+    type Mutant = Mutant;
+    const MUTANTS: &'static [(Mutant, &'static str)] = MUTANTS;
+
+    fn calls(count: u64, seed: u64) -> Box<dyn Iterator<Item = Call>> {
+        calls::calls(count, seed)
     }
-    let calls = Calls::new(count, seed).count();
-    println!("{} broken reckonings over {calls} calls each, {unnoticed} not noticed", MUTANTS.len());
-    unnoticed
+
+    fn reckon(call: &Call, mutant: Option<Mutant>) -> After {
+        reckon(call, mutant)
+    }
+
+    fn size(call: &Call) -> usize {
+        call.counts.len() + call.totals + call.answer
+    }
 }
 
 /// Whether this is the reckoning that is broken so.

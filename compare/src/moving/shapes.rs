@@ -100,29 +100,7 @@ const SHAPES: [Shape; 38] = [
     ("an answer of more than four words", |c, a| c.answer > ANSWER && a.result == 0),
 ];
 
-/// Counts of calls by shape.
-pub struct Shapes([u64; SHAPES.len()]);
-
-impl Default for Shapes {
-    fn default() -> Shapes {
-        Shapes([0; SHAPES.len()])
-    }
-}
-
-impl Shapes {
-    pub fn note(&mut self, call: &Call, after: &After) {
-        for ((_, has), count) in SHAPES.iter().zip(&mut self.0) {
-            *count += has(call, after) as u64;
-        }
-    }
-
-    /// The counts, printed; the number of shapes that were not met.
-    pub fn print(&self) -> u64 {
-        for ((name, _), count) in SHAPES.iter().zip(self.0) {
-            println!("  {name}: {count}");
-        }
-        let missing = self.0.iter().filter(|count| **count == 0).count() as u64;
-        println!("{} shapes, {missing} not met", SHAPES.len());
-        missing
-    }
+/// Each shape, and whether a call has it.
+pub fn shapes(call: &Call, after: &After, note: &mut dyn FnMut(&'static str, bool)) {
+    SHAPES.iter().for_each(|(name, has)| note(name, has(call, after)));
 }

@@ -4,8 +4,8 @@ use super::reckon::{ANSWER, LINES, LINE_BYTES};
 use super::Call;
 use crate::random::Random;
 use crate::rows::{words_of, NONE};
-use crate::scenes::{damage, free};
-use crate::tree::{print, Doc, Interface, Node, Origin, Statement};
+use crate::scenes::{damage, expanded, free};
+use crate::tree::{print, Doc, Node, Origin};
 
 /// Every number of nodes up to this one.
 const MOST_FLAT: usize = 125;
@@ -70,33 +70,12 @@ fn flat() -> impl Iterator<Item = Call> {
     })
 }
 
-fn plain(interfaces: &mut [Interface]) {
-    for i in interfaces.iter_mut().filter(|i| i.is.is_some()) {
-        i.value = None;
-    }
-}
-
-/// A scene's document as an expanded one.
-fn expanded(mut doc: Doc) -> Doc {
-    doc.protos.clear();
-    doc.top.retain(|s| !matches!(s, Statement::Proto(_)));
-    for node in &mut doc.nodes {
-        if let Origin::Proto(_) = node.origin {
-            node.origin = Origin::Unknown;
-        }
-        node.statements.retain(|s| matches!(s, Statement::Route(_) | Statement::Extern(_)));
-        plain(&mut node.interfaces);
-    }
-    doc.externs.iter_mut().for_each(|e| plain(&mut e.interfaces));
-    doc
-}
-
 /// A random call.
 fn random(seed: u64, number: u64) -> Call {
     let r = &mut Random::new(seed, number);
     let mut doc = free::scene(r, MOST_NODES).root;
     if !r.percent(8) {
-        doc = expanded(doc);
+        doc = expanded::expanded(doc);
     }
     if r.percent(3) {
         doc.nodes.clear();
@@ -152,18 +131,6 @@ fn random(seed: u64, number: u64) -> Call {
 }
 
 /// The calls of a seed, one after the other.
-pub struct Calls(Box<dyn Iterator<Item = Call>>);
-
-impl Calls {
-    pub fn new(count: u64, seed: u64) -> Calls {
-        Calls(Box::new(flat().chain((0..count).map(move |number| random(seed, number)))))
-    }
-}
-
-impl Iterator for Calls {
-    type Item = Call;
-
-    fn next(&mut self) -> Option<Call> {
-        self.0.next()
-    }
+pub fn calls(count: u64, seed: u64) -> Box<dyn Iterator<Item = Call>> {
+    Box::new(flat().chain((0..count).map(move |number| random(seed, number))))
 }

@@ -9,10 +9,8 @@ mod reckon;
 mod shapes;
 
 pub use bench::run as bench;
-#[cfg(feature = "library")]
-pub use library::run as library;
 
-use calls::Calls;
+use crate::operation::{before, Operation};
 use reckon::{reckon, Mutant, MUTANTS};
 
 /// One call: what is handed in, and how long the lent slices are.
@@ -23,11 +21,6 @@ pub struct Call {
     pub text: usize,
     pub work: usize,
     pub answer: usize,
-}
-
-/// Every word of a lent answer before a call, by its place.
-pub fn before(place: usize) -> u64 {
-    0x5D5D_0000_0000_0000 + place as u64
 }
 
 /// Every byte of the lent text before a call: none that a page has.
@@ -43,25 +36,25 @@ pub struct After {
     pub answer: Vec<u64>,
 }
 
-/// The broken reckonings over the calls of a seed: the number of those that nothing tells from the right one.
-pub fn mutants(count: u64, seed: u64) -> u64 {
-    let mut differences = vec![0u64; MUTANTS.len()];
-    for call in Calls::new(count, seed) {
-        let right = reckon(&call, None);
-        for ((mutant, _), count) in MUTANTS.iter().zip(&mut differences) {
-            *count += (reckon(&call, Some(*mutant)) != right) as u64;
-        }
+pub struct Pages;
+
+impl Operation for Pages {
+    type Call = Call;
+    type After = After;
+    type Mutant = Mutant;
+    const MUTANTS: &'static [(Mutant, &'static str)] = MUTANTS;
+
+    fn calls(count: u64, seed: u64) -> Box<dyn Iterator<Item = Call>> {
+        calls::calls(count, seed)
     }
-    let mut unnoticed = 0;
-    for ((mutant, what), count) in MUTANTS.iter().zip(differences) {
-        match count {
-            0 => println!("{mutant:?}: {what}: NOT NOTICED"),
-            _ => println!("{mutant:?}: {what}: {count} differences"),
-        }
-        unnoticed += (count == 0) as u64;
+
+    fn reckon(call: &Call, mutant: Option<Mutant>) -> After {
+        reckon(call, mutant)
     }
-    println!("{} broken reckonings, {unnoticed} not noticed", MUTANTS.len());
-    unnoticed
+
+    fn size(call: &Call) -> usize {
+        call.document.len() + call.ledger.len()
+    }
 }
 
 fn is(mutant: Option<Mutant>, one: Mutant) -> bool {

@@ -97,31 +97,9 @@ const SHAPES: [Shape; 33] = [
     ("an answer of more than two words", |s| s.call.answer > ANSWER && s.accepted()),
 ];
 
-/// Counts of calls by shape.
-pub struct Shapes([u64; SHAPES.len()]);
-
-impl Default for Shapes {
-    fn default() -> Shapes {
-        Shapes([0; SHAPES.len()])
-    }
-}
-
-impl Shapes {
-    pub fn note(&mut self, call: &Call, after: &After) {
-        let doc = document(call, None);
-        let seen = Seen { call, after, doc: doc.as_ref() };
-        for ((_, has), count) in SHAPES.iter().zip(&mut self.0) {
-            *count += has(&seen) as u64;
-        }
-    }
-
-    /// The counts, printed; the number of shapes that were not met.
-    pub fn print(&self) -> u64 {
-        for ((name, _), count) in SHAPES.iter().zip(self.0) {
-            println!("  {name}: {count}");
-        }
-        let missing = self.0.iter().filter(|count| **count == 0).count() as u64;
-        println!("{} shapes, {missing} not met", SHAPES.len());
-        missing
-    }
+/// Each shape, and whether a call has it.
+pub fn shapes(call: &Call, after: &After, note: &mut dyn FnMut(&'static str, bool)) {
+    let doc = document(call, None);
+    let seen = Seen { call, after, doc: doc.as_ref() };
+    SHAPES.iter().for_each(|(name, has)| note(name, has(&seen)));
 }

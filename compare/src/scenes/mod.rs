@@ -1,6 +1,7 @@
 //! The scenes: inputs of Expand, each made from a seed and a number alone.
 
 pub mod damage;
+pub mod expanded;
 pub mod families;
 pub mod free;
 pub mod large;

@@ -8,9 +8,9 @@ use lib.Dec.{ltb, eqb}
 use lib.ListN.{length, drop}
 use borrow.Author.Tests.{ltb-false, ltb-true}
 use Rattle.ast.specs.Choice.{choose}
-use Rattle.lines.specs.Answer.{Answer, accepted, refused}
-use Rattle.lines.specs.Read.{goodLines, wordsOf, readLines}
-use Rattle.lines.specs.Write.{linesOf, writeLines}
+use Rattle.text_lines.specs.Answer.{Answer, accepted, refused}
+use Rattle.text_lines.specs.Read.{goodLines, wordsOf, readLines}
+use Rattle.text_lines.specs.Write.{linesOf, writeLines}
 
 abbrev refusal-of : Answer × List ℕ → ℕ
 refusal-of a = a .0 .refusal

@@ -1,17 +1,18 @@
 // The program of document 01: expands the scene on standard input, in Lines form, with an empty library. It writes a line
 // with the refusal, its places and the counts, then the rows of the expanded scene. What it cannot write it tells on
 // standard error, since it has no exit status of its own.
-mod answer;
-mod input;
+use expand_text::answer;
+use expand_text::input;
+
 mod scene;
 
-use call::Outcome;
-use input::Input;
+use expand_text::input::Input;
+use expander_run::Outcome;
 use libc::STDERR_FILENO;
 use libc::STDIN_FILENO;
 use libc::STDOUT_FILENO;
-use lines::Written;
-ghost use Rattle.expand.specs.Answer.{Few};
+use text_lines::Written;
+ghost use Rattle.expand_text.specs.Answer.{Few};
 
 // Standard input's scene, expanded into out. Input that is longer than the lines, or cannot be read, has no length that Read
 // lines takes.
@@ -19,7 +20,7 @@ fn respond(text: &mut [u8], out: &mut [u32]) -> Outcome
     ensures { λ r. ⌜ Few r ⌝ }
 {
     match input::read(STDIN_FILENO, text) {
-        Input::Bytes(n) => scene::expand(&text[..n], out),
+        Input::Bytes(n) => scene::expand_text(&text[..n], out),
         Input::TooLong => answer::refused(12, 0),
         Input::Failed => answer::refused(12, 0),
     }
@@ -28,7 +29,7 @@ fn respond(text: &mut [u8], out: &mut [u32]) -> Outcome
 // Rows, as lines on standard output; there is room for as many as out holds. Whether all of them were written.
 fn print(rows: &[u32]) -> bool {
     let mut text = [0u8; 35600];
-    if let Written::Bytes(n) = lines::write_lines(rows, &mut text) {
+    if let Written::Bytes(n) = text_lines::write_lines(rows, &mut text) {
         return io::write_all(STDOUT_FILENO, &text[..n]);
     }
     false

@@ -1,8 +1,8 @@
 // A scene, read and expanded with the limits of the program: 400 nodes, depth 64, 400 charges.
-use super::answer;
-use call::Outcome;
-use lines::Read;
-ghost use Rattle.expand.specs.Answer.{Few, Expands, ReadRefused, ReadExpanded};
+use expand_text::answer;
+use expander_run::Outcome;
+use text_lines::Read;
+ghost use Rattle.expand_text.specs.Answer.{Few, Expands, ReadRefused, ReadExpanded};
 
 // The expansion of some rows, with no library.
 fn expand_rows<'a>(root: &'a [u32], out: &mut [u32]) -> Outcome
@@ -13,7 +13,7 @@ fn expand_rows<'a>(root: &'a [u32], out: &mut [u32]) -> Outcome
     let mut ledger = [0u32; 1200];
     let mut scopes = [0u32; 2000];
     let mut work = [0u32; 10560];
-    call::expand(
+    expander_call::expand(
         root,
         &library,
         400,
@@ -27,13 +27,13 @@ fn expand_rows<'a>(root: &'a [u32], out: &mut [u32]) -> Outcome
 }
 
 // The expansion of a text of at most 500 rows; the refusals of Read lines are the program's own.
-pub fn expand(text: &[u8], out: &mut [u32]) -> Outcome
+pub fn expand_text(text: &[u8], out: &mut [u32]) -> Outcome
     ensures { λ r. ⌜ ReadRefused (now (text .entry)) r ⌝ }
     ensures { λ r. ⌜ ReadExpanded (now (text .entry)) (now (out .entry)) r (now (out .exit)) ⌝ }
     ensures { λ r. ⌜ Few r ⌝ }
 {
     let mut words = [0u32; 4000];
-    match lines::read_lines(text, &mut words) {
+    match text_lines::read_lines(text, &mut words) {
         Read::Rows(n) => expand_rows(&words[..8 * n], out),
         Read::WrongLength => answer::refused(12, 0),
         Read::BadLine(i) => answer::refused(13, i as u32),

@@ -4,8 +4,8 @@ use Rattle.expand.proofs.main.Statement.{statement}
 use Rattle.expand.proofs.main.Tie as tie
 use Rattle.expand.proofs.main.Reads as reads
 use Rattle.expand.proofs.main.Lts as lts
-use Rattle.expand.proofs.answer.line.Reads as line-reads
-use Rattle.expand.proofs.answer.rows.Reads as rows-reads
+use Rattle.expand_text.proofs.answer.line.Reads as line-reads
+use Rattle.expand_text.proofs.answer.rows.Reads as rows-reads
 use Rattle.expand.proofs.print_all.Reads as print-all-reads
 use Rattle.expand.proofs.respond.Reads as respond-reads
 use Rattle.io.proofs.write_all.Reads as write-all-reads

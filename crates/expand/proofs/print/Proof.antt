@@ -5,7 +5,7 @@ use Rattle.expand.proofs.print.Tie as tie
 use Rattle.expand.proofs.print.Reads as reads
 use Rattle.expand.proofs.print.Lts as lts
 use Rattle.io.proofs.write_all.Reads as write-all-reads
-use Rattle.lines.proofs.write_lines.Reads as write-lines-reads
+use Rattle.text_lines.proofs.write_lines.Reads as write-lines-reads
 use lib.ListN.{length-take}
 use Rattle.expand.proofs.LinesLaws.{bytes-fit}
 use native.Mathlib.Omega.{arith}

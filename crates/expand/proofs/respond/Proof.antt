@@ -4,12 +4,12 @@ use Rattle.expand.proofs.respond.Statement.{statement}
 use Rattle.expand.proofs.respond.Tie as tie
 use Rattle.expand.proofs.respond.Reads as reads
 use Rattle.expand.proofs.respond.Lts as lts
-use Rattle.expand.proofs.answer.refused.Reads as refused-reads
-use Rattle.expand.proofs.input.read.Reads as read-reads
-use Rattle.expand.proofs.scene.expand.Reads as expand-reads
+use Rattle.expand_text.proofs.answer.refused.Reads as refused-reads
+use Rattle.expand_text.proofs.input.read.Reads as read-reads
+use Rattle.expand.proofs.scene.expand_text.Reads as expand-text-reads
 use lib.ListN.{length-take}
-use Rattle.expand.proofs.InputLaws.{bytes-within}
-use Rattle.expand.proofs.AnswerLaws.{few-refused}
+use Rattle.expand_text.proofs.InputLaws.{bytes-within}
+use Rattle.expand_text.proofs.AnswerLaws.{few-refused}
 use native.Mathlib.Omega.{arith}
 
 read-requires : tie.Need-read-requires
@@ -18,14 +18,14 @@ read-requires c κs = search needs
 enum-known-n : tie.Need-enum-known-n
 enum-known-n c = search needs
 
-slice-reshare-prefix-expand : tie.Need-slice-reshare-prefix-expand
-slice-reshare-prefix-expand c = omega (arith, bytes-within _ _ _ (c .before .n .given .1) (c .before .before .before .before .before .read .ensures))
+slice-reshare-prefix-expand-text : tie.Need-slice-reshare-prefix-expand-text
+slice-reshare-prefix-expand-text c = omega (arith, bytes-within _ _ _ (c .before .n .given .1) (c .before .before .before .before .before .read .ensures))
 
-slice-aggregate-expand : tie.Need-slice-aggregate-expand
-slice-aggregate-expand c = simp length-take (omega (arith, bytes-within _ _ _ (c .before .before .n .given .1) (c .before .before .before .before .before .before .read .ensures)))
+slice-aggregate-expand-text : tie.Need-slice-aggregate-expand-text
+slice-aggregate-expand-text c = simp length-take (omega (arith, bytes-within _ _ _ (c .before .before .n .given .1) (c .before .before .before .before .before .before .read .ensures)))
 
-expand-requires : tie.Need-expand-requires
-expand-requires c κs = search needs
+expand-text-requires : tie.Need-expand-text-requires
+expand-text-requires c κs = search needs
 
 enum-told : tie.Need-enum-told
 enum-told c = search needs
@@ -46,7 +46,7 @@ same-length-2 : tie.Need-same-length-2
 same-length-2 c = search needs
 
 returns : tie.Need-returns
-returns c = c .before .before .expand .ensures .1 .1
+returns c = c .before .before .expand-text .ensures .1 .1
 
 same-length-3 : tie.Need-same-length-3
 same-length-3 c = search needs
@@ -66,9 +66,9 @@ respond-spec =
     (tie.spec
     read-requires
     enum-known-n
-    slice-reshare-prefix-expand
-    slice-aggregate-expand
-    expand-requires
+    slice-reshare-prefix-expand-text
+    slice-aggregate-expand-text
+    expand-text-requires
     enum-told
     refused-requires
     enum-told-2

@@ -4,10 +4,10 @@ use Rattle.expand.proofs.scene.expand_rows.Statement.{statement}
 use Rattle.expand.proofs.scene.expand_rows.Tie as tie
 use Rattle.expand.proofs.scene.expand_rows.Reads as reads
 use Rattle.expand.proofs.scene.expand_rows.Lts as lts
-use Rattle.call.proofs.expand.Reads as expand-reads
+use Rattle.expander_call.proofs.expand.Reads as expand-reads
 use mathlib.Core.Path.{ap}
-use Rattle.operation.specs.Operation.{After}
-use Rattle.expand.proofs.AnswerLaws.{few}
+use Rattle.expansion_operation.specs.Operation.{After}
+use Rattle.expand_text.proofs.AnswerLaws.{few}
 
 slice-aggregate-expand : tie.Need-slice-aggregate-expand
 slice-aggregate-expand c = search needs

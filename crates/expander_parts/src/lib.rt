@@ -1,0 +1,451 @@
+// Steps of an expansion that copy no node: externs, routes, a node's statements and its body order.
+use ast::ExternProtoId;
+use ast::NodeId;
+use journal_records;
+use journal_records::Record;
+use refine_records;
+use refine_records::Answer;
+use refine_records::Counts;
+use refine_records::Env;
+use refine_records::Limits;
+use sheet_lookup::rows;
+use sheet_rows::part::Part;
+use sheet_rows::row;
+use sheet_rows::row::Row;
+use sheet_walks::walk;
+use sheet_walks::walk::Found;
+use source_directory;
+use source_lookup;
+ghost use mathlib.Core.Path.{_≡_};
+ghost use Prim.Native.Nat.{_<_, _≤_};
+ghost use lib.ListN.{length};
+ghost use mathlib.Core.List.{[], _∷_};
+ghost use Rattle.sheet_rows.specs.Rows.{rows};
+ghost use Rattle.sheet_rows.specs.Parse.{statementOf};
+ghost use Rattle.journal_records.specs.Records.{tagStatement};
+ghost use Rattle.journal_reading.specs.Reading.{mapOf};
+ghost use Rattle.journal_reading.specs.WellFormed.{HandleAt};
+ghost use Rattle.source_directory.specs.Directory.{numberOf, Slot};
+ghost use Rattle.sheet_lookup.specs.Lookup.{sheetOf};
+ghost use Rattle.refine_records.specs.Sound.{Standing, EnvAt, envOf};
+ghost use Rattle.expander_parts.specs.Contract.{Lent, Counted, Declared, Routed, ExternStated, StatementCopied, StatementsCopied, keptStatement, fieldKept, Takes, OrderCopied};
+
+// How many elements a part has from a row on.
+fn count(sheet: &[u32], part: Part, from: usize) -> usize
+    requires { ⌜ from ≤ length (rows (now sheet)) ⌝ }
+    ensures { λ n. ⌜ Counted part (rows (now (sheet .entry))) from n ⌝ }
+{
+    let mut n = 0;
+    let mut at = from;
+    loop {
+        let Found::At(q) = walk::seek(sheet, part, at) else {
+            return n;
+        };
+        n += 1;
+        at = q + 1;
+    }
+}
+
+// An extern's id in the output: declared once per document and id.
+pub fn extern_proto<'a>(
+    root: &'a [u32],
+    library: &'a [u32],
+    dir: &[u32],
+    work: &mut [u32],
+    lim: Limits,
+    st: Counts,
+    slot: u32,
+    id: ExternProtoId,
+) -> Answer
+    requires { ⌜ Standing lim (now work) st ⌝ }
+    requires { ⌜ Lent lim (now root) (now library) (now dir) (now work) ⌝ }
+    requires { ⌜ Slot (now dir) slot ⌝ }
+    ensures { λ a. ⌜ Declared lim (now (root .entry)) (now (library .entry)) (now (dir .entry)) (now (work .entry)) st slot (id .0) (now (work .exit)) a ⌝ }
+{
+    let document = source_directory::number(dir, slot);
+    let c = st.charges;
+    if let journal_index::Newest::At(r) = journal_index::find(
+        work,
+        lim.rows * 12,
+        lim.slots,
+        c,
+        journal_records::TAG_EXTERN,
+        document,
+        id.0,
+    ) {
+        return Answer::Done {
+            st,
+            value: journal_records::word(work, r, 3),
+            place: 0,
+        };
+    }
+    let Found::At(at) = source_lookup::extern_proto(root, library, dir, work, slot, id) else {
+        return Answer::Refused {
+            number: 4,
+            first: document,
+            second: id.0,
+        };
+    };
+    let sheet = rows::select(root, library, document);
+    let n = count(sheet, Part::Interfaces, at + 1) + count(sheet, Part::Urls, at + 1);
+    if lim.rows - c <= n {
+        return refine_records::too_many();
+    }
+    let out = st.externs as u32;
+    let row = at as u32;
+    journal_index::enter(
+        work,
+        lim.rows * 12,
+        lim.slots,
+        c,
+        Record {
+            tag: journal_records::TAG_EXTERN,
+            a: document,
+            b: id.0,
+            c: out,
+            d: row,
+            e: slot,
+            f: 0,
+            g: 0,
+            h: 0,
+            i: 0,
+            j: 0,
+            k: 0,
+        },
+    );
+    journal_records::paid(work, c + 1, n);
+    let externs = st.externs + 1;
+    let charges = c + 1 + n;
+    let t = Counts {
+        nodes: st.nodes,
+        scopes: st.scopes,
+        externs,
+        charges,
+    };
+    Answer::Done {
+        st: t,
+        value: out,
+        place: 0,
+    }
+}
+
+// The Route statement of a row, its ends remapped, behind those of a handle.
+pub fn route(work: &mut [u32], lim: Limits, st: Counts, env: Env, r: Row, h: u32) -> Answer
+    requires { ⌜ Standing lim (now work) st ⌝ }
+    requires { ⌜ EnvAt (now work) (st .charges) env ⌝ }
+    requires { ⌜ HandleAt (now work) (st .charges) tagStatement h ⌝ }
+    ensures { λ a. ⌜ Routed lim (now (work .entry)) st (env .scope) r h (now (work .exit)) a ⌝ }
+{
+    let from = refine_nodes::remap(work, lim, st, env, NodeId(r.f));
+    let to = refine_nodes::remap(work, lim, st, env, NodeId(r.g));
+    refine_records::keep(
+        work,
+        lim,
+        st,
+        Record {
+            tag: journal_records::TAG_STATEMENT,
+            a: 3,
+            b: r.b,
+            c: r.c,
+            d: r.d,
+            e: r.e,
+            f: from.0,
+            g: to.0,
+            h,
+            i: 0,
+            j: 0,
+            k: 0,
+        },
+    )
+}
+
+// An ExternProto statement, behind those of a handle.
+pub fn extern_statement<'a>(
+    root: &'a [u32],
+    library: &'a [u32],
+    dir: &[u32],
+    work: &mut [u32],
+    lim: Limits,
+    st: Counts,
+    slot: u32,
+    id: ExternProtoId,
+    h: u32,
+) -> Answer
+    requires { ⌜ Standing lim (now work) st ⌝ }
+    requires { ⌜ Lent lim (now root) (now library) (now dir) (now work) ⌝ }
+    requires { ⌜ Slot (now dir) slot ⌝ }
+    requires { ⌜ HandleAt (now work) (st .charges) tagStatement h ⌝ }
+    ensures { λ a. ⌜ ExternStated lim (now (root .entry)) (now (library .entry)) (now (dir .entry)) (now (work .entry)) st slot (id .0) h (now (work .exit)) a ⌝ }
+{
+    let a = extern_proto(root, library, dir, work, lim, st, slot, id);
+    let Answer::Done {
+        st: s,
+        value: n,
+        place: _,
+    } = a
+    else {
+        return a;
+    };
+    refine_records::keep(
+        work,
+        lim,
+        s,
+        Record {
+            tag: journal_records::TAG_STATEMENT,
+            a: 2,
+            b: n,
+            c: 0,
+            d: 0,
+            e: 0,
+            f: 0,
+            g: 0,
+            h,
+            i: 0,
+            j: 0,
+            k: 0,
+        },
+    )
+}
+
+// A statement of a node, by its row, behind those of a handle: Route and ExternProto are kept.
+fn statement<'a>(
+    root: &'a [u32],
+    library: &'a [u32],
+    dir: &[u32],
+    work: &mut [u32],
+    lim: Limits,
+    st: Counts,
+    env: Env,
+    r: Row,
+    h: u32,
+) -> Answer
+    requires { ⌜ Standing lim (now work) st ⌝ }
+    requires { ⌜ EnvAt (now work) (st .charges) env ⌝ }
+    requires { ⌜ Lent lim (now root) (now library) (now dir) (now work) ⌝ }
+    requires { ⌜ Slot (now dir) (env .slot) ⌝ }
+    requires { ⌜ HandleAt (now work) (st .charges) tagStatement h ⌝ }
+    ensures { λ a. ⌜ StatementCopied lim (now (root .entry)) (now (library .entry)) (now (dir .entry)) (now (work .entry)) st env r h (now (work .exit)) a ⌝ }
+{
+    if r.a == 3 {
+        return route(work, lim, st, env, r, h);
+    }
+    if r.a == 2 {
+        let id = ExternProtoId(r.b);
+        return extern_statement(root, library, dir, work, lim, st, env.slot, id, h);
+    }
+    Answer::Done {
+        st,
+        value: h,
+        place: 0,
+    }
+}
+
+// The statements of the node at a row: Route and ExternProto only.
+pub fn statements<'a>(
+    root: &'a [u32],
+    library: &'a [u32],
+    dir: &[u32],
+    work: &mut [u32],
+    lim: Limits,
+    st: Counts,
+    env: Env,
+    row: usize,
+) -> Answer
+    requires { ⌜ Standing lim (now work) st ⌝ }
+    requires { ⌜ EnvAt (now work) (st .charges) env ⌝ }
+    requires { ⌜ Lent lim (now root) (now library) (now dir) (now work) ⌝ }
+    requires { ⌜ Slot (now dir) (env .slot) ⌝ }
+    requires { ⌜ row < length (rows (sheetOf (now root) (now library) (numberOf (now dir) (env .slot)))) ⌝ }
+    ensures { λ a. ⌜ StatementsCopied lim (now (root .entry)) (now (library .entry)) (now (dir .entry)) (now (work .entry)) st env row (now (work .exit)) a ⌝ }
+{
+    let mut cur = st;
+    let mut h: u32 = 0;
+    let mut at = row + 1;
+    loop {
+        let sheet = rows::select(root, library, source_directory::number(dir, env.slot));
+        let Found::At(q) = walk::seek(sheet, Part::Statements, at) else {
+            return Answer::Done {
+                st: cur,
+                value: h,
+                place: 0,
+            };
+        };
+        at = q + 1;
+        let a = statement(
+            root,
+            library,
+            dir,
+            work,
+            lim,
+            cur,
+            env,
+            row::row_at(sheet, q),
+            h,
+        );
+        let Answer::Done {
+            st: s,
+            value: n,
+            place: _,
+        } = a
+        else {
+            return a;
+        };
+        cur = s;
+        h = n;
+    }
+}
+
+// Whether a field is kept: a value, an IS outside a body, or an IS that has a value in the body.
+fn field_kept(work: &[u32], lim: Limits, st: Counts, env: Env, r: Row) -> bool
+    requires { ⌜ Standing lim (now work) st ⌝ }
+    requires { ⌜ EnvAt (now work) (st .charges) env ⌝ }
+    ensures { λ k. ⌜ k ≡ fieldKept (now (work .entry)) env r ⌝ }
+{
+    if r.b != 1 {
+        return true;
+    }
+    if !env.body {
+        return true;
+    }
+    let journal_index::Newest::At(_) = refine_values::value_of(work, lim, st, env.values, r.c)
+    else {
+        return false;
+    };
+    true
+}
+
+fn statement_kept(r: Row) -> bool
+    ensures { λ k. ⌜ k ≡ keptStatement (statementOf (r ∷ [])) ⌝ }
+{
+    if r.a == 2 {
+        return true;
+    }
+    r.a == 3
+}
+
+// What a mark takes: whether it is kept, and the rows from which fields and statements are not taken yet.
+struct Taken {
+    kept: bool,
+    field: usize,
+    statement: usize,
+}
+
+fn take(
+    sheet: &[u32],
+    work: &[u32],
+    lim: Limits,
+    st: Counts,
+    env: Env,
+    mark: u32,
+    field: usize,
+    statement: usize,
+) -> Taken
+    requires { ⌜ Standing lim (now work) st ⌝ }
+    requires { ⌜ EnvAt (now work) (st .charges) env ⌝ }
+    ensures { λ x. ⌜ Takes (envOf (now (work .entry)) env .isValues) (rows (now (sheet .entry))) mark field statement x ⌝ }
+{
+    if mark == 1 {
+        return Taken {
+            kept: true,
+            field,
+            statement,
+        };
+    }
+    if mark == 0 {
+        let Found::At(f) = walk::seek(sheet, Part::Fields, field) else {
+            return Taken {
+                kept: false,
+                field,
+                statement,
+            };
+        };
+        return Taken {
+            kept: field_kept(work, lim, st, env, row::row_at(sheet, f)),
+            field: f + 1,
+            statement,
+        };
+    }
+    let Found::At(s) = walk::seek(sheet, Part::Statements, statement) else {
+        return Taken {
+            kept: false,
+            field,
+            statement,
+        };
+    };
+    Taken {
+        kept: statement_kept(row::row_at(sheet, s)),
+        field,
+        statement: s + 1,
+    }
+}
+
+// The body order of the node at a row, without what was dropped.
+pub fn order<'a>(
+    root: &'a [u32],
+    library: &'a [u32],
+    dir: &[u32],
+    work: &mut [u32],
+    lim: Limits,
+    st: Counts,
+    env: Env,
+    row: usize,
+) -> Answer
+    requires { ⌜ Standing lim (now work) st ⌝ }
+    requires { ⌜ Lent lim (now root) (now library) (now dir) (now work) ⌝ }
+    requires { ⌜ Slot (now dir) (env .slot) ⌝ }
+    requires { ⌜ EnvAt (now work) (st .charges) env ⌝ }
+    requires { ⌜ row < length (rows (sheetOf (now root) (now library) (numberOf (now dir) (env .slot)))) ⌝ }
+    ensures { λ a. ⌜ OrderCopied lim (now (root .entry)) (now (library .entry)) (now (dir .entry)) (now (work .entry)) st env row (now (work .exit)) a ⌝ }
+{
+    let mut cur = st;
+    let mut h: u32 = 0;
+    let mut at = row + 1;
+    let mut field = row + 1;
+    let mut statement = row + 1;
+    loop {
+        let sheet = rows::select(root, library, source_directory::number(dir, env.slot));
+        let Found::At(q) = walk::seek(sheet, Part::BodyOrder, at) else {
+            return Answer::Done {
+                st: cur,
+                value: h,
+                place: 0,
+            };
+        };
+        at = q + 1;
+        let mark = row::row_at(sheet, q).a;
+        let x = take(sheet, work, lim, cur, env, mark, field, statement);
+        field = x.field;
+        statement = x.statement;
+        if x.kept {
+            let a = refine_records::keep(
+                work,
+                lim,
+                cur,
+                Record {
+                    tag: journal_records::TAG_ORDER,
+                    a: mark,
+                    b: 0,
+                    c: 0,
+                    d: 0,
+                    e: 0,
+                    f: 0,
+                    g: 0,
+                    h,
+                    i: 0,
+                    j: 0,
+                    k: 0,
+                },
+            );
+            let Answer::Done {
+                st: s,
+                value: n,
+                place: _,
+            } = a
+            else {
+                return a;
+            };
+            cur = s;
+            h = n;
+        }
+    }
+}

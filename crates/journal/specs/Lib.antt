@@ -1,5 +1,0 @@
-pub mod Records
-pub mod Logs
-pub mod Index
-pub mod Owned
-pub mod Families

@@ -1,2 +1,0 @@
-pub mod DocLaws
-pub mod PartLaws

@@ -1,4 +1,0 @@
-pub mod Eachs
-pub mod Ranged
-pub mod RowCount
-pub mod Output

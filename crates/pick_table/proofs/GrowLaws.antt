@@ -1,0 +1,136 @@
+-- The table only grows, and a base is skipped only when the table is full: so the final table gives each extern its pick.
+use mathlib.Core.Path.{_≡_, refl, sym, ap}
+use mathlib.Core.Bool.{Bool, true, false}
+use mathlib.Core.List.{List, [], _∷_, _++_}
+use mathlib.Core.Option.{Option, none, some}
+use Prim.Native.Nat.{ℕ, zero, suc, _+_, _≤_, _<_}
+use native.Mathlib.Omega.{arith}
+use native.Mathlib.Decide.{decLt}
+use lib.ListN.{length, getElem?, length-append}
+use lib.Dec.{ltb}
+use borrow.Author.Tests.{lt-ltb, le-ltb}
+use Rattle.ast.specs.Ast.{Url, ExternProtoDecl, Document, File}
+use Rattle.ast.specs.Choice.{choose, andThen, mapO}
+use Rattle.pick_table.specs.Picks.{Pick, Bases, Picked, member, remember, pickUrl, orNext, tryUrl, pickUrls, picksFrom, picks, pickAt, basesFrom, finalBases}
+use Rattle.pick_table.specs.Table.{tableAfter}
+use Rattle.pick_table.proofs.MemberLaws.{member-more, member-last}
+
+-- F may stand for T's table at the end
+pub record Grows (T F : Bases) : Type 0 where
+  pub known : (b : ℕ) → member b T ≡ true → member b F ≡ true
+  pub full : 64 ≤ length T → (b : ℕ) → member b T ≡ false → member b F ≡ false
+  pub longer : length T ≤ length F
+
+grows-same : (T : Bases) → Grows T T
+grows-same T = record { known = λ b h. h; full = λ l b h. h; longer = omega arith }
+
+grows-on : {T U F : Bases} → Grows T U → Grows U F → Grows T F
+grows-on g h = record { known = λ b e. h .known b (g .known b e); full = λ l b e. h .full (omega (arith, g .longer)) b (g .full l b e); longer = omega (arith, g .longer, h .longer) }
+
+-- ---- one base
+
+-- the three ways of a base: known, new, one too many
+remember-cases : (P : Option Bases → Type 0) (base : ℕ) (T : Bases) → (member base T ≡ true → P (some T)) → (member base T ≡ false → length T < 64 → P (some (T ++ (base ∷ [])))) → (member base T ≡ false → 64 ≤ length T → P none) → P (remember base T)
+unfolding remember
+remember-cases P base T known new full = go (member base T) refl (decLt (length T) 64)
+  where
+    go : (b : Bool) → member base T ≡ b → Dec (length T < 64) → P (choose b (some T) (choose (ltb (length T) 64) (some (T ++ (base ∷ []))) none))
+    go true e d = known e
+    go false e (yes h) = rw (lt-ltb _ _ h) (new e h)
+    go false e (no h) = let l : 64 ≤ length T = omega arith in rw (le-ltb _ _ l) (full e l)
+
+-- looking for a base makes the table grow, if anything
+grows-kept : (base : ℕ) (T : Bases) → Grows T (tableAfter T (remember base T))
+grows-kept base T =
+    remember-cases (λ r. Grows T (tableAfter T r)) base T
+    (λ e. grows-same T)
+    (λ e h. record { known = λ b i. member-more b base T i; full = λ l b i. absurd (omega arith); longer = simp length-append (omega arith) })
+    (λ e h. grows-same T)
+
+-- a base that a table knows, and a new one that it has no place for
+is-known : (base : ℕ) (F : Bases) → member base F ≡ true → remember base F ≡ some F
+unfolding remember
+is-known base F e = rw e
+
+is-full : (base : ℕ) (F : Bases) → member base F ≡ false → 64 ≤ length F → remember base F ≡ none
+unfolding remember
+is-full base F e h = rw (e, le-ltb _ _ h)
+
+-- a base that was looked for is looked for in vain in the final table exactly if it was skipped
+settled : (base : ℕ) (T F : Bases) → Grows (tableAfter T (remember base T)) F → remember base F ≡ andThen (remember base T) (λ t. some F)
+settled base T F =
+    remember-cases (λ r. Grows (tableAfter T r) F → remember base F ≡ andThen r (λ t. some F)) base T
+    (λ e g. is-known base F (g .known base e))
+    (λ e h g. is-known base F (g .known base (member-last base T)))
+    (λ e h g. is-full base F (g .full h base e) (omega (arith, g .longer)))
+
+-- ---- the urls of an extern
+
+-- a url's step: the table after its base, and the pick of its file unless the base is skipped
+pub try-kept : (library : List File) (url : Url) (next : Bases → Picked) (T : Bases) (r : Option Bases) → tryUrl library url next T r ≡ orNext next (tableAfter T r) (andThen r (λ t. pickUrl library url))
+try-kept library url next T none = refl
+try-kept library url next T (some t) = refl
+
+-- whatever a url leads to, the table grows
+grows-next : (next : Bases → Picked) (T : Bases) (p : Option Pick) → ((U : Bases) → Grows U (next U .1)) → Grows T (orNext next T p .1)
+grows-next next T none f = f T
+grows-next next T (some p) f = grows-same T
+
+grows-urls : (library : List File) (urls : List Url) (T : Bases) → Grows T (pickUrls library urls T .1)
+unfolding pickUrls
+grows-urls library [] T = grows-same T
+grows-urls library (u ∷ l) T =
+    let k = tableAfter T (remember (u .base) T) in
+    let p = andThen (remember (u .base) T) (λ t. pickUrl library u) in
+    rw (try-kept library u (pickUrls library l) T (remember (u .base) T))
+    (grows-on (grows-kept (u .base) T) (grows-next (pickUrls library l) k p (grows-urls library l)))
+
+-- the urls after one that led to no pick are the same by F if they are so alone
+same-next : (next : Bases → Picked) (T F : Bases) (p : Option Pick) → (Grows (next T .1) F → next F ≡ (next T .0, F)) → Grows (orNext next T p .1) F → orNext next F p ≡ (orNext next T p .0, F)
+same-next next T F none f g = f g
+same-next next T F (some p) f g = refl
+
+-- by F a url is tried or skipped as it was
+try-final : (library : List File) (url : Url) (next : Bases → Picked) (F : Bases) (r : Option Bases) → tryUrl library url next F (andThen r (λ t. some F)) ≡ orNext next F (andThen r (λ t. pickUrl library url))
+try-final library url next F none = refl
+try-final library url next F (some t) = refl
+
+-- by a table that the urls' table grows to, the pick is the same and the table stays
+same-urls : (library : List File) (urls : List Url) (T F : Bases) → Grows (pickUrls library urls T .1) F → pickUrls library urls F ≡ (pickUrls library urls T .0, F)
+unfolding pickUrls
+same-urls library [] T F g = refl
+same-urls library (u ∷ l) T F g =
+    let next = pickUrls library l in
+    let k = tableAfter T (remember (u .base) T) in
+    let p = andThen (remember (u .base) T) (λ t. pickUrl library u) in
+    let e = try-kept library u next T (remember (u .base) T) in
+    let h : Grows (orNext next k p .1) F = rw e at g in
+    rw (e, settled (u .base) T F (grows-on (grows-next next k p (grows-urls library l)) h), try-final library u next F (remember (u .base) T))
+    (same-next next k F p (same-urls library l k F) h)
+
+-- ---- the externs of the root
+
+-- the externs make the table grow
+pub grows-all : (library : List File) (l : List ExternProtoDecl) (T : Bases) → Grows T (basesFrom library l T)
+unfolding basesFrom
+grows-all library [] T = grows-same T
+grows-all library (x ∷ l) T = grows-on (grows-urls library (x .urls) T) (grows-all library l (pickUrls library (x .urls) T .1))
+
+-- each pick of a list of externs is the one by F
+final : (library : List File) (l : List ExternProtoDecl) (T F : Bases) (i : ℕ) → Grows (basesFrom library l T) F → getElem? (picksFrom library l T) i ≡ mapO (λ x. pickUrls library (x .urls) F .0) (getElem? l i)
+unfolding picksFrom basesFrom
+final library [] T F i g = refl
+final library (x ∷ l) T F zero g =
+    ap (λ (p : Picked). some (p .0)) (sym (same-urls library (x .urls) T F (grows-on (grows-all library l (pickUrls library (x .urls) T .1)) g)))
+final library (x ∷ l) T F (suc i) g = final library l (pickUrls library (x .urls) T .1) F i g
+
+-- the law of the picks: the pick of an extern is the one that its urls lead to by the final table
+pub pick-final : (root : Document) (library : List File) (id : ℕ) → pickAt root library id ≡ andThen (getElem? (root .externProtos) id) (λ x. pickUrls library (x .urls) (finalBases root library) .0)
+unfolding pickAt picks finalBases
+pick-final root library id =
+    rw (final library (root .externProtos) [] (basesFrom library (root .externProtos) []) id (grows-same _))
+    (go (getElem? (root .externProtos) id))
+  where
+    go : (x : Option ExternProtoDecl) → andThen (mapO (λ x. pickUrls library (x .urls) (basesFrom library (root .externProtos) []) .0) x) (λ p. p) ≡ andThen x (λ x. pickUrls library (x .urls) (basesFrom library (root .externProtos) []) .0)
+    go none = refl
+    go (some x) = refl

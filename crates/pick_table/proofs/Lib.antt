@@ -1,0 +1,6 @@
+pub mod MemberLaws
+pub mod SourceLaws
+pub mod TableLaws
+pub mod GrowLaws
+pub mod NewerLaws
+pub mod PickLaws

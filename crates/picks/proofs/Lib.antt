@@ -1,7 +1,0 @@
-pub mod MemberLaws
-pub mod OptionLaws
-pub mod SourceLaws
-pub mod TableLaws
-pub mod GrowLaws
-pub mod NewerLaws
-pub mod PickLaws

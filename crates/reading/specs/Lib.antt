@@ -1,3 +1,0 @@
-pub mod Reading
-pub mod Fair
-pub mod Calm

@@ -1,0 +1,5 @@
+pub mod Rows
+pub mod Cut
+pub mod Joined
+pub mod Documents
+pub mod Protos

@@ -1,0 +1,1 @@
+// What sheets of several documents and sheets of protos say: theorems only.

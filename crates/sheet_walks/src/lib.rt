@@ -1,0 +1,2 @@
+// Walks over the parts of a sheet.
+pub mod walk;

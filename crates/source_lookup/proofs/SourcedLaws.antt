@@ -1,0 +1,78 @@
+-- What the lookups rest on: that it stays where the words of the region do.
+use mathlib.Core.Path.{_≡_, sym, ap, _∙_}
+use mathlib.Core.List.{List}
+use Prim.Native.Nat.{ℕ, _+_, _-_, _*_, _≤_, _<_}
+use native.Mathlib.Omega.{arith}
+use lib.ListN.{length, getD, take, drop}
+use Rattle.sheet_rows.specs.Rows.{rows}
+use Rattle.sheet_walks.specs.declared.walk.Found.{Found}
+use Rattle.sheet_index.specs.Index.{Filled}
+use Rattle.sheet_lookup.specs.Lookup.{sheetOf}
+use Rattle.source_directory.specs.Directory.{numberOf, rowOf, strideOf, cacheOf, namesOf, spreadOf, groupPart, indexPlace, filledOf, Slot}
+use Rattle.source_names.specs.Names.{LastField, NameTable, NodeTabled}
+use Rattle.source_lookup.specs.Sourced.{Sourced, Region}
+use Rattle.source_names.proofs.NameLaws.{listed-on}
+use Rattle.source_directory.proofs.GroupLaws.{held-filled, held-on}
+
+module _ {root library dir w : List ℕ} (s : Sourced root library dir w) where
+  -- slot 0 is the root's, document 0
+  pub slot-root : Slot dir 0
+  slot-root = record { upto = omega arith; real = λ h. absurd (omega arith) }
+
+  pub slot-within : {u : ℕ} → Slot dir u → u < length dir
+  slot-within x = omega (arith, x .upto, s .directory .few, s .directory .long)
+
+  pub number-root : numberOf dir 0 ≡ 0
+  number-root = s .directory .number
+
+  -- the law of the region: it rests on no word of w but those of the region
+  pub sourced-kept : (at len : ℕ) (w′ : List ℕ) → Region dir at len → at + len ≤ length w′ → ((k : ℕ) → at ≤ k → k < at + len → getD w′ k 0 ≡ getD w k 0) → Sourced root library dir w′
+  sourced-kept at len w′ r long same = record {
+    directory = s .directory;
+    within = omega (arith, r .end);
+    held = λ u g h x. held-on (s .held u g h x) (omega arith) (omega arith) (λ k a b. same k (omega (arith, r .from)) (omega (arith, r .end, s .cache .upto)));
+    names = record { from = s .names .from; listed = listed-on (s .names .listed) (λ k a b. same k (omega (arith, r .from, s .names .from)) (omega (arith, r .end, s .cache .upto))) };
+    cache = record {
+      from = s .cache .from;
+      upto = s .cache .upto;
+      is = λ i h. rw (same (cacheOf dir + 2 * i) (omega (arith, r .from, s .cache .from)) (omega (arith, r .end, s .cache .upto)), same (cacheOf dir + 2 * i + 1) (omega (arith, r .from, s .cache .from)) (omega (arith, r .end, s .cache .upto))) (s .cache .is i h);
+    };
+  }
+
+  -- ---- a lookup by an index of the region
+
+  module _ (u g : ℕ) (h : g < 3) (x : Slot dir u) where
+    pub place-within : indexPlace dir u g ≤ length w
+    place-within = omega (arith, s .held u g h x .upto, s .cache .upto, s .within)
+
+    pub filled-at : Filled (groupPart g) (rows (sheetOf root library (numberOf dir u))) (rowOf dir u + 1) (strideOf dir) (take (length w - indexPlace dir u g) (drop (indexPlace dir u g) w)) (filledOf dir u g)
+    filled-at = held-filled (s .held u g h x) (omega (arith, s .cache .upto, s .within))
+
+-- ---- the last field of a name
+
+module _ {root library dir w : List ℕ} (s : Sourced root library dir w) (slot : ℕ) {doc : ℕ} {sheet : List ℕ} (isSheet : sheet ≡ sheetOf root library doc) (isDoc : doc ≡ numberOf dir slot) where
+  sheet-is : sheet ≡ sheetOf root library (numberOf dir slot)
+  sheet-is = isSheet ∙ ap (sheetOf root library) isDoc
+
+  pub node-below : {n : ℕ} → n < length (rows (sheetOf root library (numberOf dir slot))) → n < length (rows sheet)
+  node-below h = rw sheet-is h
+
+  pub last-of : {n m : ℕ} {x : Found} → LastField m (rows sheet) n x → LastField m (rows (sheetOf root library (numberOf dir slot))) n x
+  last-of l = rw sheet-is at l
+
+  -- of the root, by a node's table
+  module _ (zero : slot ≡ 0) where
+    sheet-root : sheet ≡ root
+    sheet-root = sheet-is ∙ rw (zero, s .directory .number)
+
+    pub table-at : {i p c h : ℕ} → p ≡ namesOf dir → c ≡ spreadOf dir → i < c → h ≡ getD w (p + i) 0 → 0 < h → NodeTabled (rows sheet) w (namesOf dir + spreadOf dir) (cacheOf dir) h
+    table-at {i} {p} {c} {h} a b g e z =
+        let y : h ≡ getD w (namesOf dir + i) 0 = rw a at e in
+        rw (sheet-root, y) (s .names .listed .table i (omega (arith, b)) (omega (arith, y)))
+
+  module _ {lo h : ℕ} (t : NodeTabled (rows sheet) w lo (cacheOf dir) h) where
+    pub table-within : h + 2 + getD w (h + 1) 0 ≤ length w
+    table-within = omega (arith, t .upto, s .cache .upto, s .within)
+
+    pub table-tells : {n x span : ℕ} → x ≡ getD w h 0 → x ≡ n → span ≡ getD w (h + 1) 0 → NameTable (rows sheet) n span w (h + 2)
+    table-tells {n = n} a b c = let y : getD w h 0 ≡ n = sym a ∙ b in let z = sym c in rw (y, z) at (t .tells)

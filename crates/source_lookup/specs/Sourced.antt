@@ -1,0 +1,35 @@
+-- What the lookups rest on: the directory, the indexes, the tables of names and the cache of picks.
+use mathlib.Core.Path.{_≡_}
+use mathlib.Core.List.{List}
+use Prim.Native.Nat.{ℕ, _+_, _*_, _≤_, _<_}
+use lib.ListN.{length}
+use Rattle.sheet_rows.specs.Rows.{rows}
+use Rattle.sheet_rows.specs.Parse.{documentOf, filesOf}
+use Rattle.pick_table.specs.Picks.{pickAt}
+use Rattle.source_names.specs.Names.{TablesListed}
+use Rattle.source_directory.specs.Directory.{fromOf, endOf, cacheOf, cachedOf, namesOf, spreadOf, Slot, Directory, HeldAt}
+use Rattle.source_lookup.specs.Instance.{Targeted, targetAt}
+
+-- the tables of names of the root's nodes
+pub record RootNames (root dir w : List ℕ) : Type 0 where
+  pub from : fromOf dir ≤ namesOf dir
+  pub listed : TablesListed (rows root) w (namesOf dir) (spreadOf dir) (cacheOf dir)
+
+-- the first picks of the root's externs, in w
+pub record Cached (root library dir w : List ℕ) : Type 0 where
+  pub from : fromOf dir ≤ cacheOf dir
+  pub upto : cacheOf dir + 2 * cachedOf dir ≤ endOf dir
+  pub is : (i : ℕ) → i < cachedOf dir → Targeted dir (pickAt (documentOf (rows root)) (filesOf (rows library)) i) (targetAt w (cacheOf dir + 2 * i))
+
+-- the directory and the words w answer for the two sheets
+pub record Sourced (root library dir w : List ℕ) : Type 0 where
+  pub directory : Directory root library dir
+  pub within : endOf dir ≤ length w
+  pub held : (s g : ℕ) → g < 3 → Slot dir s → HeldAt root library dir w (fromOf dir) (cacheOf dir) s g
+  pub names : RootNames root dir w
+  pub cache : Cached root library dir w
+
+-- the words of w that a directory speaks of
+pub record Region (dir : List ℕ) (at len : ℕ) : Type 0 where
+  pub from : fromOf dir ≡ at
+  pub end : endOf dir ≡ at + len

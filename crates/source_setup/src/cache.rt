@@ -1,0 +1,54 @@
+// The cache of the picks of the root's externs.
+use ast::ExternProtoId;
+use sheet_walks::walk::Found;
+use source_directory;
+use source_lookup::instance;
+use source_lookup::instance::Target;
+use words_lent::wide;
+ghost use mathlib.Core.Path.{_≡_};
+ghost use Prim.Native.Nat.{_+_, _<_};
+ghost use lib.ListN.{length};
+ghost use Rattle.words_lent.specs.Words.{Outside};
+ghost use Rattle.source_lookup.specs.Instance.{targetAt, SlotSmall};
+ghost use Rattle.source_lookup.specs.Sourced.{Sourced};
+ghost use Rattle.source_setup.specs.Prepared.{PicksCached};
+
+// A target is kept in two words: its slot + 1, or 0 for a plain node, and the PROTO's id.
+fn keep(x: Target, work: &mut [u32], at: usize)
+    requires { ⌜ (at + 1 < length (now work)) × SlotSmall x ⌝ }
+    ensures { λ _. ⌜ (targetAt (now (work .exit)) at ≡ x) × Outside at (at + 2) (now (work .entry)) (now (work .exit)) ⌝ }
+{
+    match x {
+        Target::Of { slot, proto } => {
+            work[at] = slot + 1;
+            work[at + 1] = proto.0;
+        }
+        Target::Plain => work[at] = 0,
+    }
+}
+
+// Adds the picks of the root's externs, in order, to the cache, while the region has room.
+pub fn remember<'a>(root: &'a [u32], library: &'a [u32], dir: &mut [u32], work: &mut [u32])
+    requires { ⌜ Sourced (now root) (now library) (now dir) (now work) ⌝ }
+    ensures { λ _. ⌜ PicksCached (now (root .entry)) (now (library .entry)) (now (dir .entry)) (now (dir .exit)) (now (work .entry)) (now (work .exit)) ⌝ }
+{
+    let table = source_directory::table_of(dir);
+    let from = wide(dir[source_directory::FROM]);
+    let end = wide(dir[source_directory::END]);
+    let mut i = dir[source_directory::CACHED];
+    let mut at = wide(dir[source_directory::CACHE]) + 2 * wide(i);
+    let mut memo = pick_memo::fresh(&mut work[..from]);
+    while at + 2 <= end {
+        let Found::At(row) = instance::root_extern(root, library, dir, work, ExternProtoId(i))
+        else {
+            return;
+        };
+        let aimed = instance::pick_row(root, row, library, dir, table, memo, &mut work[..from]);
+        memo = aimed.memo;
+        let x = aimed.target;
+        keep(x, work, at);
+        i += 1;
+        dir[source_directory::CACHED] = i;
+        at += 2;
+    }
+}

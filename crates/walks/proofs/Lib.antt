@@ -1,3 +1,0 @@
-pub mod WalkLaws
-pub mod BareLaws
-pub mod IndexLaws

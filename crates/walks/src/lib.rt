@@ -1,3 +1,0 @@
-// Walks over the parts of a sheet, and an index of one.
-pub mod index;
-pub mod walk;
