@@ -60,6 +60,14 @@ fn benches() -> Vec<Bench> {
         ),
         b("2,000 externs by fragment (not asked for)", 10.0, || large::picked(2_000), || large::picked(1_000)),
         b(
+            "10,000 Script nodes, 50 marks each (not asked for)",
+            10.0,
+            || large::scripts(10_000),
+            || large::scripts(5_000),
+        ),
+        b("1,000,000 marks of one node (not asked for)", 10.0, || large::marks(1_000_000), || large::marks(500_000)),
+        b("40,000 marks past the last entry (not asked for)", 10.0, || large::past(40_000), || large::past(20_000)),
+        b(
             "149,000 files, 64 bases behind them (not asked for)",
             10.0,
             || large::behind(149_000),
@@ -363,7 +371,7 @@ pub fn spin(part: &str, seconds: u64) -> u64 {
 }
 
 /// Scenes of the same shapes that fit the caches.
-fn small_scenes() -> [(&'static str, Scene); 6] {
+fn small_scenes() -> [(&'static str, Scene); 8] {
     [
         ("plain nodes flat", large::flat(1_000)),
         ("instances of a four-node body", large::instances(250)),
@@ -371,6 +379,8 @@ fn small_scenes() -> [(&'static str, Scene); 6] {
         ("nested prototypes", large::nested(4, 256)),
         ("doubling", large::doubling(10)),
         ("nested roots", large::nested_roots(4, 200, 1)),
+        ("Script nodes", large::scripts(20)),
+        ("marks of one node", large::marks(1_000)),
     ]
 }
 

@@ -116,6 +116,41 @@ pub fn wide(count: u32) -> Scene {
     scene(vec![node(Origin::Proto(0), fields), node(Origin::Builtin, taken)], protos, mention([0]))
 }
 
+/// A Script node: so many fields, interfaces and routes, and a body order.
+fn script(fields: u32, interfaces: u32, routes: u32, order: Vec<u32>) -> Node {
+    let value = |number| Value::Payload { tag: 4, number };
+    let field = |name| Field { name, binding: Binding::Value(value(name)), inferred: 0 };
+    let interface = |name| Interface { access: 2, tag: 4, name, is: None, value: Some(value(1)) };
+    Node {
+        fields: (0..fields).map(field).collect(),
+        interfaces: (0..interfaces).map(interface).collect(),
+        statements: (0..routes)
+            .map(|i| Statement::Route(Route { names: [1, 2, 3, i], from: None, to: None }))
+            .collect(),
+        order,
+        ..Node::new(7, Origin::Builtin)
+    }
+}
+
+/// Script nodes, each with 20 fields, 20 interfaces, 10 routes and a mark for each of them, mixed.
+pub fn scripts(count: u32) -> Scene {
+    let order: Vec<u32> = (0..10).flat_map(|_| [0, 1, 2, 1, 0]).collect();
+    scene((0..count).map(|_| script(20, 20, 10, order.clone())).collect(), vec![], mention(0..count))
+}
+
+/// One node with so many marks of the three kinds in turn, and for each 64 of them a field and a route.
+pub fn marks(count: u32) -> Scene {
+    let order = (0..count).map(|i| (i * 7 + i / 5) % 3).collect();
+    scene(vec![script(count / 64, 0, count / 64, order)], vec![], mention([0]))
+}
+
+/// One node whose only field has so many ids, with as many Field marks: all but one are past the last entry.
+pub fn past(count: u32) -> Scene {
+    let mut list = vec![node(Origin::Builtin, nodes(vec![1; count as usize])), node(Origin::Builtin, vec![])];
+    list[0].order = vec![0; count as usize];
+    scene(list, vec![], mention([0]))
+}
+
 /// Externs that name, by fragment, each its PROTO of one file.
 pub fn picked(count: u32) -> Scene {
     let url = |i: u32| vec![(1, Some(count - 1 - i))];
@@ -211,6 +246,9 @@ pub fn all() -> Vec<(&'static str, Scene)> {
         ("512 nested roots", nested_roots(1, 512, 1)),
         ("doubling 14 levels", doubling(14)),
         ("1,000 interfaces by 1,000 fields", wide(1_000)),
+        ("1,000 Script nodes", scripts(1_000)),
+        ("100,000 marks of one node", marks(100_000)),
+        ("3,000 marks past the last entry", past(3_000)),
         ("1,000 externs by fragment", picked(1_000)),
         ("20,000 rows in each sheet", full_sheets(20_000)),
         ("3,000 files, 64 bases behind them", behind(3_000)),

@@ -34,9 +34,11 @@ use Rattle.refine_records.specs.Contract.{Reserved, ReservedAt, contentsOf, Fil
 use Rattle.refine_records.proofs.Later.{later-trans, later-handle, later-node, env-later}
 use Rattle.refine_nodes.proofs.Filling.{fill-later, fill-does}
 use Rattle.refine_records.proofs.Calculus as calculus
-use Rattle.expander_parts.specs.Contract.{sourceOf, rowsOf, nodeAtRow, isSome, keptTarget, keptBinding, keptField, StatementsKept, StatementsCopied, OrderCopied}
+use Rattle.expander_marks.specs.Positions.{isSome}
+use Rattle.expander_marks.specs.Kept.{keptTarget, keptBinding, keptField}
+use Rattle.expander_parts.specs.Contract.{sourceOf, rowsOf, nodeAtRow, StatementsKept, StatementsCopied, OrderCopied}
 use Rattle.expander_parts.proofs.Said.{said-start, said-end}
-use Rattle.expander_parts.proofs.Ordered.{order-start, order-end}
+use Rattle.expander_parts.proofs.Ordered.{no-marks}
 use Rattle.expander_contracts.specs.Contract.{Here, Yields, Origin, PlainNodeCopied, OriginCopied, Fields, FieldsCopied, Interfaces, InterfacesCopied}
 use Rattle.expander_contracts.proofs.Run.{Run, begin, turn, go, halt, through, leaf, went, gave, since, yields-young, here-later}
 use Rattle.expander_contracts.proofs.InterfaceLaws.{interfaces-start, interfaces-end}
@@ -319,7 +321,7 @@ module _ (root library dir w : List ℕ) (L : Limits) (t : Counts) (e : code.Env
                 no-statements = said-end L root library dir w₃ t₃ e row (said-start L root library dir w₃ t₃ e row (plain-here-3 .standing) (plain-here-3 .env) (plain-here-3 .lent)) (z .statements)
 
                 no-order : OrderCopied L root library dir w₃ t₃ e row w₃ (Done t₃ 0 0)
-                no-order = order-end L root library dir w₃ t₃ e row (order-start L root library dir w₃ t₃ e row (plain-here-3 .standing) (plain-here-3 .env)) (z .bodyOrder)
+                no-order = no-marks L root library dir w₃ t₃ e row (plain-here-3 .standing) (plain-here-3 .env) (z .bodyOrder)
 
                 pub bare-fillable : Fillable w₃ place
                 bare-fillable = plain-fillable no-interfaces refl no-statements refl no-order refl

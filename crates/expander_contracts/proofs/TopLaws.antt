@@ -46,7 +46,7 @@ use Rattle.refine_records.proofs.Opening.{open-env, env-open}
 use Rattle.refine_records.proofs.Calculus as calculus
 use Rattle.expander_parts.specs.Contract.{sourceOf, statementAt, StatementAppended, Routed, ExternStated}
 use Rattle.expander_parts.proofs.Lending.{lent-later}
-use Rattle.expander_parts.proofs.Said.{said-same}
+use Rattle.expander_marks.proofs.Entries.{said-same}
 use Rattle.source_lookup.proofs.SourcedLaws.{slot-root, number-root}
 use Rattle.expander_contracts.specs.Contract.{Here, Yields, list, AddsStatement, Copied, StatementAdded, TopStatements as AllTops, TopsCopied, NothingRecorded, TopStatementsCopied}
 use Rattle.expander_contracts.proofs.Run.{begin, turn, last, end, went, gave, leaf, yields-as, since, here-later}

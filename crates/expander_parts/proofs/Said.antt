@@ -38,7 +38,10 @@ use Rattle.refine_records.specs.Does.{at, Doing}
 use Rattle.refine_records.specs.Contract.{Keepable, RecordKept}
 use Rattle.refine_records.proofs.Later.{later-refl, later-standing, later-handle, later-env}
 use Rattle.refine_records.proofs.Calculus.{start, turn, finish, step, stop, each, each-end, last, paying}
-use Rattle.expander_parts.specs.Contract.{sourceOf, Lent, rowsOf, nodeAtRow, Declared, statementAt, StatementAppended, Routed, ExternStated, isSome, keptStatement, OneKept, StatementCopied, StatementsCopied}
+use Rattle.expander_parts.specs.Contract.{sourceOf, Lent, rowsOf, nodeAtRow, Declared, statementAt, StatementAppended, Routed, ExternStated, OneKept, StatementCopied, StatementsCopied}
+use Rattle.expander_marks.specs.Positions.{isSome}
+use Rattle.expander_marks.specs.Kept.{keptStatement}
+use Rattle.expander_marks.proofs.Entries.{statements-at, statements-end}
 use Rattle.expander_parts.proofs.Lending.{lent-later}
 use Rattle.expander_parts.proofs.Routes.{stated-new, stated}
 
@@ -57,10 +60,6 @@ regrouped : {A : Type 0} (xs : List A) (x : A) (m : Result (List A)) → bindR m
 unfolding bindR
 regrouped xs x (refusal n i j) = refl
 regrouped xs x (ok l st) = rw (append-assoc xs (x ∷ []) l)
-
-pub said-same : (l : List Row) → statementOf l ≡ statementOf (front l ∷ [])
-unfolding statementOf routeOf
-said-same l = refl
 
 -- ---- an ExternProto
 abbrev externRecord : ℕ → ℕ → Record
@@ -173,14 +172,6 @@ module _ (L : Limits) (root library dir w : List ℕ) (t : Counts) (e : code.Env
     }
 
 -- ---- all statements of a node
-pub statements-at : {R : List Row} {p q : ℕ} {r : Row} → Stands Statements R p q → r ≡ getD R q blank → statementsOf (drop p R) ≡ statementOf (r ∷ []) ∷ statementsOf (drop (q + 1) R)
-unfolding statementsOf
-statements-at {R} {p} {q} {r} s is = each-at statementOf s ∙ rw (said-same (drop q R), front-drop R q, is)
-
-pub statements-end : (R : List Row) (p : ℕ) → elements Statements (drop p R) ≡ [] → statementsOf (drop p R) ≡ []
-unfolding statementsOf
-statements-end R p e = each-none statementOf Statements R p e
-
 module _ (L : Limits) (root library dir w₀ : List ℕ) (t₀ : Counts) (e : code.Env) (row : ℕ) where
   abbrev R : List Row
   R = rowsOf root library dir (e .slot)

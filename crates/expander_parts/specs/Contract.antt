@@ -1,21 +1,18 @@
 -- What the steps that copy no node ask and give.
 use mathlib.Core.Path.{_≡_}
-use mathlib.Core.Bool.{Bool, true, false}
 use mathlib.Core.List.{List, [], _∷_, _++_, map}
-use mathlib.Core.Option.{Option, none, some}
+use mathlib.Core.Option.{Option, some}
 use Prim.Native.Nat.{ℕ, _+_, _*_, _-_, _≤_}
 use lib.ListN.{length, drop}
-use Rattle.ast.specs.Ast.{FieldValue, FieldBinding, Field, Statement, BodyElement, Node}
-use Rattle.ast.specs.Choice.{choose, mapO}
+use Rattle.ast.specs.Ast.{Field, Statement, Node}
 use Rattle.sheet_rows.specs.declared.row.Row.{Row}
 use Rattle.sheet_rows.specs.declared.part.Part.{Part}
 use Rattle.sheet_rows.specs.Rows.{rows}
-use Rattle.sheet_rows.specs.Parse.{elements, fieldOf, fieldsOf, routeOf, statementOf, statementsOf, bodyElementOf, nodeOf}
-use Rattle.sheet_rows.specs.Print.{row}
+use Rattle.sheet_rows.specs.Parse.{elements, routeOf, statementOf, nodeOf}
 use Rattle.sheet_lookup.specs.Lookup.{sheetOf}
 use Rattle.expansion_definition.specs.State.{_>>_, ret, mapM}
 use Rattle.expansion_definition.specs.Charges.{chargeEach}
-use Rattle.expansion_definition.specs.Values.{Env, Values, valueNamed, src}
+use Rattle.expansion_definition.specs.Values.{Env, src}
 use Rattle.expansion_definition.specs.Externs.{externProto}
 use Rattle.expansion_definition.specs.PlainCopy.{copyRoute, copyExtern, copyStatement, somes, keptOrder}
 use Rattle.journal_records.specs.Records.{tagStatement, tagOrder}
@@ -29,7 +26,8 @@ use Rattle.refine_records.specs.declared.Env as code
 use Rattle.refine_records.specs.declared.Answer.{Answer}
 use Rattle.refine_records.specs.Sound.{Source, inputOf, headsAt, envOf}
 use Rattle.refine_records.specs.Does.{Decode, number, IfDone, Does}
-use Rattle.expander_parts.specs.declared.Taken.{Taken}
+use Rattle.expander_marks.specs.Positions.{isSome}
+use Rattle.expander_marks.specs.Kept.{keptStatement, keptField}
 
 -- ---- what is read
 
@@ -81,19 +79,6 @@ pub record ExternStated (L : Limits) (root library dir w : List ℕ) (t : Counts
 
 -- ---- the statements of a node
 
--- what is kept of a list, in its order
-abbrev pub isSome : {A : Type 0} → Option A → Bool
-isSome none = false
-isSome (some a) = true
-
--- "Node statements keep Route and ExternProto only."
-abbrev pub keptStatement : Statement → Bool
-keptStatement (Statement.Node i) = false
-keptStatement (Statement.Proto p) = false
-keptStatement (Statement.ExternProto x) = true
-keptStatement (Statement.Route r) = true
-keptStatement (Statement.Other p) = false
-
 -- out is what the statement of a row has become; the handle is of those kept so far
 pub record OneKept (source : Statement) (out : Option Statement) (w : List ℕ) (h : ℕ) (w′ : List ℕ) (t′ : Counts) (v : ℕ) : Type 0 where
   pub handle : HandleAt w′ (t′ .charges) tagStatement v
@@ -120,35 +105,6 @@ pub record StatementsCopied (L : Limits) (root library dir w : List ℕ) (t : Co
   pub done : IfDone (λ t′ v p. StatementsKept (nodeAtRow root library dir (e .slot) row .statements) out w′ t′ v) a
 
 -- ---- the body order of a node
-
--- what an IS target has in the scope: nothing outside a body, or a value, or none
-abbrev pub keptTarget : Option (Option FieldValue) → Bool
-keptTarget none = true
-keptTarget (some v) = isSome v
-
-abbrev pub keptBinding : Option Values → FieldBinding → Bool
-keptBinding vs (FieldBinding.Value v) = true
-keptBinding vs (FieldBinding.Is target) = keptTarget (mapO (valueNamed target) vs)
-
-abbrev pub keptField : Option Values → Field → Bool
-keptField vs f = keptBinding vs (f .binding)
-
--- the same, of a field's row
-abbrev pub fieldKept : List ℕ → code.Env → Row → Bool
-fieldKept w e r = keptField (envOf w e .isValues) (fieldOf (r ∷ []))
-
--- what a mark takes: it is kept or not, and fs and ss go on with those from the rows f and s on
-pub record Took (vs : Option Values) (R : List Row) (fs : List (Option Field)) (ss : List (Option Statement)) (m : BodyElement) (kept : Bool) (f s : ℕ) : Type 0 where
-  pub fields : List (Option Field)
-  pub statements : List (Option Statement)
-  pub isFields : map isSome fields ≡ map (keptField vs) (fieldsOf (drop f R))
-  pub isStatements : map isSome statements ≡ map keptStatement (statementsOf (drop s R))
-  pub is : (l : List BodyElement) → keptOrder fs ss (m ∷ l) ≡ choose kept (m ∷ keptOrder fields statements l) (keptOrder fields statements l)
-
--- for all fields and statements that are kept as those from the rows f and s on
-pub record Takes (vs : Option Values) (R : List Row) (mark f s : ℕ) (x : Taken) : Type 0 where
-  pub each : (fs : List (Option Field)) (ss : List (Option Statement)) → map isSome fs ≡ map (keptField vs) (fieldsOf (drop f R)) → map isSome ss ≡ map keptStatement (statementsOf (drop s R))
-      → Took vs R fs ss (bodyElementOf (row 6 mark 0 0 0 0 0 0 ∷ [])) (x .kept) (x .field) (x .statement)
 
 -- for all fields and statements that are kept as the source says; the value is the order's handle
 pub record OrderCopied (L : Limits) (root library dir w : List ℕ) (t : Counts) (e : code.Env) (row : ℕ) (w′ : List ℕ) (a : Answer) : Type 0 where

@@ -1,6 +1,7 @@
 // Steps of an expansion that copy no node: externs, routes, a node's statements and its body order.
 use ast::ExternProtoId;
 use ast::NodeId;
+use expander_marks;
 use journal_records;
 use journal_records::Record;
 use refine_records;
@@ -16,19 +17,16 @@ use sheet_walks::walk;
 use sheet_walks::walk::Found;
 use source_directory;
 use source_lookup;
-ghost use mathlib.Core.Path.{_≡_};
 ghost use Prim.Native.Nat.{_<_, _≤_};
 ghost use lib.ListN.{length};
-ghost use mathlib.Core.List.{[], _∷_};
 ghost use Rattle.sheet_rows.specs.Rows.{rows};
-ghost use Rattle.sheet_rows.specs.Parse.{statementOf};
 ghost use Rattle.journal_records.specs.Records.{tagStatement};
 ghost use Rattle.journal_reading.specs.Reading.{mapOf};
 ghost use Rattle.journal_reading.specs.WellFormed.{HandleAt};
 ghost use Rattle.source_directory.specs.Directory.{numberOf, Slot};
 ghost use Rattle.sheet_lookup.specs.Lookup.{sheetOf};
-ghost use Rattle.refine_records.specs.Sound.{Standing, EnvAt, envOf};
-ghost use Rattle.expander_parts.specs.Contract.{Lent, Counted, Declared, Routed, ExternStated, StatementCopied, StatementsCopied, keptStatement, fieldKept, Takes, OrderCopied};
+ghost use Rattle.refine_records.specs.Sound.{Standing, EnvAt};
+ghost use Rattle.expander_parts.specs.Contract.{Lent, Counted, Declared, Routed, ExternStated, StatementCopied, StatementsCopied, OrderCopied};
 
 // How many elements a part has from a row on.
 fn count(sheet: &[u32], part: Part, from: usize) -> usize
@@ -295,90 +293,6 @@ pub fn statements<'a>(
     }
 }
 
-// Whether a field is kept: a value, an IS outside a body, or an IS that has a value in the body.
-fn field_kept(work: &[u32], lim: Limits, st: Counts, env: Env, r: Row) -> bool
-    requires { ⌜ Standing lim (now work) st ⌝ }
-    requires { ⌜ EnvAt (now work) (st .charges) env ⌝ }
-    ensures { λ k. ⌜ k ≡ fieldKept (now (work .entry)) env r ⌝ }
-{
-    if r.b != 1 {
-        return true;
-    }
-    if !env.body {
-        return true;
-    }
-    let journal_index::Newest::At(_) = refine_values::value_of(work, lim, st, env.values, r.c)
-    else {
-        return false;
-    };
-    true
-}
-
-fn statement_kept(r: Row) -> bool
-    ensures { λ k. ⌜ k ≡ keptStatement (statementOf (r ∷ [])) ⌝ }
-{
-    if r.a == 2 {
-        return true;
-    }
-    r.a == 3
-}
-
-// What a mark takes: whether it is kept, and the rows from which fields and statements are not taken yet.
-struct Taken {
-    kept: bool,
-    field: usize,
-    statement: usize,
-}
-
-fn take(
-    sheet: &[u32],
-    work: &[u32],
-    lim: Limits,
-    st: Counts,
-    env: Env,
-    mark: u32,
-    field: usize,
-    statement: usize,
-) -> Taken
-    requires { ⌜ Standing lim (now work) st ⌝ }
-    requires { ⌜ EnvAt (now work) (st .charges) env ⌝ }
-    ensures { λ x. ⌜ Takes (envOf (now (work .entry)) env .isValues) (rows (now (sheet .entry))) mark field statement x ⌝ }
-{
-    if mark == 1 {
-        return Taken {
-            kept: true,
-            field,
-            statement,
-        };
-    }
-    if mark == 0 {
-        let Found::At(f) = walk::seek(sheet, Part::Fields, field) else {
-            return Taken {
-                kept: false,
-                field,
-                statement,
-            };
-        };
-        return Taken {
-            kept: field_kept(work, lim, st, env, row::row_at(sheet, f)),
-            field: f + 1,
-            statement,
-        };
-    }
-    let Found::At(s) = walk::seek(sheet, Part::Statements, statement) else {
-        return Taken {
-            kept: false,
-            field,
-            statement,
-        };
-    };
-    Taken {
-        kept: statement_kept(row::row_at(sheet, s)),
-        field,
-        statement: s + 1,
-    }
-}
-
 // The body order of the node at a row, without what was dropped.
 pub fn order<'a>(
     root: &'a [u32],
@@ -397,55 +311,6 @@ pub fn order<'a>(
     requires { ⌜ row < length (rows (sheetOf (now root) (now library) (numberOf (now dir) (env .slot)))) ⌝ }
     ensures { λ a. ⌜ OrderCopied lim (now (root .entry)) (now (library .entry)) (now (dir .entry)) (now (work .entry)) st env row (now (work .exit)) a ⌝ }
 {
-    let mut cur = st;
-    let mut h: u32 = 0;
-    let mut at = row + 1;
-    let mut field = row + 1;
-    let mut statement = row + 1;
-    loop {
-        let sheet = rows::select(root, library, source_directory::number(dir, env.slot));
-        let Found::At(q) = walk::seek(sheet, Part::BodyOrder, at) else {
-            return Answer::Done {
-                st: cur,
-                value: h,
-                place: 0,
-            };
-        };
-        at = q + 1;
-        let mark = row::row_at(sheet, q).a;
-        let x = take(sheet, work, lim, cur, env, mark, field, statement);
-        field = x.field;
-        statement = x.statement;
-        if x.kept {
-            let a = refine_records::keep(
-                work,
-                lim,
-                cur,
-                Record {
-                    tag: journal_records::TAG_ORDER,
-                    a: mark,
-                    b: 0,
-                    c: 0,
-                    d: 0,
-                    e: 0,
-                    f: 0,
-                    g: 0,
-                    h,
-                    i: 0,
-                    j: 0,
-                    k: 0,
-                },
-            );
-            let Answer::Done {
-                st: s,
-                value: n,
-                place: _,
-            } = a
-            else {
-                return a;
-            };
-            cur = s;
-            h = n;
-        }
-    }
+    let sheet = rows::select(root, library, source_directory::number(dir, env.slot));
+    expander_marks::order(sheet, work, lim, st, env, row)
 }

@@ -1,13 +1,13 @@
 -- Written by `needs write`, from answers.txt: edit that. The proof.
 use borrow.Author.Needs.{needs}
-use Rattle.expander_parts.proofs.field_kept.Statement.{statement}
-use Rattle.expander_parts.proofs.field_kept.Tie as tie
-use Rattle.expander_parts.proofs.field_kept.Reads as reads
-use Rattle.expander_parts.proofs.field_kept.Lts as lts
+use Rattle.expander_marks.proofs.field_kept.Statement.{statement}
+use Rattle.expander_marks.proofs.field_kept.Tie as tie
+use Rattle.expander_marks.proofs.field_kept.Reads as reads
+use Rattle.expander_marks.proofs.field_kept.Lts as lts
 use Rattle.refine_values.proofs.value_of.Reads as value-of-reads
 use denote.Ref.{now}
 use Rattle.refine_records.proofs.Later.{env-values}
-use Rattle.expander_parts.proofs.Ordered.{kept-value, kept-outside, kept-none, kept-some}
+use Rattle.expander_marks.proofs.Entries.{kept-value, kept-outside, kept-none, kept-some}
 
 returns : tie.Need-returns
 returns c = kept-value (now (c .before .before .before .args .work)) (c .before .before .before .args .env) (c .before .before .before .args .r) (c .if1 .taken)

@@ -1,9 +1,9 @@
 -- Written by `needs write`, from answers.txt: edit that. The proof.
-use Rattle.expander_parts.proofs.statement_kept.Statement.{statement}
-use Rattle.expander_parts.proofs.statement_kept.Tie as tie
-use Rattle.expander_parts.proofs.statement_kept.Reads as reads
-use Rattle.expander_parts.proofs.statement_kept.Lts as lts
-use Rattle.expander_parts.proofs.Ordered.{kept-extern, kept-other}
+use Rattle.expander_marks.proofs.statement_kept.Statement.{statement}
+use Rattle.expander_marks.proofs.statement_kept.Tie as tie
+use Rattle.expander_marks.proofs.statement_kept.Reads as reads
+use Rattle.expander_marks.proofs.statement_kept.Lts as lts
+use Rattle.expander_marks.proofs.Entries.{kept-extern, kept-other}
 
 returns : tie.Need-returns
 returns c = kept-extern (c .before .before .args .r) (c .if1 .taken)

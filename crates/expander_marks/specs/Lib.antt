@@ -1,0 +1,4 @@
+pub mod Positions
+pub mod Kept
+pub mod Contract
+pub mod Examples
