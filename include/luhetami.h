@@ -8,6 +8,7 @@
  *     luhetami_write_lines    rows of a sheet to lines of text
  *     luhetami_moving         counts of legs to moving totals
  *     luhetami_pages          an expanded document and its ledger to pages of text
+ *     luhetami_count          expanded documents to a count for each type name
  *     luhetami_check          whether a sheet fits a form, and the first row that doesn't
  *
  * Rules for all of them:
@@ -21,7 +22,7 @@
  *   not disturb each other. A call nests as deep as max_depth and takes less than 4 KiB of stack for each level: 2 MiB
  *   suffice for 512 (measured, not proved).
  * - The result is the refusal, 0 where the call is accepted; of luhetami_check it is 1 where the sheet fits and 0 where it
- *   doesn't. The same number is the first word of answer. An answer that is too short is refused (1, 12, 14, 27 or 29, by
+ *   doesn't. The same number is the first word of answer. An answer that is too short is refused (1, 12, 14, 17, 27 or 29, by
  *   function; 0 by luhetami_check) before anything else, and then no word of it is written.
  * - Where a call is refused, every lent slice keeps its words, but for answer, and work.
  */
@@ -87,6 +88,12 @@ enum luhetami_refusal {
     LUHETAMI_WORDS_LENGTH = 14, /* words no multiple of 8, lines too short, more than 48,258,059 rows, or answer too
                                    short */
 
+    /* luhetami_count, in this order */
+    LUHETAMI_COUNT_LISTS = 17,     /* a protocol other than 1 or 2, over 4,096 protocols, a repeated name, over 64 names,
+                                      totals too short, or answer too short */
+    LUHETAMI_COUNT_MALFORMED = 18, /* no expanded documents one after another, not as many as protocols, or work too
+                                      short */
+
     /* luhetami_moving, in this order */
     LUHETAMI_WIDTH = 25,     /* a width outside 1 to 64 */
     LUHETAMI_COUNT = 26,     /* a count over 4,294,967,295 */
@@ -102,6 +109,7 @@ enum luhetami_refusal {
 #define LUHETAMI_LINES_ANSWER ((size_t)3)  /* refusal, place, count */
 #define LUHETAMI_MOVING_ANSWER ((size_t)4) /* refusal, totals, largest, place */
 #define LUHETAMI_PAGES_ANSWER ((size_t)2)  /* refusal, bytes */
+#define LUHETAMI_COUNT_ANSWER ((size_t)2)  /* refusal, totals */
 #define LUHETAMI_CHECK_ANSWER ((size_t)2)  /* 1 or 0, row */
 
 /* The most legs that a moving total is of, and the largest count of a leg. */
@@ -119,6 +127,11 @@ enum luhetami_refusal {
 /* What luhetami_pages needs: bytes of text for so many nodes, words of work for so many words of a document. More may be lent. */
 #define LUHETAMI_PAGES_TEXT(nodes) (((size_t)(nodes) + 58) / 59 * 60 * 73)
 #define LUHETAMI_PAGES_WORK(document_len) ((size_t)16 * ((size_t)(document_len) / 8))
+
+/* The most documents of luhetami_count, the most names, and the words of work that it needs for so many words of documents. */
+#define LUHETAMI_MOST_DOCUMENTS ((size_t)4096)
+#define LUHETAMI_MOST_NAMES ((size_t)64)
+#define LUHETAMI_COUNT_WORK(documents_len) ((size_t)16 * ((size_t)(documents_len) / 8))
 
 /*
  * Expands the prototypes of a scene.
@@ -239,6 +252,33 @@ enum luhetami_form {
  */
 uint32_t luhetami_check(const uint32_t *words, size_t words_len,
                         uint32_t form,
+                        uint64_t *answer, size_t answer_len);
+
+/*
+ * Counts the nodes of each type name over expanded documents, under two protocols.
+ *
+ * A node is reached from the top Node statements of its document, by the ids in values of fields and interfaces; an id that leads
+ * nowhere leads to no node, and extra roots, associations and the ends of routes are not followed. Protocol 1 counts every mention
+ * of a node: each top Node statement, and each id in a value of a reached node. Protocol 2 counts each reached node once. For any
+ * document and name the count under 2 is at most that under 1.
+ *
+ * documents   expanded documents one after another, each from a row of kind 1 on; as luhetami_expand writes one or anybody else.
+ *             May be empty. They are only read; no row cap binds them.
+ * protocols   1 or 2 for each document, at most 4,096. They are only read.
+ * names       the type names to be counted, no two the same, at most 64. They are only read. May be empty; LUHETAMI_NONE is a name
+ *             that no node has.
+ * totals      a word for each name, or more. Accepted: the total of each name over all documents; words past them stay. Refused,
+ *             all stay. A total is at most the number of rows of documents.
+ * work        LUHETAMI_COUNT_WORK(documents_len) words, or more; nothing is said of what it holds after. Less is refused with 18.
+ * answer      2 words: refusal, totals (0 where refused). Words past the second stay.
+ *
+ * Refused, in this order: 17, 18. The time is in proportion to the rows of documents, and for each reached node to the names.
+ */
+uint32_t luhetami_count(const uint32_t *documents, size_t documents_len,
+                        const uint32_t *protocols, size_t protocols_len,
+                        const uint32_t *names, size_t names_len,
+                        uint64_t *totals, size_t totals_len,
+                        uint32_t *work, size_t work_len,
                         uint64_t *answer, size_t answer_len);
 
 #ifdef __cplusplus

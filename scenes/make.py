@@ -1,6 +1,7 @@
 #!/usr/bin/env python3
 """Makes the scenes from flights.txt: NAME.lines, NAME.expected, the library's files, and the lists in README.md; and
-season.expected, the table of season.counts; and logbook/, the expanded document of a scene, its ledger and their page.
+season.expected, the table of season.counts; logbook/, the expanded document of a scene, its ledger and their page; and count/, the
+expanded documents of two scenes and the table of what they count.
 
 The expected answers come from reckon.py, and never from the program. Run again, it writes the same bytes.
 """
@@ -30,6 +31,9 @@ LIBRARIES = {
 }
 SEASON_WIDTH = 3
 LOGBOOK = "defaults"
+# The scenes whose documents are counted, and the type names: a pod is a Shape, a window a Transform.
+COUNTED = ("both-windows", "two-pods")
+COUNTED_TYPES = ("Shape", "Transform")
 PAGE_LINES = 60
 
 
@@ -222,6 +226,41 @@ def logbook(rows, ledger):
     return "".join(line + "\n" for line in text)
 
 
+def mentioned(rows):
+    """Of an expanded document: the type name of each node, and the ids that are mentioned, those of top Node statements and those
+    in values of reached nodes; and the reached nodes."""
+    types, values, inside, tops = [], [], False, []
+    for r in rows:
+        if r[0] == 2:
+            types.append(r[1])
+            values.append([])
+        inside = r[0] in (2, 3, 4) or inside and r[0] == 9
+        if r[0] == 9 and inside:
+            values[-1].append(r[1])
+    top = next(at for at, r in enumerate(rows) if r[0] == 11)
+    tops = [r[2] for r in rows[top + 1 :] if r[1] == 0]
+    reached, mentions = [], list(tops)
+    for i in mentions:  # grows as it goes
+        if i < len(types) and i not in reached:
+            reached.append(i)
+            mentions += values[i]
+    return types, mentions, reached
+
+
+def count_table(documents, columns):
+    """The table that the runner prints of documents: a line for each and its protocol, a column for each name, the totals last."""
+    lines, totals = [], {1: [0] * len(columns), 2: [0] * len(columns)}
+    for name, rows in documents:
+        types, mentions, reached = mentioned(rows)
+        for protocol, ids in ((1, mentions), (2, reached)):
+            counts = [sum(i < len(types) and types[i] == column for i in ids) for column in columns]
+            totals[protocol] = [a + b for a, b in zip(totals[protocol], counts)]
+            lines.append([f"scenes/count/{name}.lines", protocol, *counts])
+    lines = [["document", "protocol", *columns]] + lines + [["total", p, *totals[p]] for p in (1, 2)]
+    widths = [max(len(str(line[k])) for line in lines) for k in range(len(lines[0]))]
+    return "".join(f"{line[0]:<{widths[0]}}" + "".join(f"  {n:>{w}}" for n, w in zip(line[1:], widths[1:])) + "\n" for line in lines)
+
+
 def main():
     names = Names()
     scenes = read_flights(names)
@@ -256,6 +295,12 @@ def main():
     (FOLDER / "logbook" / "document.lines").write_bytes(lines_of(out))
     (FOLDER / "logbook" / "ledger.txt").write_text("".join("".join(f"{n:11}" for n in entry) + "\n" for entry in ledger))
     (FOLDER / "logbook" / "expected.txt").write_text(logbook(out, ledger))
+
+    documents = [(name, expand(words_of(sheets[name]), [], *LIMITS)[1]) for name in COUNTED]
+    (FOLDER / "count").mkdir(exist_ok=True)
+    for name, rows in documents:
+        (FOLDER / "count" / f"{name}.lines").write_bytes(lines_of(rows))
+    (FOLDER / "count" / "expected.txt").write_text(count_table(documents, [names[name] for name in COUNTED_TYPES]))
 
     page = FOLDER / "README.md"
     lists = page_lists(scenes, answers, names)

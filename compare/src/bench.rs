@@ -12,7 +12,7 @@ use crate::frames::{GARBAGE, LEDGER, OUT, SCOPES};
 use crate::linked::{self, Lent, LINKED};
 use crate::memory::{faults, now, Fresh};
 use crate::scenes::{large, Scene, MOST_CHARGES};
-use crate::{checks, moving, pages, reckon, rust};
+use crate::{checks, count, moving, pages, reckon, rust};
 
 /// A scene, the same at half its size, and how many times the original's speed is wanted.
 struct Bench {
@@ -415,7 +415,7 @@ pub fn run(part: &str) -> u64 {
         println!();
     }
     let wrong = all.iter().filter(|m| m.library.as_ref().is_some_and(|l| !l.right)).count() as u64;
-    let wrong = wrong + moving::bench(part) + pages::bench(part) + checks::bench(part);
+    let wrong = wrong + moving::bench(part) + pages::bench(part) + checks::bench(part) + count::bench(part);
     println!("{wrong} wrong answers");
     wrong
 }

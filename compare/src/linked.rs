@@ -57,6 +57,20 @@ extern "C" {
         answer: *mut u64,
         answer_length: usize,
     ) -> u32;
+    fn luhetami_count(
+        documents: *const u32,
+        documents_length: usize,
+        protocols: *const u32,
+        protocols_length: usize,
+        names: *const u32,
+        names_length: usize,
+        totals: *mut u64,
+        totals_length: usize,
+        work: *mut u32,
+        work_length: usize,
+        answer: *mut u64,
+        answer_length: usize,
+    ) -> u32;
     fn luhetami_check(words: *const u32, words_length: usize, form: u32, answer: *mut u64, answer_length: usize)
         -> u32;
     fn luhetami_write_lines(
@@ -145,6 +159,40 @@ pub fn pages(document: &[u32], ledger: &[u32], text: &mut [u8], work: &mut [u32]
 
 #[cfg(not(feature = "library"))]
 pub fn pages(_: &[u32], _: &[u32], _: &mut [u8], _: &mut [u32], _: &mut [u64]) -> u32 {
+    unreachable!("no library is linked")
+}
+
+/// One call of the library's counts.
+#[cfg(feature = "library")]
+pub fn count(
+    documents: &[u32],
+    protocols: &[u32],
+    names: &[u32],
+    totals: &mut [u64],
+    work: &mut [u32],
+    answer: &mut [u64],
+) -> u32 {
+    // Safety: every pointer comes with the length of its own slice, and the slices do not overlap.
+    unsafe {
+        luhetami_count(
+            documents.as_ptr(),
+            documents.len(),
+            protocols.as_ptr(),
+            protocols.len(),
+            names.as_ptr(),
+            names.len(),
+            totals.as_mut_ptr(),
+            totals.len(),
+            work.as_mut_ptr(),
+            work.len(),
+            answer.as_mut_ptr(),
+            answer.len(),
+        )
+    }
+}
+
+#[cfg(not(feature = "library"))]
+pub fn count(_: &[u32], _: &[u32], _: &[u32], _: &mut [u64], _: &mut [u32], _: &mut [u64]) -> u32 {
     unreachable!("no library is linked")
 }
 

@@ -7,6 +7,7 @@ mod call;
 mod charges;
 mod checks;
 mod closure;
+mod count;
 #[cfg(feature = "library")]
 mod coverage;
 mod flights;
@@ -62,6 +63,8 @@ compare moving mutants COUNT SEED          moving totals: every broken reckoning
 compare moving library COUNT SEED          moving totals: the linked static library
 compare pages mutants COUNT SEED           pages: every broken reckoning over the numbers of nodes and COUNT random documents
 compare pages library COUNT SEED           pages: the linked static library
+compare count mutants COUNT SEED           counts: every broken reckoning over the small graphs and COUNT random sheets
+compare count library COUNT SEED           counts: the linked static library
 compare check mutants COUNT SEED           the check of a sheet: every broken reckoning over the small sheets and COUNT random ones
 compare check library COUNT SEED           the check of a sheet: the linked static library
 compare bench [PART]                       times of the original, the linked library and copying; scenes whose name has PART
@@ -124,6 +127,7 @@ fn command() -> Result<u64, String> {
         }
         ["moving", "mutants", count, seed] => Ok(operation::mutants::<moving::Moving>(number(count)?, number(seed)?)),
         ["pages", "mutants", count, seed] => Ok(operation::mutants::<pages::Pages>(number(count)?, number(seed)?)),
+        ["count", "mutants", count, seed] => Ok(operation::mutants::<count::Count>(number(count)?, number(seed)?)),
         ["check", "mutants", count, seed] => Ok(operation::mutants::<checks::Checks>(number(count)?, number(seed)?)),
         ["bench"] => Ok(bench::run("")),
         ["bench", "spin", part, seconds] => Ok(bench::spin(part, number(seconds)?)),
@@ -137,6 +141,8 @@ fn command() -> Result<u64, String> {
         ["moving", "library", count, seed] => Ok(operation::library::<moving::Moving>(number(count)?, number(seed)?)),
         #[cfg(feature = "library")]
         ["pages", "library", count, seed] => Ok(operation::library::<pages::Pages>(number(count)?, number(seed)?)),
+        #[cfg(feature = "library")]
+        ["count", "library", count, seed] => Ok(operation::library::<count::Count>(number(count)?, number(seed)?)),
         #[cfg(feature = "library")]
         ["check", "library", count, seed] => Ok(operation::library::<checks::Checks>(number(count)?, number(seed)?)),
         _ => Err(USAGE.into()),

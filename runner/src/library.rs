@@ -66,6 +66,20 @@ mod c {
             answer: *mut u64,
             answer_len: usize,
         ) -> u32;
+        pub fn luhetami_count(
+            documents: *const u32,
+            documents_len: usize,
+            protocols: *const u32,
+            protocols_len: usize,
+            names: *const u32,
+            names_len: usize,
+            totals: *mut u64,
+            totals_len: usize,
+            work: *mut u32,
+            work_len: usize,
+            answer: *mut u64,
+            answer_len: usize,
+        ) -> u32;
         pub fn luhetami_pages(
             document: *const u32,
             document_len: usize,
@@ -231,6 +245,34 @@ pub fn pages(document: &[u32], ledger: &[u32], text: &mut [u8], work: &mut Zeroe
         )
     };
     Paged { refusal, bytes: answer[1] }
+}
+
+/// What counting answers.
+pub struct Counted {
+    pub refusal: u32,
+}
+
+/// The total of each name over documents, each under its protocol.
+pub fn count(documents: &[u32], protocols: &[u32], names: &[u32], totals: &mut [u64], work: &mut Zeroed) -> Counted {
+    let mut answer = [0; 2];
+    // Safety: as in `expand`.
+    let refusal = unsafe {
+        c::luhetami_count(
+            documents.as_ptr(),
+            documents.len(),
+            protocols.as_ptr(),
+            protocols.len(),
+            names.as_ptr(),
+            names.len(),
+            totals.as_mut_ptr(),
+            totals.len(),
+            work.as_mut_ptr(),
+            work.len(),
+            answer.as_mut_ptr(),
+            answer.len(),
+        )
+    };
+    Counted { refusal }
 }
 
 /// What a sheet is to be, by its number.

@@ -4,6 +4,7 @@
 
 mod answer;
 mod check;
+mod count;
 mod input;
 mod library;
 mod memory;
@@ -87,6 +88,7 @@ fn run(command: &Command) -> Result<(), Stop> {
         Command::Expand(options) => expand(options),
         Command::Moving(options) => moving::run(options),
         Command::Pages(options) => pages::run(options),
+        Command::Count(options) => count::run(options),
         Command::Check(options) => check::run(options),
         Command::Help => Ok(()),
     }

@@ -3,12 +3,13 @@
 use std::ffi::OsString;
 
 use crate::library::Form;
-use crate::{check, moving, pages};
+use crate::{check, count, moving, pages};
 
 pub const USAGE: &str = "\
 usage: luhetami [OPTION]... SCENE.lines
        luhetami moving WIDTH COUNTS
        luhetami pages DOCUMENT.lines LEDGER
+       luhetami count [--protocol 1|2|both] --names N,N,.. DOCUMENT.lines..
        luhetami check [--form FORM] FILE.lines
 
 Expands the prototypes of a scene and writes the expanded rows, in Lines form, to standard output; the answer, in words and
@@ -50,6 +51,20 @@ may be - for standard input. For example:
   ..
   accepted: nodes 7, pages 1, bytes 4380 [0 4380]
 
+luhetami count prints, for each expanded document, how many nodes of each type name it has: under protocol 1 every mention counts,
+each top Node statement and each id in a value of a reached node; under protocol 2 each reached node counts once. The totals come
+last. At most 4096 documents and 64 names, no two the same; protocol 2 without --protocol. For example, a pod that both windows hold:
+
+  $ luhetami count --protocol both --names 7,13 scenes/count/both-windows.lines scenes/count/two-pods.lines
+  document                         protocol  7  13
+  scenes/count/both-windows.lines         1  2   2
+  scenes/count/both-windows.lines         2  1   2
+  scenes/count/two-pods.lines             1  2   2
+  scenes/count/two-pods.lines             2  2   2
+  total                                   1  4   4
+  total                                   2  3   4
+  accepted: documents 2, rows 35, names 2 [0 2]
+
 luhetami check tells whether the rows of a file fit a form, or else the first row, from 0, that doesn't. FORM is root (without
 --form), library, expanded, documents (expanded documents one after another) or protos (protos without body statements). For example:
 
@@ -58,7 +73,7 @@ luhetami check tells whether the rows of a file fit a form, or else the first ro
   $ luhetami check --form expanded scenes/both-windows.lines
   luhetami: scenes/both-windows.lines: not an expanded document: row 13, counted from 0, doesn't fit: 2 16 17 1 0 0 0 0 [0 13]
 
-The exit status is 0 where the call is accepted, the refusal's number (1 to 10, 12 to 14, 25 to 29) where it is refused, 64 where the
+The exit status is 0 where the call is accepted, the refusal's number (1 to 10, 12 to 14, 17, 18, 25 to 29) where it is refused, 64 where the
 arguments are wrong, 65 where a line of COUNTS or LEDGER has no numbers or a file does not fit its form, and 74 where the operating
 system refuses something.
 ";
@@ -78,6 +93,7 @@ pub enum Command {
     Expand(Options),
     Moving(moving::Options),
     Pages(pages::Options),
+    Count(count::Options),
     Check(check::Options),
     Help,
 }
@@ -102,6 +118,7 @@ pub fn parse(arguments: impl Iterator<Item = OsString>) -> Result<Command, Strin
             match argument.as_str() {
                 "moving" => return parse_moving(arguments),
                 "pages" => return parse_pages(arguments),
+                "count" => return parse_count(arguments),
                 "check" => return parse_check(arguments),
                 _ => {}
             }
@@ -144,6 +161,37 @@ fn parse_moving(arguments: impl Iterator<Item = Result<String, String>>) -> Resu
         Ok([width, file]) => Ok(Command::Moving(moving::Options { width: number(&width)?, file })),
         Err(arguments) => Err(format!("moving wants a width and a file, not {} arguments", arguments.len())),
     }
+}
+
+/// The arguments of `count`.
+fn parse_count(mut arguments: impl Iterator<Item = Result<String, String>>) -> Result<Command, String> {
+    let mut options = count::Options { protocols: vec![2], names: Vec::new(), files: Vec::new() };
+    let mut named = false;
+    while let Some(argument) = arguments.next() {
+        let argument = argument?;
+        let mut value = || arguments.next().unwrap_or_else(|| Err(format!("{argument} wants a value")));
+        match argument.as_str() {
+            "--help" => return Ok(Command::Help),
+            "--protocol" => {
+                options.protocols = match value()?.as_str() {
+                    "1" => vec![1],
+                    "2" => vec![2],
+                    "both" => vec![1, 2],
+                    other => return Err(format!("--protocol wants 1, 2 or both, not {other}")),
+                }
+            }
+            "--names" => {
+                options.names = value()?.split(',').map(number).collect::<Result<Vec<u32>, String>>()?;
+                named = true;
+            }
+            option if option.starts_with("--") => return Err(format!("unknown option {option}")),
+            file => options.files.push(file.to_owned()),
+        }
+    }
+    if !named {
+        return Err(String::from("count wants --names"));
+    }
+    Ok(Command::Count(options))
 }
 
 /// The arguments of `pages`.

@@ -5,6 +5,7 @@ ghost use lib.ListN.{length};
 ghost use Rattle.words_answer.specs.Answer.{exported};
 ghost use Rattle.moving_definition.specs.Moving.{moved, saidOf};
 ghost use Rattle.pages_definition.specs.Pages.{paged, saidPaged};
+ghost use Rattle.count_sheet.specs.Sheet.{countedSheet, saidCounted};
 ghost use Rattle.expander_run.specs.Calls.{callOf};
 ghost use Rattle.expander_export.specs.Exports.{SaysC, Demand1C, Demand3C};
 ghost use Rattle.sheet_export.specs.Exports.{checkC};
@@ -83,6 +84,21 @@ pub extern "C" fn luhetami_pages(
     ensures { λ r. ⌜ record { result = r; lent = now (text .exit); answer = now (answer .exit) } ≡ exported 29 2 (now (text .entry)) (now (answer .entry)) (saidPaged (paged (now (document .entry)) (now (ledger .entry)) (length (now (work .entry))) (now (text .entry)))) ⌝ }
 {
     pages_export::export(document, ledger, text, work, answer)
+}
+
+// Counts. Answer: refusal, totals.
+#[no_mangle]
+pub extern "C" fn luhetami_count(
+    documents: &[u32],
+    protocols: &[u32],
+    names: &[u32],
+    totals: &mut [u64],
+    work: &mut [u32],
+    answer: &mut [u64],
+) -> u32
+    ensures { λ r. ⌜ record { result = r; lent = now (totals .exit); answer = now (answer .exit) } ≡ exported 17 2 (now (totals .entry)) (now (answer .entry)) (saidCounted (countedSheet (now (documents .entry)) (now (protocols .entry)) (now (names .entry)) (length (now (work .entry))) (now (totals .entry)))) ⌝ }
+{
+    count_export::export(documents, protocols, names, totals, work, answer)
 }
 
 // The check of a sheet by a form's number. Answer: 1 where it fits, else 0; the row. The result is the first of these.

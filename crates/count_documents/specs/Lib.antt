@@ -1,0 +1,4 @@
+pub mod Count
+pub mod Promises
+pub mod Steps
+pub mod Examples

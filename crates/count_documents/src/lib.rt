@@ -1,0 +1,92 @@
+// The counts of documents one after another, added to a total for each type name (document 02, wish 5).
+use sheet_rows::row;
+ghost use mathlib.Core.Path.{_≡_};
+ghost use Prim.Native.Nat.{_+_, _*_, _≤_};
+ghost use lib.ListN.{length};
+ghost use Rattle.sheet_rows.specs.Rows.{rows};
+ghost use Rattle.count_documents.specs.Steps.{Place, weightAt, added, Addable, CountReady, DocumentCounted, AllReady, AllCounted};
+
+// Which of the names a name is: its place, from 1, or 0. All are looked at, so that the compiler takes several at a time.
+fn place_of(names: &[u32], name: u32) -> usize
+    ensures { λ r. ⌜ Place (now (names .entry)) name r ⌝ }
+{
+    let mut found = 0;
+    let mut i = 0;
+    while i < names.len() {
+        if names[i] == name {
+            found = i + 1;
+            i += 1;
+        } else {
+            i += 1;
+        }
+    }
+    found
+}
+
+// How much a reached node counts: every mention under protocol 1, else once.
+fn weight(work: &[u32], id: usize, protocol: u32) -> usize
+    requires { ⌜ 5 * id + 5 ≤ length (now work) ⌝ }
+    ensures { λ r. ⌜ r ≡ weightAt protocol (now (work .entry)) id ⌝ }
+{
+    if protocol == 1 {
+        graph_walk::pair_at(work, 5 * id + 2)
+    } else {
+        1
+    }
+}
+
+fn add(totals: &mut [u64], place: usize, by: usize)
+    requires { ⌜ Addable (now totals) place by ⌝ }
+    ensures { λ _. ⌜ now (totals .exit) ≡ added (now (totals .entry)) place by ⌝ }
+{
+    if place == 0 {
+        return;
+    }
+    let j = place - 1;
+    totals[j] = totals[j] + by as u64;
+}
+
+// Counts the document that begins at a row. The row after it.
+pub fn count_document(
+    sheet: &[u32],
+    from: usize,
+    protocol: u32,
+    names: &[u32],
+    totals: &mut [u64],
+    work: &mut [u32],
+) -> usize
+    requires { ⌜ CountReady (rows (now sheet)) from (now names) (now totals) (now work) ⌝ }
+    ensures { λ r. ⌜ DocumentCounted (rows (now (sheet .entry))) from protocol (now (names .entry)) (now (totals .entry)) (now (totals .exit)) r ⌝ }
+{
+    let walk = graph_walk::reach(sheet, from, work);
+    let tail = walk.tail;
+    let mut k = 0;
+    while k < tail {
+        let id = words_lent::wide(work[5 * k + 4]);
+        let place = graph_walk::pair_at(work, 5 * id);
+        let name = row::row_at(sheet, place).a;
+        let by = weight(work, id, protocol);
+        add(totals, place_of(names, name), by);
+        k += 1;
+    }
+    walk.next
+}
+
+// Counts all documents, each under its protocol.
+pub fn count_all(
+    sheet: &[u32],
+    protocols: &[u32],
+    names: &[u32],
+    totals: &mut [u64],
+    work: &mut [u32],
+)
+    requires { ⌜ AllReady (rows (now sheet)) (now protocols) (now names) (now totals) (now work) ⌝ }
+    ensures { λ _. ⌜ AllCounted (rows (now (sheet .entry))) (now (protocols .entry)) (now (names .entry)) (now (totals .entry)) (now (totals .exit)) ⌝ }
+{
+    let mut from = 0;
+    let mut p = 0;
+    while p < protocols.len() {
+        from = count_document(sheet, from, protocols[p], names, totals, work);
+        p += 1;
+    }
+}
