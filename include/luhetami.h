@@ -143,7 +143,9 @@ enum luhetami_refusal {
  * max_depth   D, how deep copies may nest; at most 512.
  * max_rows    K, the most charges. Each row of the output is charged, and each map entry, scope, stored value and binding
  *             besides; the output has at most as many rows as charges. At most 16,777,216.
- * out         8 * K words. Accepted: the rows of the expanded document, answer[6] of them.
+ * out         8 * K words. Accepted: the rows of the expanded document, answer[6] of them. Of an extern's urls (kind 10) the one
+ *             that supplied its prototype has 1 in column c, its fourth word, every other 0. In root and library all have 0
+ *             there, so an output with a 1 is no root sheet.
  * ledger      3 * N words. Accepted: for each node of the output, in the order of its id, the scope, document and source id
  *             that it was copied from; answer[3] triples.
  * scopes      5 * K words. Accepted: for each scope, in the order of opening, its kind (0 root, 1 body, 2 default),

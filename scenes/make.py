@@ -28,6 +28,7 @@ MARKS = ["field", "interface", "statement"]
 LIBRARIES = {
     "extern-kept": [("whaleFile", "whales")],
     "corrected-file": [("whaleFile", "whales"), ("belugaFile", "belugas"), ("whaleFile", "whales-corrected")],
+    "which-address": [("whaleFile", "whales"), ("belugaFile", "belugas")],
 }
 SEASON_WIDTH = 3
 LOGBOOK = "defaults"

@@ -203,12 +203,12 @@ def pick_in(document, fragment):
 
 
 def picks_of(root, files):
-    """For each extern of the root the document number and PROTO id that stand for it, or None."""
+    """For each extern of the root the document number and PROTO id that stand for it and the index of the url taken, or None."""
     newest = {f.base: n for n, f in enumerate(files, 1)}  # of several files with the same base the last
     bases, picks = set(), []
     for extern in root.externs:
         pick = None
-        for url in extern.rest:
+        for at, url in enumerate(extern.rest):
             base, fragment = url[1:3]
             if base not in bases and len(bases) == MOST_BASES:
                 continue
@@ -216,7 +216,7 @@ def picks_of(root, files):
             number = newest.get(base)
             proto = None if number is None else pick_in(files[number - 1], fragment)
             if proto is not None:
-                pick = (number, proto)
+                pick = (number, proto, at)
                 break
         picks.append(pick)
     return picks
@@ -282,7 +282,8 @@ class Expansion:
             extern = externs[number]
             self.charge(1 + len(extern.interfaces) + len(extern.rest))
             self.declared[document, number] = len(self.externs)
-            self.externs.append(extern)
+            pick = self.picks[number] if document == 0 else None
+            self.externs.append((extern, pick and pick[2]))
         return self.declared[document, number]
 
     def prototype(self, document, node):
@@ -290,7 +291,8 @@ class Expansion:
         if node.origin == PROTO:
             return document, node.origin_id
         if node.origin == EXTERN and document == 0 and node.origin_id < len(self.picks):
-            return self.picks[node.origin_id]
+            pick = self.picks[node.origin_id]
+            return pick and pick[:2]
         return None
 
     def copy(self, scope, number, depth):
@@ -446,8 +448,10 @@ class Expansion:
         rows = [row(1, self.documents[0].header)]
         for node in self.nodes:
             rows += node_rows(node)
-        for extern in self.externs:
-            rows += [row(8, extern.name), *interface_rows(extern.interfaces), *extern.rest]
+        for extern, taken in self.externs:
+            # The url that was taken has 1 in c, every other 0 (document 02, wish 1).
+            urls = [row(*url[:3], int(at == taken)) for at, url in enumerate(extern.rest)]
+            rows += [row(8, extern.name), *interface_rows(extern.interfaces), *urls]
         return rows + [row(11)] + self.top
 
 

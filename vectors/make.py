@@ -325,6 +325,12 @@ EDGES = [
 ]
 
 
+def url_marks(v):
+    for form, before in ((ROOT, []), (LIBRARY, [file(80)]), (EXPANDED, [])):
+        for c in (0, 1, 2):
+            v.check(f"url, c {c}", form, before + [document(), extern(70), row(10, 80, NONE, c), url(81), TOP])
+
+
 def edges(v):
     for title, edge in EDGES:
         v.check(title, ROOT, IN_NODE + [edge])
@@ -598,7 +604,7 @@ def looking_up(v):
 
 def all_cases():
     v = Vectors()
-    for part in (fitting, lengths, one_column, edges, order, counted, by_chance, reading_lines, writing_lines, looking_up):
+    for part in (fitting, lengths, one_column, edges, url_marks, order, counted, by_chance, reading_lines, writing_lines, looking_up):
         part(v)
     v.cut_short()
     return v.cases

@@ -102,7 +102,7 @@ COLUMNS = {
     7: [columns(name)],
     8: [columns(name)],
     9: [columns(name)],
-    10: [columns(name, any_word)],
+    10: [columns(name, any_word, flag)],
     11: [columns()],
     12: [columns(name)],
     13: [columns(name, any_word, any_word, any_word)],
@@ -185,7 +185,8 @@ class Sheet:
         while self.comes(4):
             self.take(4, lambda r: r[6] == 0)
         while self.comes(10):
-            self.take(10)
+            # Sheets given to Expand keep 0 in c; an expanded document takes 0 or 1 (document 02, wish 1).
+            self.take(10, lambda r: r[3] == 0 or self.form == EXPANDED)
 
     def document(self):
         found = Document()

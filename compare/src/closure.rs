@@ -7,7 +7,7 @@ use std::collections::{HashMap, HashSet};
 use crate::call::{Call, Expanded};
 use crate::grammar;
 use crate::output;
-use crate::picks::picks;
+use crate::picks::{picks, Pick};
 use crate::tree::*;
 
 /// What the check saw on the way, for the summary.
@@ -25,7 +25,7 @@ pub struct Seen {
 
 struct Sheets<'a> {
     docs: Vec<&'a Doc>,
-    picks: Vec<Option<(usize, u32)>>,
+    picks: Vec<Option<Pick>>,
 }
 
 impl<'a> Sheets<'a> {
@@ -33,7 +33,7 @@ impl<'a> Sheets<'a> {
     fn prototype(&self, document: usize, node: &Node) -> Option<(usize, u32)> {
         match node.origin {
             Origin::Proto(id) => Some((document, id)),
-            Origin::Extern(id) if document == 0 => self.picks.get(id as usize).copied().flatten(),
+            Origin::Extern(id) if document == 0 => self.picks.get(id as usize).copied().flatten().map(Pick::prototype),
             _ => None,
         }
     }

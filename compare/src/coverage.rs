@@ -4,7 +4,7 @@ use std::collections::{HashMap, HashSet};
 
 use crate::call::{Call, Expanded};
 use crate::mutants::Mutant;
-use crate::picks::{choose, picks, MOST_BASES};
+use crate::picks::{choose, picks, Pick, MOST_BASES};
 use crate::reckon::{self, Reckoned};
 use crate::rows::*;
 use crate::scenes::MOST_CHARGES;
@@ -12,7 +12,7 @@ use crate::tree::*;
 use crate::{closure, grammar};
 
 /// What must be met at least once, by name.
-const SHAPES: [&str; 44] = [
+const SHAPES: [&str; 51] = [
     "a node mentioned twice",
     "a loop through an instance's fields",
     "a default with nodes",
@@ -57,6 +57,13 @@ const SHAPES: [&str; 44] = [
     "3 in the library",
     "3 where a sheet ends early",
     "9 with every D, by a default that an IS to nothing takes",
+    "a mark by a top statement",
+    "a mark by a statement in a node",
+    "a mark by a body's statement",
+    "a mark on a url that is not the first",
+    "a mark behind another url of its base",
+    "an extern declared without a mark",
+    "3 at a marked url",
 ];
 
 /// Counts of calls by shape.
@@ -80,6 +87,7 @@ impl Coverage {
                     return;
                 };
                 Sheets::new(&root, &files).accepted(call, expanded, &mut seen);
+                seen.extend(reckoned.noted.iter());
                 if !reckoned.bound.unset.is_disjoint(&reckoned.bound.valued) {
                     seen.insert("  and not in another scope, where the target has a value");
                 }
@@ -90,6 +98,10 @@ impl Coverage {
                 match refusal.number {
                     3 => {
                         seen.insert(if first == 0 { "3 in the root" } else { "3 in the library" });
+                        let sheet = [&call.root, &call.library][(first == 1) as usize];
+                        if matches!(sheet.chunks_exact(8).nth(second as usize), Some([URL, _, _, 1, 0, 0, 0, 0])) {
+                            seen.insert("3 at a marked url");
+                        }
                         if second as usize == rows {
                             seen.insert("3 where a sheet ends early");
                         }
@@ -131,7 +143,7 @@ fn endless_by_is(call: &Call) -> bool {
 struct Sheets<'a> {
     docs: Vec<&'a Doc>,
     files: &'a [File],
-    picks: Vec<Option<(usize, u32)>>,
+    picks: Vec<Option<Pick>>,
 }
 
 type Seen = HashSet<&'static str>;
@@ -145,7 +157,7 @@ impl<'a> Sheets<'a> {
     fn prototype(&self, document: usize, node: &Node) -> Option<&'a Proto> {
         let (document, id) = match node.origin {
             Origin::Proto(id) => (document, id),
-            Origin::Extern(id) if document == 0 => self.picks.get(id as usize).copied().flatten()?,
+            Origin::Extern(id) if document == 0 => self.picks.get(id as usize).copied().flatten()?.prototype(),
             _ => return None,
         };
         self.docs[document].protos.get(id as usize)
@@ -305,18 +317,12 @@ impl<'a> Sheets<'a> {
         }
         for (declared, pick) in self.docs[0].externs.iter().zip(&self.picks) {
             bases.extend(declared.urls.iter().map(|(base, _)| *base));
-            let Some((document, _)) = pick else {
+            let Some(pick) = pick else {
                 seen.insert("an extern without a pick");
                 continue;
             };
-            let taken = declared.urls.iter().filter(|(base, _)| *base == self.files[document - 1].base);
-            // Of several urls of one base it is not told here which was taken.
-            let fragments: Vec<bool> = taken.map(|(_, fragment)| fragment.is_some()).collect();
-            if fragments.iter().all(|f| *f) {
-                seen.insert("a pick by a fragment");
-            } else if fragments.iter().all(|f| !*f) {
-                seen.insert("a pick without one");
-            }
+            let by_fragment = declared.urls[pick.url].1.is_some();
+            seen.insert(if by_fragment { "a pick by a fragment" } else { "a pick without one" });
         }
         if bases.len() > MOST_BASES {
             seen.insert("more than 64 bases");

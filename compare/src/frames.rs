@@ -95,7 +95,7 @@ pub fn write(path: &str, batch: &Batch) -> io::Result<()> {
         }
     }
     for number in 0..batch.count {
-        write_words(&mut file, &case_frame(&lent::call(batch.seed, number, bounds)))?;
+        write_words(&mut file, &case_frame(&lent::marked(batch.seed, number, bounds)))?;
     }
     file.flush()
 }
@@ -114,7 +114,7 @@ pub fn mutants(count: u64, seed: u64) -> u64 {
     let all = || mutants::ALL.iter().chain(mutants::FRAMES_ONLY);
     let mut noticed = vec![0u64; all().count()];
     for number in 0..count {
-        let call = lent::call(seed, number, if number % 2 == 0 { lent::SMALL } else { lent::USUAL });
+        let call = lent::marked(seed, number, if number % 2 == 0 { lent::SMALL } else { lent::USUAL });
         let truth = reckon::expand(&call, None);
         for ((mutant, _), noticed) in all().zip(&mut noticed) {
             *noticed += (reckon::expand(&call, Some(*mutant)) != truth) as u64;

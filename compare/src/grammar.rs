@@ -8,8 +8,13 @@ type Fit<T> = Result<T, usize>;
 
 /// The tree of a root sheet.
 pub fn root(words: &[u32]) -> Fit<Doc> {
+    document(words, false)
+}
+
+/// The tree of a document, whose urls may be marked or not.
+pub fn document(words: &[u32], marks: bool) -> Fit<Doc> {
     let rows = rows_of(words);
-    let mut at = Cursor { rows: &rows, next: 0 };
+    let mut at = Cursor { rows: &rows, next: 0, marks };
     let doc = at.document()?;
     at.end()?;
     Ok(doc)
@@ -17,8 +22,13 @@ pub fn root(words: &[u32]) -> Fit<Doc> {
 
 /// The files of a library sheet.
 pub fn library(words: &[u32]) -> Fit<Vec<File>> {
+    files(words, false)
+}
+
+/// The files of a sheet, whose urls may be marked or not.
+pub fn files(words: &[u32], marks: bool) -> Fit<Vec<File>> {
     let rows = rows_of(words);
-    let mut at = Cursor { rows: &rows, next: 0 };
+    let mut at = Cursor { rows: &rows, next: 0, marks };
     let mut files = Vec::new();
     while at.kind() == FILE {
         let row = at.take(FILE, |r| name(r[1]) && zero(&r[2..]))?;
@@ -84,6 +94,8 @@ fn node_fits(r: &Row) -> bool {
 struct Cursor<'a> {
     rows: &'a [Row],
     next: usize,
+    /// Whether urls may be marked.
+    marks: bool,
 }
 
 impl Cursor<'_> {
@@ -204,7 +216,8 @@ impl Cursor<'_> {
     fn urls(&mut self) -> Fit<Vec<(u32, Option<u32>)>> {
         let mut list = Vec::new();
         while self.kind() == URL {
-            let r = self.take(URL, |r| name(r[1]) && zero(&r[3..]))?;
+            let most = self.marks as u32;
+            let r = self.take(URL, |r| name(r[1]) && r[3] <= most && zero(&r[4..]))?;
             list.push((r[1], or_none(r[2])));
         }
         Ok(list)

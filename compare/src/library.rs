@@ -154,7 +154,7 @@ impl Run {
                 move || {
                     let mut run = Run::default();
                     for number in (first..count).step_by(THREADS as usize) {
-                        let call = lent::call(seed, number, lent::USUAL);
+                        let call = lent::marked(seed, number, lent::USUAL);
                         run.note(&call, &reckon::reckon(&call, None));
                     }
                     run
@@ -197,7 +197,7 @@ pub fn run(count: u64, seed: u64) -> u64 {
         (families::of_document_01()..families::total()).flat_map(|n| tight(families::scene(n).call(FAMILY_ROWS))),
         true,
     );
-    run.stage("random scenes", (0..count).map(|number| lent::call(seed, number, lent::USUAL)), true);
+    run.stage("random scenes", (0..count).map(|number| lent::marked(seed, number, lent::USUAL)), true);
     run.stage("every K, N and D of 300 scenes", sweeps::calls(SWEPT, seed), false);
     run.stage(
         "large scenes, K just enough, K one less and N one less",

@@ -51,6 +51,13 @@ pub enum Mutant {
     IsToNothingTakesNone,
     IsDefaultInInstanceScope,
     FirstDefaultOfRepeatedName,
+    FirstUrlMarked,
+    LastUrlMarked,
+    UrlsOfTheBaseMarked,
+    NoMark,
+    NoMarkByBody,
+    FilesExternsMarked,
+    MarkedSheetsAccepted,
 }
 
 /// Mutants that the comparison with the original must notice, with what each does wrong.
@@ -85,7 +92,7 @@ pub const ALL: &[(Mutant, &str)] = &[
     (Mutant::DanglingPickPassedOver, "without a fragment a dangling Proto statement is passed over"),
 ];
 
-/// Mutants of what the original doesn't show (charges, scopes, places, the default that an IS to nothing takes): frames must
+/// Mutants of what the original doesn't show (charges, scopes, places, the default that an IS to nothing takes, marks): frames must
 /// notice them.
 pub const FRAMES_ONLY: &[(Mutant, &str)] = &[
     (Mutant::IdChargedBeforeCopy, "an id is charged before its node is copied"),
@@ -105,6 +112,13 @@ pub const FRAMES_ONLY: &[(Mutant, &str)] = &[
     (Mutant::IsToNothingTakesNone, "an IS to nothing takes no default"),
     (Mutant::IsDefaultInInstanceScope, "the default that an IS takes is copied in the instance's own scope"),
     (Mutant::FirstDefaultOfRepeatedName, "of a repeated interface name an IS takes the first entry's default for each"),
+    (Mutant::FirstUrlMarked, "the first url of an extern with a pick is marked"),
+    (Mutant::LastUrlMarked, "the last url of an extern with a pick is marked"),
+    (Mutant::UrlsOfTheBaseMarked, "every url of the picked file's base is marked"),
+    (Mutant::NoMark, "no url is marked"),
+    (Mutant::NoMarkByBody, "no url is marked where a body's statement declares the extern"),
+    (Mutant::FilesExternsMarked, "a file's extern is marked as the root's of the same id"),
+    (Mutant::MarkedSheetsAccepted, "a sheet with a marked url is accepted"),
 ];
 
 /// The mutant of a name, as `compare mutants` prints it.

@@ -6,7 +6,7 @@ use crate::rows::*;
 
 /// The output is an expanded document within its limits.
 pub fn check(call: &Call, answer: &Expanded) -> Result<(), String> {
-    grammar::root(&words_of(&answer.out)).map_err(|row| format!("output row {row} doesn't fit"))?;
+    grammar::document(&words_of(&answer.out), true).map_err(|row| format!("output row {row} doesn't fit"))?;
     let count = |kind: u32| answer.out.iter().filter(|r| r[0] == kind).count();
     if count(NODE) != answer.nodes as usize || answer.nodes > call.max_nodes {
         return Err("the node count".into());

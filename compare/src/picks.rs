@@ -6,15 +6,30 @@ use crate::tree::{Doc, File, Statement};
 /// Most distinct bases that are looked at.
 pub const MOST_BASES: usize = 64;
 
-/// Document number and PROTO id for each extern of the root, where there is a pick. Document n is the n-th file; of several
-/// files with the same base the last is used.
-pub fn picks(root: &Doc, files: &[File], mutant: Option<Mutant>) -> Vec<Option<(usize, u32)>> {
+/// What a pick found: document number, PROTO id, and the index of the url that it took.
+#[derive(Clone, Copy)]
+pub struct Pick {
+    pub document: usize,
+    pub proto: u32,
+    pub url: usize,
+}
+
+impl Pick {
+    /// Document number and PROTO id.
+    pub fn prototype(self) -> (usize, u32) {
+        (self.document, self.proto)
+    }
+}
+
+/// The pick of each extern of the root, where there is one. Document n is the n-th file; of several files with the same base
+/// the last is used.
+pub fn picks(root: &Doc, files: &[File], mutant: Option<Mutant>) -> Vec<Option<Pick>> {
     let is = |m| mutant == Some(m);
     let mut bases: Vec<u32> = Vec::new();
     let mut picks = Vec::new();
     for declared in &root.externs {
         let mut pick = None;
-        for (base, fragment) in &declared.urls {
+        for (url, (base, fragment)) in declared.urls.iter().enumerate() {
             let named = |f: &File| f.base == *base;
             let resolved = files.iter().any(named);
             if !bases.contains(base) && (resolved || !is(Mutant::UnresolvedBasesDoNotCount)) {
@@ -34,7 +49,7 @@ pub fn picks(root: &Doc, files: &[File], mutant: Option<Mutant>) -> Vec<Option<(
             };
             let Some(at) = file else { continue };
             if let Some(proto) = choose(&files[at].doc, *fragment, is(Mutant::DanglingPickPassedOver)) {
-                pick = Some((at + 1, proto));
+                pick = Some(Pick { document: at + 1, proto, url });
                 break;
             }
         }

@@ -2,12 +2,14 @@
 //!
 //! `expand` gives the whole answer of a call: refusals 1 to 3 are here, the others in `steps`.
 
+use std::collections::HashSet;
+
 use crate::bound::Bound;
 use crate::call::{refuse, Answer, Call, Expanded};
 use crate::grammar;
 use crate::mutants::Mutant;
 use crate::picks::picks;
-use crate::rows::MOST_ROWS;
+use crate::rows::{Row, MOST_ROWS, URL};
 use crate::steps::Steps;
 use crate::tree::{print, Doc};
 
@@ -15,6 +17,9 @@ use crate::tree::{print, Doc};
 pub struct Reckoned {
     pub answer: Answer,
     pub bound: Bound,
+    /// What there is to tell of marks, by the names of coverage's shapes.
+    #[cfg_attr(not(feature = "library"), allow(dead_code))]
+    pub noted: HashSet<&'static str>,
 }
 
 /// The answer of a call; a mutant breaks one reading on purpose.
@@ -25,31 +30,43 @@ pub fn expand(call: &Call, mutant: Option<Mutant>) -> Answer {
 /// The same with what was met on the way.
 pub fn reckon(call: &Call, mutant: Option<Mutant>) -> Reckoned {
     let mut bound = Bound::default();
-    let answer = answer(call, mutant, &mut bound);
-    Reckoned { answer, bound }
+    let mut noted = HashSet::new();
+    let answer = answer(call, mutant, &mut bound, &mut noted);
+    Reckoned { answer, bound, noted }
 }
 
-fn answer(call: &Call, mutant: Option<Mutant>, bound: &mut Bound) -> Answer {
+fn answer(call: &Call, mutant: Option<Mutant>, bound: &mut Bound, noted: &mut HashSet<&'static str>) -> Answer {
     if !call.in_room() {
         return refuse(1, 0, 0);
     }
     if [&call.root, &call.library].iter().any(|s| s.len() % 8 != 0 || s.len() / 8 > MOST_ROWS) {
         return refuse(2, 0, 0);
     }
-    let root = grammar::root(&call.root).or_else(|row| refuse(3, 0, row as u32))?;
-    let files = grammar::library(&call.library).or_else(|row| refuse(3, 1, row as u32))?;
+    let marks = mutant == Some(Mutant::MarkedSheetsAccepted);
+    let root = grammar::document(&call.root, marks).or_else(|row| refuse(3, 0, row as u32))?;
+    let files = grammar::files(&call.library, marks).or_else(|row| refuse(3, 1, row as u32))?;
     let docs = std::iter::once(&root).chain(files.iter().map(|f| &f.doc)).collect();
     let mut steps = Steps::new(call, docs, picks(&root, &files, mutant), mutant);
     let top = steps.run();
     std::mem::swap(bound, &mut steps.bound);
+    std::mem::swap(noted, &mut steps.noted);
     let top = top?;
     let out = Doc { header: root.header, nodes: steps.nodes, protos: Vec::new(), externs: steps.externs, top };
     Ok(Expanded {
         nodes: out.nodes.len() as u32,
         charges: steps.charges as u32,
-        out: print(&out),
+        out: marked(print(&out), &steps.marks),
         ledger: steps.ledger,
         scopes: steps.scopes.iter().map(|s| s.entry).collect(),
         instances: steps.scopes.iter().map(|s| s.instance).collect(),
     })
+}
+
+/// The output's rows with its urls marked.
+fn marked(mut rows: Vec<Row>, marks: &[Vec<bool>]) -> Vec<Row> {
+    let urls = rows.iter_mut().filter(|r| r[0] == URL);
+    for (row, used) in urls.zip(marks.iter().flatten()) {
+        row[3] = *used as u32;
+    }
+    rows
 }

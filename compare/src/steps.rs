@@ -1,10 +1,11 @@
 //! The steps of an expansion, with refusals 4 to 10 and each charge at its moment.
 
-use std::collections::HashMap;
+use std::collections::{HashMap, HashSet};
 
 use crate::bound::Bound;
 use crate::call::{refuse, Call, Refusal};
 use crate::mutants::Mutant;
+use crate::picks::Pick;
 use crate::rows::{MARK_FIELD, MARK_STATEMENT};
 use crate::tree::*;
 
@@ -33,10 +34,14 @@ struct Instance<'a> {
 
 type Step<T> = Result<T, Refusal>;
 
+/// What declares an extern: a body's statement, a node's origin.
+const BY_BODY: &str = "a mark by a body's statement";
+const BY_ORIGIN: &str = "a mark by a node's origin";
+
 /// The state of the steps: what stands in the output so far, and the limits.
 pub struct Steps<'a> {
     docs: Vec<&'a Doc>,
-    picks: Vec<Option<(usize, u32)>>,
+    picks: Vec<Option<Pick>>,
     /// Nodes, depth, rows.
     limits: [usize; 3],
     mutant: Option<Mutant>,
@@ -47,6 +52,10 @@ pub struct Steps<'a> {
     /// Scope and source id to output id.
     map: HashMap<(usize, u32), u32>,
     pub externs: Vec<Extern>,
+    /// Of each of these, whether each url is marked: the pick took it (document 02, wish 1).
+    pub marks: Vec<Vec<bool>>,
+    /// Where an extern with a mark was declared, and what else there is to tell of marks.
+    pub noted: HashSet<&'static str>,
     /// Document and extern id to output extern id.
     declared: HashMap<(usize, u32), u32>,
     /// The fields of instances bound by IS that were met.
@@ -55,7 +64,7 @@ pub struct Steps<'a> {
 
 impl<'a> Steps<'a> {
     /// Before the first step. Document 0 is the root, document n the n-th file.
-    pub fn new(call: &Call, docs: Vec<&'a Doc>, picks: Vec<Option<(usize, u32)>>, mutant: Option<Mutant>) -> Steps<'a> {
+    pub fn new(call: &Call, docs: Vec<&'a Doc>, picks: Vec<Option<Pick>>, mutant: Option<Mutant>) -> Steps<'a> {
         Steps {
             docs,
             picks,
@@ -67,6 +76,8 @@ impl<'a> Steps<'a> {
             scopes: Vec::new(),
             map: HashMap::new(),
             externs: Vec::new(),
+            marks: Vec::new(),
+            noted: HashSet::new(),
             declared: HashMap::new(),
             bound: Bound::default(),
         }
@@ -86,7 +97,7 @@ impl<'a> Steps<'a> {
             let kept = match statement {
                 Statement::Node(id) => Statement::Node(self.copy(scope, *id, 0)?),
                 Statement::Proto(_) => continue,
-                Statement::Extern(id) => Statement::Extern(self.declare(0, *id)?),
+                Statement::Extern(id) => Statement::Extern(self.declare(0, *id, "a mark by a top statement")?),
                 Statement::Route(route) => Statement::Route(self.remap(scope, route)),
                 Statement::Other(payload) => Statement::Other(*payload),
             };
@@ -153,7 +164,7 @@ impl<'a> Steps<'a> {
         match node.origin {
             Origin::Proto(id) => Some((document, id)),
             Origin::Extern(id) if document == 0 || self.is(Mutant::FetchedExternsFollowed) => {
-                self.picks.get(id as usize).copied().flatten()
+                self.picks.get(id as usize).copied().flatten().map(Pick::prototype)
             }
             _ => None,
         }
@@ -207,8 +218,42 @@ impl<'a> Steps<'a> {
         self.scopes[scope].values.is_some()
     }
 
-    /// The output id of an extern of a document, declared at its first mention.
-    fn declare(&mut self, document: usize, id: u32) -> Step<u32> {
+    /// Which urls of a declared extern are marked; `by` is what declares it.
+    fn mark(&mut self, document: usize, id: u32, by: &'static str) -> Vec<bool> {
+        let urls = &self.docs[document].externs[id as usize].urls;
+        let pick = self.picks.get(id as usize).copied().flatten();
+        let pick = pick.filter(|_| document == 0 || self.is(Mutant::FilesExternsMarked));
+        let Some(taken) = pick.map(|p| p.url).filter(|taken| *taken < urls.len()) else {
+            self.noted.insert("an extern declared without a mark");
+            return vec![false; urls.len()];
+        };
+        if self.is(Mutant::NoMark) || by == BY_BODY && self.is(Mutant::NoMarkByBody) {
+            return vec![false; urls.len()];
+        }
+        let base = urls[taken].0;
+        let first = self.is(Mutant::FirstUrlMarked);
+        let same = self.is(Mutant::UrlsOfTheBaseMarked);
+        let last = self.is(Mutant::LastUrlMarked);
+        let marks: Vec<bool> = (0..urls.len())
+            .map(|at| match () {
+                () if first => at == 0,
+                () if last => at + 1 == urls.len(),
+                () if same => urls[at].0 == base,
+                () => at == taken,
+            })
+            .collect();
+        if taken > 0 {
+            self.noted.insert("a mark on a url that is not the first");
+        }
+        if urls[..taken].iter().any(|(b, _)| *b == base) {
+            self.noted.insert("a mark behind another url of its base");
+        }
+        self.noted.insert(by);
+        marks
+    }
+
+    /// The output id of an extern of a document, declared at its first mention, which `by` tells.
+    fn declare(&mut self, document: usize, id: u32, by: &'static str) -> Step<u32> {
         let key = if self.is(Mutant::ExternDeclaredPerId) { (0, id) } else { (document, id) };
         if let Some(out) = self.declared.get(&key) {
             return Ok(*out);
@@ -221,6 +266,8 @@ impl<'a> Steps<'a> {
         self.charge(!early as usize + declaration.interfaces.len() + declaration.urls.len())?;
         let out = self.externs.len() as u32;
         self.externs.push(declaration.clone());
+        let marks = self.mark(document, id, by);
+        self.marks.push(marks);
         self.declared.insert(key, out);
         Ok(out)
     }
@@ -230,7 +277,7 @@ impl<'a> Steps<'a> {
         let document = self.scopes[scope].document;
         if self.is(Mutant::NodesLimitAfterExtern) {
             if let Origin::Extern(e) = node.origin {
-                self.declare(document, e)?;
+                self.declare(document, e, BY_ORIGIN)?;
             }
         }
         let early = self.is(Mutant::RowChargedBeforeNodesLimit);
@@ -247,7 +294,7 @@ impl<'a> Steps<'a> {
         self.ledger.push([scope as u32, document as u32, id]);
         self.enter(scope, id, out);
         if let Origin::Extern(e) = node.origin {
-            self.nodes[new].origin = Origin::Extern(self.declare(document, e)?);
+            self.nodes[new].origin = Origin::Extern(self.declare(document, e, BY_ORIGIN)?);
         }
         let fields_kept = self.fields(scope, node, new, depth)?;
         self.interfaces(scope, node, new, depth)?;
@@ -331,7 +378,7 @@ impl<'a> Steps<'a> {
         for statement in &node.statements {
             let copy = match statement {
                 Statement::Route(route) => Some(Statement::Route(self.remap(scope, route))),
-                Statement::Extern(id) => Some(Statement::Extern(self.declare(document, *id)?)),
+                Statement::Extern(id) => Some(Statement::Extern(self.declare(document, *id, "a mark by a statement in a node")?)),
                 _ => None,
             };
             kept.push(copy.is_some());
@@ -459,7 +506,7 @@ impl<'a> Steps<'a> {
                     routes.push((route, now));
                 }
                 Statement::Extern(inner) => {
-                    self.declare(document, *inner)?;
+                    self.declare(document, *inner, BY_BODY)?;
                 }
                 Statement::Proto(_) | Statement::Other(_) => {}
             }

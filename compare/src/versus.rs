@@ -3,7 +3,7 @@
 use crate::call::{Answer, Call};
 use crate::random::Random;
 use crate::reckon::{self, Reckoned};
-use crate::rows::{self, rows_of};
+use crate::rows::{self, rows_of, Row, URL};
 use crate::rust;
 use crate::scenes::{damage, families, free, large, MOST_CHARGES};
 use crate::shrink::shrink;
@@ -21,6 +21,10 @@ pub fn case(seed: u64, number: u64) -> Call {
     if r.below(8) == 0 {
         let in_library = !call.library.is_empty() && r.percent(40);
         damage::damage(&mut r, if in_library { &mut call.library } else { &mut call.root });
+    }
+    if r.below(64) == 0 {
+        let in_library = r.percent(40);
+        damage::mark(&mut r, if in_library { &mut call.library } else { &mut call.root });
     }
     call
 }
@@ -109,13 +113,19 @@ pub fn as_if_absent(call: &Call, reckoned: &Reckoned) -> Option<Result<(), Strin
     against_original(&without, &truth)
 }
 
-/// The answer has the original's rows, or its kind of refusal.
+/// The rows without marks: "Comparison with the Rust ignores that column." (document 02, wish 1)
+fn unmarked(rows: &[Row]) -> Vec<Row> {
+    let url = |r: &Row| [r[0], r[1], r[2], 0, r[4], r[5], r[6], r[7]];
+    rows.iter().map(|r| if r[0] == URL { url(r) } else { *r }).collect()
+}
+
+/// The answer has the original's rows, but for the marks, or its kind of refusal.
 pub fn as_original(call: &Call, answer: &Answer) -> Result<(), String> {
     let original = rust::expand(&call.root, &call.library, call.max_nodes, call.max_depth);
-    let ours = answer.as_ref().map(|e| &e.out).map_err(|r| r.number);
-    match (&original, ours) {
+    let ours = answer.as_ref().map(|e| unmarked(&e.out)).map_err(|r| r.number);
+    match (&original, &ours) {
         (Ok(a), Ok(b)) if a == b => Ok(()),
-        (Err(a), Err(b)) if *a == b => Ok(()),
+        (Err(a), Err(b)) if a == b => Ok(()),
         (Ok(a), Ok(b)) => {
             let at = (0..).find(|i| a.get(*i) != b.get(*i)).unwrap();
             Err(format!("output row {at}: original {:?}, here {:?}", a.get(at), b.get(at)))
@@ -125,7 +135,7 @@ pub fn as_original(call: &Call, answer: &Answer) -> Result<(), String> {
             Err(format!(
                 "original {}, here {}",
                 show(a.as_ref().map(|v| v.len()).map_err(|n| *n)),
-                show(b.map(|v| v.len()))
+                show(b.as_ref().map(|v| v.len()).map_err(|n| *n))
             ))
         }
     }

@@ -11,6 +11,7 @@ mod memory;
 mod moving;
 mod options;
 mod pages;
+mod urls;
 
 use std::fs::File;
 use std::io::{self, BufWriter, Write};
@@ -124,7 +125,11 @@ fn expand(options: &Options) -> Result<(), Stop> {
     if let Some(path) = &options.scopes {
         write_entries(path, &room.scopes[..5 * answer.scopes()], 5)?;
     }
-    write_rows(&room.out[..ROW_WORDS * answer.rows()])?;
+    let rows = &room.out[..ROW_WORDS * answer.rows()];
+    if let Some(path) = &options.urls {
+        urls::write(path, rows)?;
+    }
+    write_rows(rows)?;
     eprintln!("{words}");
     Ok(())
 }

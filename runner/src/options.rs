@@ -23,7 +23,16 @@ in numbers, goes to standard error. SCENE.lines may be - for standard input.
                         --library 63=whales.lines --library 63=whales-corrected.lines
   --ledger FILE         write the ledger: scope, document and source id of each node
   --scopes FILE         write the scopes: kind, document, PROTO id, interface index and opening scope of each
+  --urls FILE           write, for each extern of the output, which of its urls supplied the prototype: its index, base and fragment
   --help                print this
+
+Which of several addresses a prototype came from is told by --urls; ids and indexes count from 0. For example:
+
+  $ luhetami --urls urls.txt --library 63=scenes/library/whales.lines --library 78=scenes/library/belugas.lines \\
+      scenes/which-address.lines > expanded.lines
+  $ cat urls.txt
+  extern 0, name 79: none of 1 urls
+  extern 1, name 59: url 3 of 5, base 63, fragment 64
 
 luhetami moving prints, for each leg of a season, its count and, from the WIDTH-th leg on, the total of the last WIDTH counts,
 with the first of the largest totals marked. COUNTS has one count to a line, at most 4294967295 each; it may be - for standard
@@ -86,6 +95,7 @@ pub struct Options {
     pub library: Vec<(u32, String)>,
     pub ledger: Option<String>,
     pub scopes: Option<String>,
+    pub urls: Option<String>,
     pub scene: String,
 }
 
@@ -108,6 +118,7 @@ pub fn parse(arguments: impl Iterator<Item = OsString>) -> Result<Command, Strin
         library: Vec::new(),
         ledger: None,
         scopes: None,
+        urls: None,
         scene: String::new(),
     };
     let mut scenes = Vec::new();
@@ -137,6 +148,7 @@ pub fn parse(arguments: impl Iterator<Item = OsString>) -> Result<Command, Strin
             "--rows" => options.rows = Some(number(&value()?)?),
             "--ledger" => options.ledger = Some(value()?),
             "--scopes" => options.scopes = Some(value()?),
+            "--urls" => options.urls = Some(value()?),
             "--library" => {
                 let text = value()?;
                 let (base, file) = text.split_once('=').ok_or(format!("--library wants BASE=FILE, not {text}"))?;

@@ -97,6 +97,9 @@ fn random(seed: u64, number: u64) -> Call {
     if r.percent(20) && !words.is_empty() {
         damage::damage(r, &mut words);
     }
+    if r.percent(15) {
+        damage::mark(r, &mut words);
+    }
     if r.percent(4) {
         words.extend((0..r.range(1, 7)).map(|_| 0));
     }

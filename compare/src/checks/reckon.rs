@@ -44,6 +44,9 @@ pub enum Mutant {
     ShortAnswerOne,
     AnswerPastCleared,
     RowUnwritten,
+    MarkRefused,
+    MarkInRoot,
+    MarkInLibrary,
 }
 
 pub const MUTANTS: &[(Mutant, &str)] = &[
@@ -76,6 +79,9 @@ pub const MUTANTS: &[(Mutant, &str)] = &[
     (Mutant::ShortAnswerOne, "the result of a short answer is that of the check"),
     (Mutant::AnswerPastCleared, "words past the answer are cleared"),
     (Mutant::RowUnwritten, "the row stays as it was"),
+    (Mutant::MarkRefused, "a marked url in an expanded document is refused"),
+    (Mutant::MarkInRoot, "a marked url in a root sheet is let by"),
+    (Mutant::MarkInLibrary, "a marked url in a library is let by"),
 ];
 
 fn is(mutant: Option<Mutant>, one: Mutant) -> bool {
@@ -104,7 +110,7 @@ fn not_expanded(rows: &[Row], mutant: Option<Mutant>) -> Option<usize> {
 
 /// The first row that doesn't fit an expanded document, or the row count where it ends early.
 fn expanded(words: &[u32], mutant: Option<Mutant>) -> Option<usize> {
-    let root = grammar::root(words).err();
+    let root = grammar::document(words, !is(mutant, Mutant::MarkRefused)).err();
     if is(mutant, Mutant::ExpandedIsRoot) {
         return root;
     }
@@ -193,8 +199,8 @@ fn misfit(call: &Call, mutant: Option<Mutant>) -> Option<usize> {
         _ => call.form,
     };
     let row = match form {
-        FORM_ROOT => grammar::root(whole).err(),
-        FORM_LIBRARY => grammar::library(whole).err(),
+        FORM_ROOT => grammar::document(whole, is(mutant, Mutant::MarkInRoot)).err(),
+        FORM_LIBRARY => grammar::files(whole, is(mutant, Mutant::MarkInLibrary)).err(),
         FORM_EXPANDED => expanded(whole, mutant),
         FORM_DOCUMENTS if is(mutant, Mutant::DocumentsAreFiles) => grammar::library(whole).err(),
         FORM_DOCUMENTS => documents(whole, mutant),

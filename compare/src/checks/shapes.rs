@@ -2,6 +2,7 @@
 
 use super::reckon::{ANSWER, FORM_DOCUMENTS, FORM_EXPANDED, FORM_LIBRARY, FORM_PROTOS, FORM_ROOT};
 use super::{After, Call};
+use crate::rows::URL;
 
 /// A shape by its name, and whether a call with what is reckoned of it has it.
 type Shape = (&'static str, fn(&Call, &After) -> bool);
@@ -31,6 +32,11 @@ fn of_kind(call: &Call, one: u32) -> usize {
     (0..rows(call)).filter(|at| kind(call, *at) == one).count()
 }
 
+/// How many urls have 1 in c.
+fn marked(call: &Call) -> usize {
+    call.words.chunks_exact(8).filter(|r| r[0] == URL && r[3] == 1).count()
+}
+
 /// Ends early: every whole row fits.
 fn early(call: &Call, after: &After, form: u32) -> bool {
     row(call, after, form) == Some(rows(call)) && whole(call)
@@ -41,7 +47,7 @@ fn at_kind(call: &Call, after: &After, form: u32, one: u32) -> bool {
     row(call, after, form).is_some_and(|at| at < rows(call) && kind(call, at) == one)
 }
 
-const SHAPES: [Shape; 44] = [
+const SHAPES: [Shape; 48] = [
     ("a root sheet that fits", |c, a| fits(c, a, FORM_ROOT)),
     ("a root sheet that ends early", |c, a| early(c, a, FORM_ROOT) && rows(c) > 0),
     ("an empty root sheet", |c, a| early(c, a, FORM_ROOT) && rows(c) == 0),
@@ -95,6 +101,10 @@ const SHAPES: [Shape; 44] = [
     ("a word past the last row, a row before it", |c, a| {
         c.form <= FORM_PROTOS && !whole(c) && c.answer >= ANSWER && a.answer[1] < rows(c) as u64
     }),
+    ("an expanded document with a marked url", |c, a| fits(c, a, FORM_EXPANDED) && marked(c) > 0),
+    ("documents with marked urls", |c, a| fits(c, a, FORM_DOCUMENTS) && marked(c) > 0),
+    ("a root sheet, a marked url", |c, a| at_kind(c, a, FORM_ROOT, URL) && marked(c) > 0),
+    ("a library, a marked url", |c, a| at_kind(c, a, FORM_LIBRARY, URL) && marked(c) > 0),
     ("form 5", |c, a| c.form == 5 && a.result == 0 && c.answer >= ANSWER),
     ("form 4294967295", |c, a| c.form == u32::MAX && a.result == 0 && c.answer >= ANSWER),
     ("an answer of no word", |c, _| c.answer == 0),

@@ -95,6 +95,9 @@ fn random(seed: u64, number: u64) -> Call {
     if r.percent(12) {
         damage::damage(r, &mut document);
     }
+    if r.percent(10) {
+        damage::mark(r, &mut document);
+    }
     if r.percent(3) {
         document.extend((0..r.range(1, 7)).map(|_| 0));
     }

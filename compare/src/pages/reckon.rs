@@ -111,7 +111,7 @@ pub fn document(call: &Call, mutant: Option<Mutant>) -> Option<Doc> {
     if call.document.len() % 8 != 0 && !is(mutant, Mutant::HalfRowTaken) {
         return None;
     }
-    let doc = grammar::root(&call.document[..8 * rows]).ok()?;
+    let doc = grammar::document(&call.document[..8 * rows], true).ok()?;
     if !expanded(&doc) && !is(mutant, Mutant::RootTaken) {
         return None;
     }

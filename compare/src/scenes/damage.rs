@@ -1,7 +1,7 @@
 //! Damaged sheets: a word changed, a row removed, doubled or swapped with another, the end cut off.
 
 use crate::random::Random;
-use crate::rows::NONE;
+use crate::rows::{NONE, URL};
 
 /// The sheet with one damage; it may still fit.
 pub fn damage(r: &mut Random, words: &mut Vec<u32>) {
@@ -44,5 +44,13 @@ pub fn damage(r: &mut Random, words: &mut Vec<u32>) {
             let at = row(r);
             words[at] = r.below(16) as u32;
         }
+    }
+}
+
+/// The sheet with a mark on one of its urls, if it has any: sheets given to Expand keep 0 there (document 02, wish 1).
+pub fn mark(r: &mut Random, words: &mut [u32]) {
+    let urls: Vec<usize> = (0..words.len() / 8).filter(|at| words[at * 8] == URL).collect();
+    if !urls.is_empty() {
+        words[r.of(&urls) * 8 + 3] = r.of(&[1, 1, 2]);
     }
 }

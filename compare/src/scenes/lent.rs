@@ -24,6 +24,17 @@ pub const USUAL: Bounds = Bounds { sheet_rows: 2000, max_nodes: 2000, max_depth:
 /// The most words lent beyond what a call needs.
 const SPARE: usize = 19;
 
+/// The call of a number, one in twenty with a mark on a url of one of its sheets.
+pub fn marked(seed: u64, number: u64, bounds: Bounds) -> Call {
+    let mut call = call(seed, number, bounds);
+    let mut r = Random::new(seed ^ 0x6D61_726B, number);
+    if r.percent(5) {
+        let in_library = r.percent(40);
+        damage::mark(&mut r, if in_library { &mut call.library } else { &mut call.root });
+    }
+    call
+}
+
 /// The call of a number.
 pub fn call(seed: u64, number: u64, bounds: Bounds) -> Call {
     let mut r = Random::new(seed ^ 0x6672_616D_6573, number);

@@ -43,6 +43,7 @@ pub fn calls() -> Vec<Call> {
     calls.extend(cut_short());
     calls.extend(damaged());
     calls.extend(candidates(7).take(100));
+    calls.extend(marked());
     calls
 }
 
@@ -91,6 +92,12 @@ fn of_mutants() -> Vec<Call> {
         calls.extend(noticing.take(2));
     }
     calls
+}
+
+/// Calls with a mark on a url of a sheet: 3, at that row.
+fn marked() -> Vec<Call> {
+    let calls = (0u64..).map(|number| lent::marked(SEED, number, lent::SMALL));
+    calls.filter(|c| fits(c) && notices(c, Mutant::MarkedSheetsAccepted)).take(6).collect()
 }
 
 /// Scenes for the sweeps: each shows something that a limit can stop.

@@ -1,5 +1,6 @@
 -- The parsed document, as ast.rs has it (document 01, Sheets).
 -- Names, header, payloads and type tags are numbers; an id is a place in its group, from 0.
+use mathlib.Core.Bool.{Bool}
 use mathlib.Core.List.{List}
 use mathlib.Core.Option.{Option}
 use Prim.Native.Nat.{ℕ}
@@ -37,10 +38,11 @@ pub record ProtoDecl : Type 0 where
   pub interface : List InterfaceDecl
   pub body : List Statement
 
--- a url split at its first '#'
+-- a url split at its first '#', and whether it supplied the prototype (document 02, wish 1)
 pub record Url : Type 0 where
   pub base : ℕ
   pub fragment : Option ℕ
+  pub used : Bool
 
 pub record ExternProtoDecl : Type 0 where
   pub name : ℕ

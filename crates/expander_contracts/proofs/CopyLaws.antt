@@ -17,12 +17,12 @@ use Rattle.sheet_walks.specs.declared.walk.Found.the-variants as walked
 use Rattle.sheet_lookup.specs.Lookup.{rootAndFiles, Located}
 use Rattle.sheet_walks.specs.Walk.{rowsAt}
 use Rattle.sheet_walks.proofs.WalkLaws.{front-drop}
-use Rattle.pick_table.specs.Picks.{pickAt}
+use Rattle.pick_table.specs.Picks.{prototypeIn}
 use Rattle.source_directory.specs.Directory.{numberOf, Slot}
 use Rattle.source_lookup.specs.declared.instance.Target.{Target}
 use Rattle.source_lookup.specs.declared.instance.Target.the-variants.{Plain, Of}
-use Rattle.source_lookup.specs.Instance.{pickIn, originFrom, instanceIn, targetOf, Targeted}
-use Rattle.expansion_definition.specs.Input.{Input, docs, pickOf, protoOfOrigin}
+use Rattle.source_lookup.specs.Instance.{originFrom, targetOf, Targeted}
+use Rattle.expansion_definition.specs.Input.{Input, docs, protoOfOrigin}
 use Rattle.expansion_definition.specs.State.{Comp, refusal, ok, ret, fail, lookup}
 use Rattle.expansion_definition.specs.Values.{Env, src}
 use Rattle.expansion_definition.specs.Copy.{copyNode, mappedOr, copy}
@@ -41,15 +41,6 @@ use Rattle.refine_records.specs.Contract.{CopyLooked}
 use Rattle.expander_parts.specs.Contract.{sourceOf, rowsOf, nodeAtRow}
 use Rattle.expander_contracts.specs.Contract.{Here, AtRow, Copied, PlainNodeCopied, Instantiated}
 use Rattle.expander_contracts.proofs.Run.{begin, turn, end, refuse, yields-as}
-
--- the source and the definition say the same of a node's origin
-pub instance-is : (I : Input) (d : ℕ) (o : NodeOrigin) → instanceIn (I .root) (I .library) d o ≡ protoOfOrigin I d o
-unfolding instanceIn protoOfOrigin pickIn pickOf pickAt
-instance-is I d NodeOrigin.Builtin = refl
-instance-is I d (NodeOrigin.Proto p) = refl
-instance-is I zero (NodeOrigin.ExternProto x) = refl
-instance-is I (suc d) (NodeOrigin.ExternProto x) = refl
-instance-is I d NodeOrigin.Unknown = refl
 
 module _ (root library dir w : List ℕ) (L : Limits) (t : Counts) (e : code.Env) (id depth : ℕ) (h : Here root library dir w L t e) {f : Newest} (lk : CopyLooked w (t .charges) (e .scope) id f) where
   abbrev m : Input → Comp ℕ
@@ -93,7 +84,7 @@ module _ (root library dir w : List ℕ) (L : Limits) (t : Counts) (e : code.Env
       pub copy-row : AtRow root library dir (e .slot) row
       copy-row = record { below = rw there at (lo .below) }
 
-      module _ (more : depth ≡ 0 → ⊥) (r : Row) (is : r ≡ getD (rowsOf root library dir (e .slot)) row blank) {g : Target} (tg : Targeted dir (instanceIn (documentOf (rows root)) (filesOf (rows library)) (numberOf dir (e .slot)) (originFrom (r .c) (r .d))) g) where
+      module _ (more : depth ≡ 0 → ⊥) (r : Row) (is : r ≡ getD (rowsOf root library dir (e .slot)) row blank) {g : Target} (tg : Targeted dir (prototypeIn (documentOf (rows root)) (filesOf (rows library)) (numberOf dir (e .slot)) (originFrom (r .c) (r .d))) g) where
         abbrev node : Node
         node = nodeAtRow root library dir (e .slot) row
 
@@ -102,7 +93,7 @@ module _ (root library dir w : List ℕ) (L : Limits) (t : Counts) (e : code.Env
         origin-is = rw (front-drop (rowsOf root library dir (e .slot)) row, ← is)
 
         wanted : (D : ℕ) → protoOfOrigin (inputOf (sourceOf root library D) L) (src (envOf w e)) (node .origin) ≡ targetOf dir g
-        wanted D = rw (← (h .number), origin-is, ← (instance-is (inputOf (sourceOf root library D) L) (numberOf dir (e .slot)) (originFrom (r .c) (r .d)))) (sym (tg .is))
+        wanted D = rw (← (h .number), origin-is) (sym (tg .is))
 
         enters : (D : ℕ) → copy (inputOf (sourceOf root library D) L) depth (envOf w e) id (at (sourceOf root library D) w t) ≡ copyNode (inputOf (sourceOf root library D) L) (copy (inputOf (sourceOf root library D) L) (depth - 1)) (envOf w e) id node (targetOf dir g) (at (sourceOf root library D) w t)
         unfolding copy mappedOr

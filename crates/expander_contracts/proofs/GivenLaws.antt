@@ -45,7 +45,7 @@ use Rattle.refine_records.proofs.Opening.{open-env, env-open}
 use Rattle.expander_parts.specs.Contract.{sourceOf, rowsOf, nodeAtRow}
 use Rattle.expander_parts.proofs.Lending.{lent-later}
 use Rattle.expander_bindings.specs.Contract.{HasValue, GivenDone}
-use Rattle.expander_contracts.specs.Contract.{Here, AtRow, Yields, Is, Value, StoredValues, slotPick, givenBy, ValueStored, ValueCopied}
+use Rattle.expander_contracts.specs.Contract.{Here, AtRow, Yields, Is, Value, StoredValues, prototypeAt, givenBy, ValueStored, ValueCopied}
 use Rattle.expander_contracts.proofs.Run.{Run, begin, turn, end, go, halt, through, went, gave, leaf, yields-young, yields-as}
 use Rattle.expander_contracts.proofs.Keeps.{charged, stored-yields, charging, keeping-stop}
 
@@ -112,10 +112,10 @@ module _ (root library dir w : List ℕ) (L : Limits) (t : Counts) (e : code.Env
   Q = rowsOf root library dir slot
 
   abbrev m : Input → Comp Values
-  m I = givenBy I (copy I depth) (envOf w e) (slotPick dir slot proto) (nodeAtRow root library dir (e .slot) row .fields) k (interfaceOf (drop q Q)) (valuesAt w h)
+  m I = givenBy I (copy I depth) (envOf w e) (prototypeAt dir slot proto) (nodeAtRow root library dir (e .slot) row .fields) k (interfaceOf (drop q Q)) (valuesAt w h)
 
   abbrev scope : Scope
-  scope = Scope.Default (slotPick dir slot proto) k (e .scope)
+  scope = Scope.Default (prototypeAt dir slot proto) k (e .scope)
 
   -- by the row of the interface, and the field that was found
   by-rows : (I : Input) (st : State) → m I st ≡ bindR (interfaceValue I (copy I depth) (envOf w e) scope (choose (eqb (d .f) 0) none (some (valueOf (drop q Q)))) (mapO (λ l. fieldOf l .binding) (rowsAt F x)) st) (store I (d .c) (valuesAt w h))

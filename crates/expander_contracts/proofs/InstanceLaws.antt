@@ -18,7 +18,7 @@ use Rattle.sheet_walks.specs.declared.walk.Found.the-variants.{At, Nothing}
 use Rattle.sheet_lookup.specs.Lookup.{rootAndFiles, Located}
 use Rattle.sheet_walks.specs.Walk.{rowsAt}
 use Rattle.sheet_walks.proofs.WalkLaws.{front-drop}
-use Rattle.pick_table.specs.Picks.{Pick}
+use Rattle.pick_table.specs.Picks.{Prototype}
 use Rattle.source_directory.specs.Directory.{numberOf, Slot}
 use Rattle.expansion_definition.specs.Input.{Input, docs}
 use Rattle.expansion_definition.specs.Scopes.{Scope}
@@ -41,7 +41,7 @@ use Rattle.refine_records.proofs.Later.{env-later, later-node, later-standing}
 use Rattle.refine_records.proofs.Opening.{open-env, env-open, body-open, unrecorded-open}
 use Rattle.expander_parts.specs.Contract.{sourceOf, rowsOf, nodeAtRow}
 use Rattle.expander_bindings.specs.Contract.{Recordable, Recorded}
-use Rattle.expander_contracts.specs.Contract.{Here, AtRow, Yields, Placed, BodySoFar, InBody, slotPick, Instantiated, ValuesStored, BodyCopied}
+use Rattle.expander_contracts.specs.Contract.{Here, AtRow, Yields, Placed, BodySoFar, InBody, prototypeAt, Instantiated, ValuesStored, BodyCopied}
 use Rattle.expander_contracts.proofs.Run.{Run, begin, turn, go, halt, refuse, through, went, gave, leaf, yields-young, here-later}
 
 -- a body that gave nothing yet
@@ -55,8 +55,8 @@ module _ (root library dir w : List ℕ) (L : Limits) (t : Counts) (e : code.Env
   abbrev node : Node
   node = nodeAtRow root library dir (e .slot) row
 
-  abbrev pick : Pick
-  pick = slotPick dir slot proto
+  abbrev pick : Prototype
+  pick = prototypeAt dir slot proto
 
   abbrev m : Input → Comp ℕ
   m I = instantiate I (copy I depth) (envOf w e) id node pick (protoAt (docs I) (numberOf dir slot) proto)

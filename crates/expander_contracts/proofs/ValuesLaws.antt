@@ -13,7 +13,7 @@ use Rattle.sheet_rows.specs.Rows.{rest}
 use Rattle.sheet_rows.specs.Parse.{elements, interfaceOf, interfacesOf}
 use Rattle.sheet_walks.specs.Walk.{Stands}
 use Rattle.sheet_walks.proofs.WalkLaws.{rest-drop, each-at}
-use Rattle.pick_table.specs.Picks.{Pick}
+use Rattle.pick_table.specs.Picks.{Prototype}
 use Rattle.expansion_definition.specs.Input.{Input, lastField}
 use Rattle.expansion_definition.specs.Scopes.{Scope}
 use Rattle.expansion_definition.specs.State.{State, Result, refusal, ok, Comp, bindR, _>>=_, ret}
@@ -33,7 +33,7 @@ use Rattle.refine_records.specs.Sound.{inputOf, envOf}
 use Rattle.refine_records.specs.Does.{at}
 use Rattle.refine_records.proofs.Later.{env-later}
 use Rattle.expander_parts.specs.Contract.{sourceOf, rowsOf, nodeAtRow}
-use Rattle.expander_contracts.specs.Contract.{Here, Yields, StoredValues, slotPick, givenBy, ValueStored, ValuesStored}
+use Rattle.expander_contracts.specs.Contract.{Here, Yields, StoredValues, prototypeAt, givenBy, ValueStored, ValuesStored}
 use Rattle.expander_contracts.proofs.Run.{Run, begin, turn, end, go, halt, gave, yields-young, since, here-later}
 
 values-none : (w : List ℕ) → valuesAt w 0 ≡ []
@@ -41,7 +41,7 @@ unfolding valuesAt scan
 values-none w = refl
 
 -- one interface, and those after it
-one-more : (I : Input) (f : Env → Copier) (env : Env) (p : Pick) (fields : List Field) (k : ℕ) (d : InterfaceDecl) (l : List InterfaceDecl) (vs : Values) (st : State) → values I f env p fields k (d ∷ l) vs st ≡ bindR (givenBy I f env p fields k d vs st) (λ z. values I f env p fields (k + 1) l z)
+one-more : (I : Input) (f : Env → Copier) (env : Env) (p : Prototype) (fields : List Field) (k : ℕ) (d : InterfaceDecl) (l : List InterfaceDecl) (vs : Values) (st : State) → values I f env p fields k (d ∷ l) vs st ≡ bindR (givenBy I f env p fields k d vs st) (λ z. values I f env p fields (k + 1) l z)
 unfolding values givenBy bindR
 one-more I f env p fields k d l vs st = rw (add-one k) (by (interfaceValue I f env (Scope.Default p k (env .scope)) (d .value) (lastField (d .name) fields) st))
   where
@@ -55,7 +55,7 @@ module _ (root library dir w : List ℕ) (L : Limits) (t : Counts) (e : code.Env
 
   -- from the k-th on, which are l, behind those of vs
   abbrev left : ℕ → List InterfaceDecl → Values → Input → Comp Values
-  left k l vs I = values I (copy I depth) (envOf w e) (slotPick dir slot proto) (nodeAtRow root library dir (e .slot) row .fields) k l vs
+  left k l vs I = values I (copy I depth) (envOf w e) (prototypeAt dir slot proto) (nodeAtRow root library dir (e .slot) row .fields) k l vs
 
   abbrev m : Input → Comp Values
   m = left 0 (interfacesOf (rest (drop decl R))) []
@@ -85,7 +85,7 @@ module _ (root library dir w : List ℕ) (L : Limits) (t : Counts) (e : code.Env
 
       module _ {q : ℕ} (s : Stands Interfaces R p q) {w₂ : List ℕ} {a : Answer} (y : ValueStored root library dir w₁ L t₁ e row slot proto q k h depth w₂ a) where
         abbrev one : Env → Input → Comp Values
-        one E I = givenBy I (copy I depth) E (slotPick dir slot proto) (nodeAtRow root library dir (e .slot) row .fields) k (interfaceOf (drop q R)) (valuesAt w₁ h)
+        one E I = givenBy I (copy I depth) E (prototypeAt dir slot proto) (nodeAtRow root library dir (e .slot) row .fields) k (interfaceOf (drop q R)) (valuesAt w₁ h)
 
         abbrev after : Input → Values → Comp Values
         after I z = left (k + 1) (map interfaceOf (elements Interfaces (drop (q + 1) R))) z I
@@ -93,7 +93,7 @@ module _ (root library dir w : List ℕ) (L : Limits) (t : Counts) (e : code.Env
         next : Run root library L (t .scopes) m w t (λ I. one (envOf w e) I >>= after I) w₁ t₁
         next =
             turn (x .run) (λ I. one (envOf w e) I >>= after I)
-            (λ D. rw (each-at interfaceOf s) (one-more (inputOf (sourceOf root library D) L) (copy (inputOf (sourceOf root library D) L) depth) (envOf w e) (slotPick dir slot proto) (nodeAtRow root library dir (e .slot) row .fields) k (interfaceOf (drop q R)) (map interfaceOf (elements Interfaces (drop (q + 1) R))) (valuesAt w₁ h) (at (sourceOf root library D) w₁ t₁)))
+            (λ D. rw (each-at interfaceOf s) (one-more (inputOf (sourceOf root library D) L) (copy (inputOf (sourceOf root library D) L) depth) (envOf w e) (prototypeAt dir slot proto) (nodeAtRow root library dir (e .slot) row .fields) k (interfaceOf (drop q R)) (map interfaceOf (elements Interfaces (drop (q + 1) R))) (valuesAt w₁ h) (at (sourceOf root library D) w₁ t₁)))
 
         same : Yields root library L (t .scopes) (one (envOf w e)) StoredValues w₁ t₁ w₂ a
         same = yields-young (since (x .run) .scoped) (subst (λ (E : Env). Yields root library L (t₁ .scopes) (one E) StoredValues w₁ t₁ w₂ a) (env-later (since (x .run)) (here .env)) y)

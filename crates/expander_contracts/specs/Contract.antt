@@ -12,7 +12,7 @@ use Rattle.sheet_rows.specs.Rows.{rows, front, rest}
 use Rattle.sheet_rows.specs.Print.{row}
 use Rattle.sheet_rows.specs.Parse.{valueOf, fieldOf, interfaceOf, interfacesOf, statementOf, statementsOf, originOf}
 use Rattle.source_directory.specs.Directory.{numberOf, Slot}
-use Rattle.pick_table.specs.Picks.{Pick}
+use Rattle.pick_table.specs.Picks.{Prototype}
 use Rattle.expansion_definition.specs.Input.{Input, docs, lastField}
 use Rattle.expansion_definition.specs.Scopes.{Scope}
 use Rattle.expansion_definition.specs.State.{Comp, _>>=_, mapM, foldM, startState}
@@ -129,13 +129,13 @@ abbrev pub fieldRecord : Row → ℕ → ℕ → Record
 fieldRecord r v h = record { tag = tagField; a = r .a; b = 0; c = 0; d = r .d; e = r .e; f = r .f; g = v; h = h; i = 0; j = 0; k = 0 }
 
 -- the PROTO of a slot's document
-abbrev pub slotPick : List ℕ → ℕ → ℕ → Pick
-slotPick dir slot proto = record { document = numberOf dir slot; proto = proto }
+abbrev pub prototypeAt : List ℕ → ℕ → ℕ → Prototype
+prototypeAt dir slot proto = record { document = numberOf dir slot; proto = proto }
 
 -- ---- the parts
 
 -- the value of one interface, and what is stored then: a turn of `values`
-unfoldable pub givenBy : Input → (Env → Copier) → Env → Pick → List Field → ℕ → InterfaceDecl → Values → Comp Values
+unfoldable pub givenBy : Input → (Env → Copier) → Env → Prototype → List Field → ℕ → InterfaceDecl → Values → Comp Values
 givenBy I f env p fields k d vs = interfaceValue I f env (Scope.Default p k (env .scope)) (d .value) (lastField (d .name) fields) >>= store I (d .name) vs
 
 abbrev pub Copied : (root library w : List ℕ) → Limits → Counts → code.Env → (id depth : ℕ) → (w′ : List ℕ) → Answer → Type 0
@@ -179,14 +179,14 @@ ValueCopied root library dir w L t e row depth =
 abbrev pub Instantiated : (root library dir w : List ℕ) → Limits → Counts → code.Env → (id row slot proto depth : ℕ) → (w′ : List ℕ) → Answer → Type 0
 Instantiated root library dir w L t e id row slot proto depth =
     Yields root library L (t .scopes)
-    (λ I. instantiate I (copy I depth) (envOf w e) id (nodeAtRow root library dir (e .slot) row) (slotPick dir slot proto) (protoAt (docs I) (numberOf dir slot) proto))
+    (λ I. instantiate I (copy I depth) (envOf w e) id (nodeAtRow root library dir (e .slot) row) (prototypeAt dir slot proto) (protoAt (docs I) (numberOf dir slot) proto))
     Placed w t
 
 -- the PROTO stands at the row decl
 abbrev pub ValuesStored : (root library dir w : List ℕ) → Limits → Counts → code.Env → (row slot proto decl depth : ℕ) → (w′ : List ℕ) → Answer → Type 0
 ValuesStored root library dir w L t e row slot proto decl depth =
     Yields root library L (t .scopes)
-    (λ I. values I (copy I depth) (envOf w e) (slotPick dir slot proto) (nodeAtRow root library dir (e .slot) row .fields) 0 (interfacesOf (rest (drop decl (rowsOf root library dir slot)))) [])
+    (λ I. values I (copy I depth) (envOf w e) (prototypeAt dir slot proto) (nodeAtRow root library dir (e .slot) row .fields) 0 (interfacesOf (rest (drop decl (rowsOf root library dir slot)))) [])
     StoredValues w t
 
 -- the k-th interface stands at the row at; h has the values of those before it
@@ -194,7 +194,7 @@ abbrev pub ValueStored : (root library dir w : List ℕ) → Limits → Counts �
 ValueStored root library dir w L t e row slot proto at k h depth =
     Yields root library L (t .scopes)
     (λ I.
-    givenBy I (copy I depth) (envOf w e) (slotPick dir slot proto) (nodeAtRow root library dir (e .slot) row .fields) k
+    givenBy I (copy I depth) (envOf w e) (prototypeAt dir slot proto) (nodeAtRow root library dir (e .slot) row .fields) k
     (interfaceOf (drop at (rowsOf root library dir slot))) (valuesAt w h))
     StoredValues w t
 

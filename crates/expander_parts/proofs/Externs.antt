@@ -14,16 +14,18 @@ use Rattle.sheet_rows.specs.declared.row.Row.{Row}
 use Rattle.sheet_rows.specs.declared.part.Part.the-variants.{Interfaces, Urls}
 use Rattle.sheet_rows.specs.Rows.{rows, rest}
 use Rattle.sheet_rows.proofs.RowLaws.{rows-length}
-use Rattle.sheet_rows.specs.Parse.{elements, externProtoOf, interfaceOf, interfacesOf, urlOf}
+use Rattle.sheet_rows.specs.Parse.{elements, externProtoOf, interfaceOf, interfacesOf, urlOf, documentOf, filesOf}
 use Rattle.sheet_walks.specs.declared.walk.Found as walk
 use Rattle.sheet_walks.specs.declared.walk.Found.the-variants as walked
 use Rattle.sheet_lookup.specs.Lookup.{sheetOf, rootAndFiles, Located}
 use Rattle.sheet_walks.proofs.WalkLaws.{rest-drop}
-use Rattle.expansion_definition.specs.Input.{Input}
+use Rattle.pick_table.specs.Picks.{pickOf, urlTaken}
+use Rattle.pick_table.specs.Chosen.{markOf, urlBy}
+use Rattle.expansion_definition.specs.Input.{Input, usedUrl}
 use Rattle.expansion_definition.specs.State.{State, Result, refusal, ok, Comp, bindR, _>>=_, _>>_, ret}
 use Rattle.expansion_definition.specs.Charges.{oneMore, charge, chargeEach}
 use Rattle.expansion_definition.specs.Values.{Env, src}
-use Rattle.expansion_definition.specs.Externs.{lookupExtern, pushExtern, declare, externProto}
+use Rattle.expansion_definition.specs.Externs.{lookupExtern, declared, pushExtern, declare, externProto}
 use Rattle.journal_records.specs.declared.Record.{Record}
 use Rattle.journal_index.specs.declared.Newest.{Newest}
 use Rattle.journal_index.specs.declared.Newest.the-variants.{At, Nothing}
@@ -135,9 +137,14 @@ module _ {L : Limits} {root library dir w : List ℕ} (x : Lent L root library d
   extern-row slot e y q = rw (isSheet, e) (rw q at (y .below))
 
 -- ---- the four answers
--- the record: its document and id, its id in the output, the row that declares it, its slot
-abbrev externRecord : ℕ → ℕ → ℕ → ℕ → ℕ → Record
-externRecord doc id out row slot = record { tag = 2; a = doc; b = id; c = out; d = row; e = slot; f = 0; g = 0; h = 0; i = 0; j = 0; k = 0 }
+-- the record: its document and id, its id in the output, the row that declares it, its slot, the mark of the url that was taken
+abbrev externRecord : ℕ → ℕ → ℕ → ℕ → ℕ → ℕ → Record
+externRecord doc id out row slot mark = record { tag = 2; a = doc; b = id; c = out; d = row; e = slot; f = mark; g = 0; h = 0; i = 0; j = 0; k = 0 }
+
+-- a mark says which url was taken
+by-mark : (o : Option ℕ) → urlBy (markOf o) ≡ o
+by-mark none = refl
+by-mark (some k) = refl
 
 -- the counts after it, and after n charges more
 abbrev oneExtern : Counts → Counts
@@ -149,6 +156,13 @@ paidExtern t n = grown (oneExtern t) n (t .nodes) (t .scopes) (t .externs + 1)
 module _ (L : Limits) (root library dir w : List ℕ) (t : Counts) (slot id doc : ℕ) (isDoc : doc ≡ numberOf dir slot) (so : JournalSound L w t) where
   abbrev S : ℕ → Source
   S D = sourceOf root library D
+
+  -- the mark says what the definition takes for the url
+  url-is : {mark : ℕ} → mark ≡ markOf (urlTaken (pickOf (documentOf (rows root)) (filesOf (rows library)) (numberOf dir slot) id)) → (D : ℕ) → urlBy mark ≡ usedUrl (inputOf (S D) L) doc id
+  url-is {mark} e D =
+      let p : Option ℕ = urlTaken (pickOf (documentOf (rows root)) (filesOf (rows library)) (numberOf dir slot) id) in
+      let y : urlBy mark ≡ p = ap urlBy e ∙ by-mark p in
+      rw isDoc y
 
   -- the definition, by what it finds
   module _ (D : ℕ) (e : Env) (here : src e ≡ numberOf dir slot) where
@@ -203,17 +217,17 @@ module _ (L : Limits) (root library dir w : List ℕ) (t : Counts) (slot id doc 
               same : (D : ℕ) (e : Env) → src e ≡ numberOf dir slot → refusal 10 0 0 ≡ externProto (inputOf (S D) L) e id (at (S D) w t)
               same D e here =
                   sym (by-doc D e here ∙ rw (unknown, loc .is, q)
-                  (all-full (inputOf (S D) L) (decl .interface) (decl .urls) (λ st. ok (length (st .externProtos)) (pushExtern doc id decl st)) (at (S D) w t) (omega (arith, interfaces, urls))))
+                  (all-full (inputOf (S D) L) (decl .interface) (decl .urls) (λ st. ok (length (st .externProtos)) (pushExtern doc id (declared (usedUrl (inputOf (S D) L) doc id) decl) st)) (at (S D) w t) (omega (arith, interfaces, urls))))
 
           -- the record, and the rest of the charges
-          module _ {w₁ w₂ : List ℕ} (fits : a + b < L .rows - t .charges) (long₁ : length w₁ ≡ length w) (long₂ : length w₂ ≡ length w₁) where
-            pub extern-done : RecordEntered w w₁ (L .rows * 12) (L .slots) (t .charges) (externRecord doc id (t .externs) row slot) → Paid w₁ w₂ (t .charges + 1) (a + b)
+          module _ {w₁ w₂ : List ℕ} {mark : ℕ} (isMark : mark ≡ markOf (urlTaken (pickOf (documentOf (rows root)) (filesOf (rows library)) (numberOf dir slot) id))) (fits : a + b < L .rows - t .charges) (long₁ : length w₁ ≡ length w) (long₂ : length w₂ ≡ length w₁) where
+            pub extern-done : RecordEntered w w₁ (L .rows * 12) (L .slots) (t .charges) (externRecord doc id (t .externs) row slot mark) → Paid w₁ w₂ (t .charges + 1) (a + b)
                 → Declared L root library dir w t slot id w₂ (Done (paidExtern t (a + b)) (t .externs) 0)
             unfolding declare
             extern-done en pa = record { does = λ D young e here. record { same = same D e here; later = later-trans (first young) (second young) } }
               where
                 first : (young : ℕ) → Later L young w t w₁ (oneExtern t)
-                first young = entered-later L so (externRecord doc id (t .externs) row slot) refl (omega (arith, so .charges)) long₁ en young
+                first young = entered-later L so (externRecord doc id (t .externs) row slot mark) refl (omega (arith, so .charges)) long₁ en young
 
                 second : (young : ℕ) → Later L young w₁ (oneExtern t) w₂ (paidExtern t (a + b))
                 second young = paid-later (first young .sound) (omega (arith, so .charges)) long₂ pa young
@@ -223,5 +237,5 @@ module _ (L : Limits) (root library dir w : List ℕ) (t : Counts) (slot id doc 
                     let z : suc (t .charges) + a + b ≡ suc (t .charges) + (a + b) = omega arith in
                     ap (ok (t .externs)) (paid-state (first 0 .sound) (omega (arith, so .charges)) long₂ pa (S D) ∙ ap (more (a + b)) (state-extern root library (calm-same (en .same)) (so .fair) _ (en .holds) refl))
                     ∙ sym (by-doc D e here ∙ rw (unknown, loc .is, q)
-                    (all-some (inputOf (S D) L) (decl .interface) (decl .urls) (λ st. ok (length (st .externProtos)) (pushExtern doc id decl st)) (at (S D) w t) (omega (arith, interfaces, urls, so .charges))
-                    ∙ rw (interfaces, urls, externs-length root library w (t .charges), ← so .externs, z)))
+                    (all-some (inputOf (S D) L) (decl .interface) (decl .urls) (λ st. ok (length (st .externProtos)) (pushExtern doc id (declared (usedUrl (inputOf (S D) L) doc id) decl) st)) (at (S D) w t) (omega (arith, interfaces, urls, so .charges))
+                    ∙ rw (← (url-is isMark D), interfaces, urls, externs-length root library w (t .charges), ← so .externs, z)))

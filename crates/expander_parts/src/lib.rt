@@ -91,6 +91,7 @@ pub fn extern_proto<'a>(
     }
     let out = st.externs as u32;
     let row = at as u32;
+    let mark = source_lookup::mark(root, library, dir, work, slot, id);
     journal_index::enter(
         work,
         lim.rows * 12,
@@ -103,7 +104,7 @@ pub fn extern_proto<'a>(
             c: out,
             d: row,
             e: slot,
-            f: 0,
+            f: mark,
             g: 0,
             h: 0,
             i: 0,

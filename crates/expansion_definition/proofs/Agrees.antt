@@ -5,7 +5,7 @@ use mathlib.Core.List.{List, [], _∷_, _++_}
 use mathlib.Core.Option.{Option, none, some}
 use Prim.Native.Nat.{ℕ, suc}
 use Rattle.ast.specs.Ast.{FieldValue, FieldBinding, Field, InterfaceDecl, Node, ProtoDecl}
-use Rattle.pick_table.specs.Picks.{Pick}
+use Rattle.pick_table.specs.Picks.{Prototype}
 use Rattle.expansion_steps.specs.Steps.{Action, copyId, openDefault, copies}
 use Rattle.expansion_steps.proofs.Laws.{copies-map}
 use Rattle.expansion_definition.specs.Input.{Input, protoOfOrigin, lastField}
@@ -34,15 +34,15 @@ value-agrees names e default (some (FieldBinding.Is t)) = is (gives names (some 
     is true = refl
     is false = default-agrees e default
 
-interface-agrees : (names : List ℕ) (p : Pick) (fields : List Field) (k : ℕ) (l : List InterfaceDecl) → copies (interfaceActions names p fields k l) ≡ flat (λ d. givenIds (lastField (d .name) fields)) l
+interface-agrees : (names : List ℕ) (p : Prototype) (fields : List Field) (k : ℕ) (l : List InterfaceDecl) → copies (interfaceActions names p fields k l) ≡ flat (λ d. givenIds (lastField (d .name) fields)) l
 interface-agrees names p fields k [] = refl
 interface-agrees names p fields k (d ∷ l) = simp (copies-append, value-agrees, interface-agrees names p fields (suc k) l)
 
-instance-agrees : (names : List ℕ) (p : Pick) (fields : List Field) (decl : Option ProtoDecl) → copies (instanceActions names p fields decl) ≡ instanceNexts fields decl
+instance-agrees : (names : List ℕ) (p : Prototype) (fields : List Field) (decl : Option ProtoDecl) → copies (instanceActions names p fields decl) ≡ instanceNexts fields decl
 instance-agrees names p fields none = refl
 instance-agrees names p fields (some decl) = interface-agrees names p fields 0 (decl .interface)
 
-node-agrees : (I : Input) (names : List ℕ) (node : Node) (p : Option Pick) → copies (actionsBy I names node p) ≡ nextsBy I node p
+node-agrees : (I : Input) (names : List ℕ) (node : Node) (p : Option Prototype) → copies (actionsBy I names node p) ≡ nextsBy I node p
 node-agrees I names node none = copies-map Known (plainNexts node)
 node-agrees I names node (some p) = instance-agrees names p (node .fields) (declOf I p)
 

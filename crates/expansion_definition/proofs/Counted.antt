@@ -12,16 +12,16 @@ use Rattle.ast.specs.Ast.{NodeOrigin, FieldData, FieldValue, FieldBinding, Fiel
 use Rattle.ast.specs.Choice.{choose, andThen, orElse, mapO}
 use Rattle.ast.specs.Lists.{flat}
 use Rattle.ast.specs.Lookups.{nodeAt, externProtoAt}
-use Rattle.pick_table.specs.Picks.{Pick}
+use Rattle.pick_table.specs.Picks.{Prototype}
 use Rattle.expansion_steps.specs.Steps.{Kind, plainNode, instanceNode, Action, copyId, openDefault, addMapped, addPlain, addDefault, addBody, Mapped, count, Task, one, all, Run, mappedStep, plainStep, instanceStep, noAction, thenCopy, thenDefault, firstWorld, WholeRun}
 use Rattle.expansion_steps.specs.Steps
-use Rattle.expansion_definition.specs.Input.{Input, docs, protoOfOrigin, lastField}
+use Rattle.expansion_definition.specs.Input.{Input, docs, usedUrl, protoOfOrigin, lastField}
 use Rattle.expansion_definition.specs.Scopes.{Scope}
 use Rattle.expansion_definition.specs.Ids.{dataIds, optionIds, bindingIds, statementIds}
 use Rattle.expansion_definition.specs.State.{Bookkeeping, State, Result, Comp, bindR, _>>=_, _>>_, ret, mapM, foldM, lookup, startState, withWorld, withNodes}
 use Rattle.expansion_definition.specs.Charges.{oneMore, chargeIf, charge, chargeEach, paid}
 use Rattle.expansion_definition.specs.Values.{Values, valueNamed, Env, src, Copier, copyData, value, clone}
-use Rattle.expansion_definition.specs.Externs.{lookupExtern, noValue, pushExtern, declare, externProto}
+use Rattle.expansion_definition.specs.Externs.{lookupExtern, declared, pushExtern, declare, externProto}
 use Rattle.expansion_definition.specs.PlainCopy.{blankNode, addNode, reserveIf, reserve, copyOrigin, pushAssociation, associate, isValue, isField, copyBinding, copyField, isInterface, copyTarget, copyInterface, remapRoute, copyRoute, copyExtern, copyStatement, somes, keptOrder, contents, copyPlain}
 use Rattle.expansion_definition.specs.Instances.{pushScope, openScope, takeDefault, cloneOr, interfaceValue, store, values, Body, addEntry, place, bodyStatement, rootOf, associationsOf, withInstance, update, recordInstance, instantiate}
 use Rattle.expansion_definition.specs.Copy.{copyNode, mappedOr, copy}
@@ -29,6 +29,7 @@ use Rattle.expansion_definition.specs.Expand.{statement, rootEnv, statem
 use Rattle.expansion_definition.specs.Reached.{Known, bodyIds, defaultIds, declOf, interfaceIds, plainNexts, gives, isGiven, nameIfValued, bodyNames, bodyScope, defaultScope, kindBy, nodeKind, defaultAction, valueActions, interfaceActions, instanceActions, actionsBy, actionsOf, nodeInScope, graph}
 use Rattle.expansion_definition.specs.Outputs.{sumOf, interfaceRowCount, externRowCount}
 use Rattle.expansion_definition.specs.Counted.{ofNode, ofOutput, allButOne, routesIn, bodyRoutes, ofScope, isIn, isSet, associationsIn, valueFor, storedIf, storedFrom, storedBy, bodyValues, ofValue, ofRun, counted, tops, valuesOr, CopiesCharged}
+use Rattle.expansion_definition.proofs.Marks.{marked-length}
 use Rattle.expansion_definition.proofs.Outcome.{Outcome, refused, accepted, Any, bindOut, mapOut, both, atOk}
 use Rattle.expansion_definition.proofs.Names.{Shows, known, none-shown, values-shown, anything}
 use Rattle.expansion_definition.proofs.Walk.{key, lookup-here, lookup-none, at-length}
@@ -158,7 +159,7 @@ module _ (I : Input) where
           joined : (x y : ℕ) → x ≡ y → (name, x) ∷ map shape vs ≡ (name, y) ∷ map shape new
           joined x y e = cc
 
-      values-alike : (p : Pick) (fields : List Field) (k : ℕ) (l : List InterfaceDecl) (vs new : Values) → Alike vs new → (st : State) → Out (λ vs′ s. Alike vs′ (storedFrom ds fields l new)) (values I f env p fields k l vs st)
+      values-alike : (p : Prototype) (fields : List Field) (k : ℕ) (l : List InterfaceDecl) (vs new : Values) → Alike vs new → (st : State) → Out (λ vs′ s. Alike vs′ (storedFrom ds fields l new)) (values I f env p fields k l vs st)
       unfolding values
       values-alike p fields k [] vs new a st = accepted a
       values-alike p fields k (d ∷ l) vs new a st =
@@ -423,8 +424,8 @@ module _ (I : Input) where
         go none none = λ w w′ k cs st s. refused tt
         go none (some decl) = pays-after (charge-pays x) (λ u. pays-after (chargeEach-pays (suc x) (decl .interface)) (λ u2. pays-after (chargeEach-pays (length (decl .interface) + suc x) (decl .urls)) (λ u3. leave (λ s. accepted (
           refl,
-          spent-still s (pushExtern (src env) y decl s) refl
-              (omega (arith, sum-append externRowCount (s .externProtos) (record { name = decl .name; interface = map noValue (decl .interface); urls = decl .urls } ∷ []), valueless-rows (decl .interface))),
+          spent-still s (pushExtern (src env) y (declared (usedUrl I (src env) y) decl) s) refl
+              (omega (arith, sum-append externRowCount (s .externProtos) (declared (usedUrl I (src env) y) decl ∷ []), valueless-rows (decl .interface), marked-length (usedUrl I (src env) y) 0 (decl .urls))),
         )))))
 
     copyOrigin-pays : (x : ℕ) (env : Env) (o : NodeOrigin) → P vs n e [] x (copyOrigin I env o) (λ o′. x)
@@ -586,7 +587,7 @@ module _ (I : Input) where
   Copying f = (env : Env) (names : List ℕ) (ds : Values) → Shows env names → Sized env ds → (x i : ℕ) → Pays ds (one (env .scope) (known env names) i) x (f env i) (λ o. x)
 
   module _ (f : Env → Copier) (hf : Copying f) where
-    takeDefault-pays : {vs : Values} {n : ℕ} {e : Known} (x : ℕ) (p : Pick) (k : ℕ) (v : Option FieldValue) → defaultIds k (declOf I p) ≡ optionIds v → Pays vs (all n e (defaultAction (defaultScope p k) v)) x (takeDefault I f (Scope.Default p k n) v) (λ o. length (optionIds o) + x)
+    takeDefault-pays : {vs : Values} {n : ℕ} {e : Known} (x : ℕ) (p : Prototype) (k : ℕ) (v : Option FieldValue) → defaultIds k (declOf I p) ≡ optionIds v → Pays vs (all n e (defaultAction (defaultScope p k) v)) x (takeDefault I f (Scope.Default p k n) v) (λ o. length (optionIds o) + x)
     unfolding takeDefault
     takeDefault-pays x p k none eb w w′ c cs st s = pays-ret {m = λ o. length (optionIds o) + x} none (omega arith) w w′ c cs st s
     takeDefault-pays {vs} {n} {e} x p k (some v) eb w w′ c cs st s =
@@ -607,7 +608,7 @@ module _ (I : Input) where
       abbrev Here : {A : Type 0} → List (Action Known) → ℕ → Comp A → (A → ℕ) → Type 0
       Here l x c m = Pays ds (all (env .scope) (known env names) l) x c m
 
-      interfaceValue-pays : (x : ℕ) (p : Pick) (k : ℕ) (default : Option FieldValue) → defaultIds k (declOf I p) ≡ optionIds default → (given : Option FieldBinding)
+      interfaceValue-pays : (x : ℕ) (p : Prototype) (k : ℕ) (default : Option FieldValue) → defaultIds k (declOf I p) ≡ optionIds default → (given : Option FieldBinding)
           → Here (valueActions (gives names given) (defaultScope p k) default given) x (interfaceValue I f env (Scope.Default p k (env .scope)) default given) (λ o. length (optionIds o) + x)
       unfolding interfaceValue cloneOr
       interfaceValue-pays x p k default eb (some (FieldBinding.Value v)) = pays-then (map copyId (dataIds (v .«data»))) (value-pays (f env) (hf env names ds hn hs) x v) (λ v′. pays-ret _ refl)
@@ -619,7 +620,7 @@ module _ (I : Input) where
       interfaceValue-pays x p k default eb none = takeDefault-pays x p k default eb
 
       -- pre: the interfaces before these
-      values-pays : (p : Pick) (fields : List Field) (decl : ProtoDecl) → declOf I p ≡ some decl → (x : ℕ) (l pre : List InterfaceDecl) (k : ℕ) (vs : Values) → pre ++ l ≡ decl .interface → length pre ≡ k
+      values-pays : (p : Prototype) (fields : List Field) (decl : ProtoDecl) → declOf I p ≡ some decl → (x : ℕ) (l pre : List InterfaceDecl) (k : ℕ) (vs : Values) → pre ++ l ≡ decl .interface → length pre ≡ k
           → Here (interfaceActions names p fields k l) (size vs + x) (values I f env p fields k l vs) (λ new. size new + x)
       unfolding values
       values-pays p fields decl ep x [] pre k vs el ek = pays-ret vs refl
@@ -756,14 +757,14 @@ module _ (I : Input) where
         spent = spent-still st _ same (omega (arith, sum-map ofNode (update (st .nodes) o (withInstance defName inst) (getElem? (st .nodes) o)), sum-map ofNode (st .nodes), ap total same))
 
     -- 7, or the record.
-    close : (p : Pick) (name : ℕ) (defName : Option ℕ) (n : ℕ) (b : Body) (root : Option ℕ) (st : State) → Out (λ o st′. (st′ .world ≡ st .world) × Spent 0 st st′ 1) ((rootOf p root >>= (λ o. charge I >>= (λ u. recordInstance name defName n b o))) st)
+    close : (p : Prototype) (name : ℕ) (defName : Option ℕ) (n : ℕ) (b : Body) (root : Option ℕ) (st : State) → Out (λ o st′. (st′ .world ≡ st .world) × Spent 0 st st′ 1) ((rootOf p root >>= (λ o. charge I >>= (λ u. recordInstance name defName n b o))) st)
     unfolding rootOf bindR
     close p name defName n b none st = refused tt
     close p name defName n b (some o) st = bindOut (charge-is st) (λ u s q. mapOut (record-is 1 name defName n b o s) (λ o′ s′ r. (r .0 ∙ ap (λ (y : State). y .world) q, spent-then (subst (λ (y : State). Spent 0 st y 1) (sym q) (spent-still st (oneMore st) refl (omega arith))) (r .1))))
 
     module _ (env : Env) (names : List ℕ) (ds : Values) (hn : Shows env names) (hs : Sized env ds) (x i : ℕ) (node : Node) (there : nodeInScope I (env .entry) i ≡ some node) where
       -- An instance.
-      instantiate-pays : (p : Pick) (decl : ProtoDecl) → declOf I p ≡ some decl → graph I .actions (known env names) i ≡ interfaceActions names p (node .fields) 0 (decl .interface) → (w w′ : Steps.World Known) (k : ℕ)
+      instantiate-pays : (p : Prototype) (decl : ProtoDecl) → declOf I p ≡ some decl → graph I .actions (known env names) i ≡ interfaceActions names p (node .fields) 0 (decl .interface) → (w w′ : Steps.World Known) (k : ℕ)
           → InstanceCosts ds (env .scope) (known env names) i (bodyScope p (flat (nameIfValued names (node .fields)) (decl .interface))) w w′ k → (st : State) → Sees w (st .world) → Out (λ o st′. After w′ x st k x st′) (instantiate I f env i node p (some decl) st)
       unfolding instantiate
       instantiate-pays p decl ep acts w w′ k c st s =
@@ -816,7 +817,7 @@ module _ (I : Input) where
               body = c .k2 + c .k3 + 1 + length (c .rs) + routesIn (decl .body)
 
       -- A node that is not mapped.
-      node-pays : (w w′ : Steps.World Known) (k : ℕ) → Costs ds (one (env .scope) (known env names) i) w w′ k → (st : State) → Sees w (st .world) → (Mapped w (env .scope) i → ⊥) → (p : Option Pick) → protoOfOrigin I (src env) (node .origin) ≡ p → Out (λ o st′. After w′ x st k x st′) (copyNode I f env i node p st)
+      node-pays : (w w′ : Steps.World Known) (k : ℕ) → Costs ds (one (env .scope) (known env names) i) w w′ k → (st : State) → Sees w (st .world) → (Mapped w (env .scope) i → ⊥) → (p : Option Prototype) → protoOfOrigin I (src env) (node .origin) ≡ p → Out (λ o st′. After w′ x st k x st′) (copyNode I f env i node p st)
       unfolding copyNode instantiate
       node-pays w w′ k cs st s un none ep = mapOut (copyPlain-pays (f env) (hf env names ds hn hs) env refl x i node w w′ (c .k) (rw acts at (c .inside)) st s) (λ o st′ r. after k x (omega (arith, cs .is, c .sum, ap associationsIn there)) (r .sees) (r .spent))
         where

@@ -8,7 +8,7 @@ use Prim.Native.Nat.{ℕ, suc, _+_, _≤_}
 use native.Mathlib.Omega.{arith}
 use lib.ListN.{length, length-map}
 use Rattle.ast.specs.Ast.{FieldValue, FieldBinding, Field, InterfaceDecl, Node, ProtoDecl}
-use Rattle.pick_table.specs.Picks.{Pick}
+use Rattle.pick_table.specs.Picks.{Prototype}
 use Rattle.expansion_steps.specs.Lists.{Nodup, countIf}
 use Rattle.expansion_steps.proofs.ListLaws.{count-map, count-same}
 use Rattle.expansion_steps.specs.Steps.{Action, copyId, defaults, Instance, World, WholeRun, opened}
@@ -38,7 +38,7 @@ indices l = map indexOf (defaults l)
 
 -- ---- none twice
 
-module _ (names : List ℕ) (p : Pick) (fields : List Field) where
+module _ (names : List ℕ) (p : Prototype) (fields : List Field) where
   -- k is the first one's index
   from : (l : List InterfaceDecl) (k i : ℕ) → List·Memᴰ i (indices (interfaceActions names p fields k l)) → k ≤ i
   from l k i m = by (Memᴰ·of-map indexOf (defaults (interfaceActions names p fields k l)) m)
@@ -60,11 +60,11 @@ module _ (names : List ℕ) (p : Pick) (fields : List Field) where
   list-once (d ∷ l) k = one-more (gives names (lastField (d .name) fields)) (d .value) (lastField (d .name) fields) k (interfaceActions names p fields (suc k) l) (from l (suc k)) (list-once l (suc k))
 
 module _ (I : Input) (s : Known) (j : ℕ) where
-  decl-once : (fields : List Field) (p : Pick) (o : Option ProtoDecl) → Nodup (indices (instanceActions (s .names) p fields o))
+  decl-once : (fields : List Field) (p : Prototype) (o : Option ProtoDecl) → Nodup (indices (instanceActions (s .names) p fields o))
   decl-once fields p none = tt
   decl-once fields p (some d) = list-once (s .names) p fields (d .interface) 0
 
-  kind-once : (node : Node) (o : Option Pick) → Nodup (indices (actionsBy I (s .names) node o))
+  kind-once : (node : Node) (o : Option Prototype) → Nodup (indices (actionsBy I (s .names) node o))
   kind-once node none = rw (defaults-map Known (plainNexts node)) tt
   kind-once node (some p) = decl-once (node .fields) p (declOf I p)
 
@@ -76,7 +76,7 @@ module _ (I : Input) (s : Known) (j : ℕ) where
 
   -- instance j takes the default of interface k
   abbrev Taken : ℕ → Type 0
-  Taken k = (p : Pick) × TakesDefault I s j p k
+  Taken k = (p : Prototype) × TakesDefault I s j p k
 
   to : (k : ℕ) → List·Memᴰ k (indices (graph I .actions s j)) → Taken k
   to k m = by (Memᴰ·of-map indexOf (defaults (graph I .actions s j)) m)
@@ -123,4 +123,4 @@ module _ (I : Input) (w : World Known) (r : WholeRun (graph I) w) where
 
     -- "The double-count guarantee covers the new default scopes as well."
     pub default-count : NoLoop (graph I) (w .scopes) → Sum (graph I) (DefaultTaken I) (w .scopes) (countIf isDefault scopes)
-    default-count nl = rw opened-count (default-sum (graph I) (agrees I) w r (λ s j k. (p : Pick) × TakesDefault I s j p k) (counted I) (only I) refl nl)
+    default-count nl = rw opened-count (default-sum (graph I) (agrees I) w r (λ s j k. (p : Prototype) × TakesDefault I s j p k) (counted I) (only I) refl nl)

@@ -9,7 +9,7 @@ use native.Mathlib.Omega.{arith}
 use lib.ListN.{getElem?}
 use Rattle.ast.specs.Ast.{FieldValue, FieldBinding, Field, InterfaceDecl, Node, ProtoDecl}
 use Rattle.ast.specs.Choice.{andThen}
-use Rattle.pick_table.specs.Picks.{Pick}
+use Rattle.pick_table.specs.Picks.{Prototype}
 use Rattle.expansion_steps.specs.Steps.{Action, copyId, openDefault}
 use Rattle.expansion_definition.specs.Input.{Input, protoOfOrigin, lastField}
 use Rattle.expansion_definition.specs.Scopes.{Scope, scopeDocument}
@@ -45,7 +45,7 @@ one-back false e (some v) given q r = List·Memᴰ·head refl
 
 -- ---- the interfaces of an instance
 
-module _ (names : List ℕ) (p : Pick) (fields : List Field) where
+module _ (names : List ℕ) (p : Prototype) (fields : List Field) where
   -- the i-th of these takes its default, in the scope b; k is the first one's index
   pub record Takes (l : List InterfaceDecl) (k : ℕ) (b : ℕ → Known) : Type 0 where
     pub i : ℕ
@@ -86,20 +86,20 @@ module _ (names : List ℕ) (p : Pick) (fields : List Field) where
 
 module _ (I : Input) (s : Known) (j : ℕ) (b : ℕ → Known) where
   abbrev Taken : Type 0
-  Taken = (p : Pick) × (k : ℕ) × TakesDefault I s j p k × (b ≡ defaultScope p k)
+  Taken = (p : Prototype) × (k : ℕ) × TakesDefault I s j p k × (b ≡ defaultScope p k)
 
   to : (node : Option Node) → nodeInScope I (s .entry) j ≡ node → Opening b (actionsOf I s node) → Taken
   to none q m = absurd (List·Memᴰ·not-nil m)
   to (some node) q m = by (protoOfOrigin I (scopeDocument (s .entry)) (node .origin)) refl m
     where
-      decl : (p : Pick) → protoOfOrigin I (scopeDocument (s .entry)) (node .origin) ≡ some p → (o : Option ProtoDecl) → declOf I p ≡ o → Opening b (instanceActions (s .names) p (node .fields) o) → Taken
+      decl : (p : Prototype) → protoOfOrigin I (scopeDocument (s .entry)) (node .origin) ≡ some p → (o : Option ProtoDecl) → declOf I p ≡ o → Opening b (instanceActions (s .names) p (node .fields) o) → Taken
       decl p ep none ed x = absurd (List·Memᴰ·not-nil x)
       decl p ep (some d) ed x =
           let y : Takes (s .names) p (node .fields) (d .interface) 0 b = list-to (s .names) p (node .fields) (d .interface) 0 b x in
           let z : 0 + y .i ≡ y .i = omega arith in
           (p, y .i, record { node = node; here = q; instance = ep; decl = d; declared = ed; interface = y .interface; place = y .place; ungiven = y .ungiven; default = y .default }, y .is ∙ ap (defaultScope p) z)
 
-      by : (o : Option Pick) → protoOfOrigin I (scopeDocument (s .entry)) (node .origin) ≡ o → Opening b (actionsBy I (s .names) node o) → Taken
+      by : (o : Option Prototype) → protoOfOrigin I (scopeDocument (s .entry)) (node .origin) ≡ o → Opening b (actionsBy I (s .names) node o) → Taken
       by none ep x = no-copy (plainNexts node) x
       by (some p) ep x = decl p ep (declOf I p) refl x
 
@@ -111,7 +111,7 @@ module _ (I : Input) (s : Known) (j : ℕ) (b : ℕ → Known) where
       rw (t .here, t .instance, t .declared, x .3, ← z) m
 
 -- An id asks for a default scope exactly where it is an instance that takes the default.
-pub defaults-exact : (I : Input) (s : Known) (j : ℕ) (b : ℕ → Known) → List·Memᴰ (openDefault b) (graph I .actions s j) ↔ ((p : Pick) × (k : ℕ) × TakesDefault I s j p k × (b ≡ defaultScope p k))
+pub defaults-exact : (I : Input) (s : Known) (j : ℕ) (b : ℕ → Known) → List·Memᴰ (openDefault b) (graph I .actions s j) ↔ ((p : Prototype) × (k : ℕ) × TakesDefault I s j p k × (b ≡ defaultScope p k))
 defaults-exact I s j b = (to I s j b (nodeInScope I (s .entry) j) refl, back I s j b)
 
 -- "as if no field of that name were there": an IS whose target has no value gives what no field gives.

@@ -14,7 +14,7 @@ use Rattle.ast.specs.Each.{Each}
 use Rattle.ast.specs.Expanded.{TopKept, InnerKept, InterfaceKept, NodeKept}
 use Rattle.ast.proofs.Basics.{each-mem, map-map}
 use Rattle.ast.specs.Lookups.{nodeAt, protoAt, externProtoAt}
-use Rattle.pick_table.specs.Picks.{Pick}
+use Rattle.pick_table.specs.Picks.{Prototype}
 use Rattle.expansion_steps.proofs.ListLaws.{nodup-map}
 use Rattle.expansion_steps.specs.Steps.{Kind, noNode, plainNode, instanceNode, Plain, Instance, ReachedIn, WholeRun}
 use Rattle.expansion_steps.proofs.Laws.{opened-all}
@@ -136,11 +136,11 @@ module _ (I : Input) (l : List Statement) (st : State) (e : statements I startSt
   noInstance : (y : LedgerEntry) → List·Memᴰ y (map row (st .world .ledger)) → Instance (graph I) (at (y .scope)) (y .source) → ⊥
   noInstance y m i = apart (graph I) {e = at (y .scope)} {j = y .source} (to (y .scope) (y .document) (y .source) (Memᴰ·of-map row (st .world .ledger) m) .2) i
 
-  abbrev Taken : Pick → ℕ → ℕ → Type 0
+  abbrev Taken : Prototype → ℕ → ℕ → Type 0
   Taken p k n = (n < length (st .world .scopes)) × (j : ℕ) × ReachedIn (graph I) (at n) j × TakesDefault I (at n) j p k
 
   -- A default scope is that of a default which an instance reached takes.
-  default-taken : (p : Pick) (k n : ℕ) → List·Memᴰ (Scope.Default p k n) (map knownEntry (end .scopes)) → Taken p k n
+  default-taken : (p : Prototype) (k n : ℕ) → List·Memᴰ (Scope.Default p k n) (map knownEntry (end .scopes)) → Taken p k n
   default-taken p k n m =
       let y = Memᴰ·of-map knownEntry (end .scopes) m in
       ⊎-elim (λ q. no-root (y .0) (y .2) q) (λ d. by (y .0) (y .2) d) (default-asked (graph I) (agrees I) end (whole-run I ran) (y .0) (y .1) (ap isBody (y .2)))
@@ -148,7 +148,7 @@ module _ (I : Input) (l : List Statement) (st : State) (e : statements I startSt
       no-root : (x : Known) → x .entry ≡ Scope.Default p k n → x ≡ graph I .root → Taken p k n
       no-root x q z = absurd (let a : x .entry ≡ Scope.Root = ap knownEntry z in let z : _≡_ {A = ℕ} 0 1 = cc in omega arith)
 
-      same : (p′ : Pick) (k′ n′ : ℕ) → Scope.Default p′ k′ n′ ≡ Scope.Default p k n → Taken p′ k′ n′ → Taken p k n
+      same : (p′ : Prototype) (k′ n′ : ℕ) → Scope.Default p′ k′ n′ ≡ Scope.Default p k n → Taken p′ k′ n′ → Taken p k n
       same p′ k′ n′ q t =
           let ep : p′ ≡ p = cc in
           let ek : k′ ≡ k = cc in
@@ -161,7 +161,7 @@ module _ (I : Input) (l : List Statement) (st : State) (e : statements I startSt
           same (a .0) (a .1) (d .number) (ap (λ (b : ℕ → Known). b (d .number) .entry) (sym (a .3)) ∙ ap knownEntry (sym (d .is)) ∙ q) (rw count-is at (d .lt), d .node, d .reached, a .2)
 
   -- And each of them is opened.
-  taken-default : (p : Pick) (k n : ℕ) → Taken p k n → List·Memᴰ (Scope.Default p k n) (map knownEntry (end .scopes))
+  taken-default : (p : Prototype) (k n : ℕ) → Taken p k n → List·Memᴰ (Scope.Default p k n) (map knownEntry (end .scopes))
   taken-default p k n t =
       Memᴰ·map knownEntry (asked-open (graph I) (agrees I) end (whole-run I ran) n (t .1) (rw count-is (t .0)) refl (t .2) (defaultScope p k) (defaults-exact I (at n) (t .1) (defaultScope p k) .1 (p, k, t .3, refl)))
 
@@ -203,6 +203,7 @@ module _ (I : Input) (l : List Statement) (st : State) (e : statements I startSt
       statements = each-mem TopKept l (λ s m. top-kept (length (st .nodes)) s (out .statements s m));
     };
     externs = out .externs;
+    supplied = out .supplied;
   }
 
 -- ---- what an accepted expansion passes
@@ -240,10 +241,10 @@ module _ (I : Input) (s : Known) (i : ℕ) where
   plain-kind : (node : Node) → PlainAt I s i node → graph I .kind s i ≡ plainNode
   plain-kind node h = ap (nodeKind I s) (h .there) ∙ ap (kindBy I (s .names) node) (h .plain)
 
-  abbrev bodyFor : (p : Pick) → InstanceAt I s i p → ℕ → Known
+  abbrev bodyFor : (p : Prototype) → InstanceAt I s i p → ℕ → Known
   bodyFor p h = bodyScope p (bodyNames (s .names) (h .node .fields) (declOf I p))
 
-  instance-kind : (p : Pick) (h : InstanceAt I s i p) → graph I .kind s i ≡ instanceNode (bodyFor p h)
+  instance-kind : (p : Prototype) (h : InstanceAt I s i p) → graph I .kind s i ≡ instanceNode (bodyFor p h)
   instance-kind p h = ap (nodeKind I s) (h .there) ∙ ap (kindBy I (s .names) (h .node)) (h .instance)
 
 module _ (I : Input) (l : List Statement) (st : State) (e : statements I startState ≡ ok l st) where
@@ -270,7 +271,7 @@ module _ (I : Input) (l : List Statement) (st : State) (e : statements I startSt
       go (passInstance x f b r rs p h) = x
 
   -- no instance has no PROTO, or one whose body has no root,
-  rooted : (m : Met I) (p : Pick) (h : InstanceAt I (m .scope) (m .id) p) → (r : ℕ) × (rs : List ℕ) × (bodyIds (declOf I p) ≡ r ∷ rs)
+  rooted : (m : Met I) (p : Prototype) (h : InstanceAt I (m .scope) (m .id) p) → (r : ℕ) × (rs : List ℕ) × (bodyIds (declOf I p) ≡ r ∷ rs)
   rooted m p h = go (passed m)
     where
       go : Passes (graph I) (Fair I) (I .limits .maxDepth) (m .depth) (m .number) (m .scope) (m .id) (m .world) (end I l st e) → (r : ℕ) × (rs : List ℕ) × (bodyIds (declOf I p) ≡ r ∷ rs)

@@ -1,4 +1,5 @@
 pub mod Outcome
+pub mod Marks
 pub mod Names
 pub mod Walk
 pub mod Agrees

@@ -9,7 +9,7 @@ use lib.Dec.{eqb}
 use Rattle.ast.specs.Ast.{FieldValue, FieldBinding, Field, InterfaceDecl}
 use Rattle.ast.specs.Choice.{choose, andThen}
 use Rattle.ast.specs.Lists.{flat}
-use Rattle.pick_table.specs.Picks.{Pick, member}
+use Rattle.pick_table.specs.Picks.{Prototype, member}
 use Rattle.expansion_definition.specs.Input.{Input, lastField}
 use Rattle.expansion_definition.specs.Scopes.{Scope}
 use Rattle.expansion_definition.specs.State.{State, Result, refusal, ok, bindR}
@@ -94,7 +94,7 @@ module _ (I : Input) (f : Env → Copier) where
         is (some v) = bindOut (anything _) (λ v′ s u. accepted refl)
     interfaceValue-some e default none st = takeDefault-some e default st
 
-    values-has : (t : ℕ) (p : Pick) (fields : List Field) (k : ℕ) (l : List InterfaceDecl) (vs : Values) (st : State) → Out (λ vs′ s. Has t (flat (nameIfValued names fields) l) vs vs′) (values I f env p fields k l vs st)
+    values-has : (t : ℕ) (p : Prototype) (fields : List Field) (k : ℕ) (l : List InterfaceDecl) (vs : Values) (st : State) → Out (λ vs′ s. Has t (flat (nameIfValued names fields) l) vs vs′) (values I f env p fields k l vs st)
     unfolding values member
     values-has t p fields k [] vs st = accepted refl
     values-has t p fields k (d ∷ l) vs st =
@@ -105,6 +105,6 @@ module _ (I : Input) (f : Env → Copier) where
         joined vs1 vs2 q1 q2 = rw (q2, q1, member-append) (or-move (member t (nameIfValued names fields d)) (member t (flat (nameIfValued names fields) l)) (isGiven (valueNamed t vs)))
 
     -- The body of an instance with these fields, of a PROTO with these interfaces, shows the names of those that have a value.
-    pub values-shown : (p : Pick) (fields : List Field) (l : List InterfaceDecl) (st : State) → Out (λ vs s. (t : ℕ) → member t (flat (nameIfValued names fields) l) ≡ isGiven (valueNamed t vs)) (values I f env p fields 0 l [] st)
+    pub values-shown : (p : Prototype) (fields : List Field) (l : List InterfaceDecl) (st : State) → Out (λ vs s. (t : ℕ) → member t (flat (nameIfValued names fields) l) ≡ isGiven (valueNamed t vs)) (values I f env p fields 0 l [] st)
     unfolding valueNamed
     values-shown p fields l st = each _ 0 (λ t. mapOut (values-has t p fields 0 l [] st) (λ vs s q. sym (q ∙ or-false (member t (flat (nameIfValued names fields) l)))))

@@ -13,9 +13,9 @@ use lib.Dec.{T, ltb, ltb→lt, lt→ltb}
 use Rattle.ast.specs.Ast.{NodeOrigin, FieldData, FieldValue, FieldBinding, Field, InterfaceDecl, Route, Statement, Association, Node, ProtoDecl, ExternProtoDecl}
 use Rattle.ast.specs.Choice.{andThen}
 use Rattle.ast.specs.Lookups.{nodeAt, protoAt, externProtoAt}
-use Rattle.pick_table.specs.Picks.{Pick}
+use Rattle.pick_table.specs.Picks.{Prototype}
 use Rattle.expansion_steps.specs.Steps.{World, WholeRun}
-use Rattle.expansion_definition.specs.Input.{Input, docs, pickOf, protoOfOrigin, lastField}
+use Rattle.expansion_definition.specs.Input.{Input, docs, protoOfOrigin, lastField}
 use Rattle.expansion_definition.specs.Scopes.{Scope}
 use Rattle.expansion_definition.specs.Ids.{dataIds}
 use Rattle.expansion_definition.specs.State.{State, Result, refusal, ok, Comp, bindR, _>>=_, _>>_, ret, fail, mapM, foldM, withWorld, lookup, startState}
@@ -283,7 +283,7 @@ module _ (I : Input) where
     count-store name vs none = count-ret vs
     count-store name vs (some v) = count-paid (count-ret _)
 
-    count-values : (env : Env) (p : Pick) (fields : List Field) (j : ℕ) (l : List InterfaceDecl) (vs : Values) → Counted (λ k. values (J k) (f k) env p fields j l vs)
+    count-values : (env : Env) (p : Prototype) (fields : List Field) (j : ℕ) (l : List InterfaceDecl) (vs : Values) → Counted (λ k. values (J k) (f k) env p fields j l vs)
     unfolding values
     count-values env p fields j [] vs = count-ret vs
     count-values env p fields j (d ∷ l) vs = count-bind (count-interfaceValue env (Scope.Default p j (env .scope)) (d .value) (lastField (d .name) fields)) (λ v. count-bind (count-store (d .name) vs v) (λ vs′. count-values env p fields (suc j) l vs′))
@@ -301,7 +301,7 @@ module _ (I : Input) where
     count-body env i inner b (Statement.Route r) = count-paid (count-ret _)
     count-body env i inner b (Statement.Other p) = count-ret b
 
-    count-root : (p : Pick) (o : Option ℕ) → Counted (λ k. rootOf p o)
+    count-root : (p : Prototype) (o : Option ℕ) → Counted (λ k. rootOf p o)
     unfolding rootOf
     count-root p none = count-fail 7 (p .document) (p .proto) (λ q. omega arith)
     count-root p (some o) = count-ret o
@@ -310,7 +310,7 @@ module _ (I : Input) where
     unfolding recordInstance
     count-record name defName n b o st h = free (st .charges) o _ refl h
 
-    count-instance : (env : Env) (i : ℕ) (node : Node) (p : Pick) (decl : Option ProtoDecl) → Counted (λ k. instantiate (J k) (f k) env i node p decl)
+    count-instance : (env : Env) (i : ℕ) (node : Node) (p : Prototype) (decl : Option ProtoDecl) → Counted (λ k. instantiate (J k) (f k) env i node p decl)
     unfolding instantiate
     count-instance env i node p none = count-fail 6 (p .document) (p .proto) (λ q. omega arith)
     count-instance env i node p (some decl) =
@@ -321,18 +321,13 @@ module _ (I : Input) where
 
     -- The PROTO of a node is no matter of the limits.
     proto-same : (k d : ℕ) (o : NodeOrigin) → protoOfOrigin (J k) d o ≡ protoOfOrigin I d o
-    unfolding protoOfOrigin pickOf
-    proto-same k d NodeOrigin.Builtin = refl
-    proto-same k d (NodeOrigin.Proto p) = refl
-    proto-same k zero (NodeOrigin.ExternProto x) = refl
-    proto-same k (suc d) (NodeOrigin.ExternProto x) = refl
-    proto-same k d NodeOrigin.Unknown = refl
+    proto-same k d o = refl
 
     count-node : (env : Env) (i : ℕ) (node : Node) → Counted (λ k. copyNode (J k) (f k) env i node (protoOfOrigin (J k) (src env) (node .origin)))
     unfolding copyNode
-    count-node env i node st h = retold (λ k. ap (λ (p : Option Pick). copyNode (J k) (f k) env i node p st) (proto-same k (src env) (node .origin))) (go (protoOfOrigin I (src env) (node .origin)) st h)
+    count-node env i node st h = retold (λ k. ap (λ (p : Option Prototype). copyNode (J k) (f k) env i node p st) (proto-same k (src env) (node .origin))) (go (protoOfOrigin I (src env) (node .origin)) st h)
       where
-        go : (p : Option Pick) → Counted (λ k. copyNode (J k) (f k) env i node p)
+        go : (p : Option Prototype) → Counted (λ k. copyNode (J k) (f k) env i node p)
         go none = count-plain (hf env) env i node
         go (some p) = count-instance env i node p (protoAt (docs I) (p .document) (p .proto))
 

@@ -13,20 +13,22 @@ use Rattle.ast.specs.Ast.{NodeOrigin, FieldData, FieldValue, FieldBinding, Fiel
 use Rattle.ast.specs.Choice.{choose, andThen, mapO}
 use Rattle.ast.specs.Expanded.{OriginKept}
 use Rattle.ast.specs.Lookups.{protoAt, externProtoAt}
-use Rattle.pick_table.specs.Picks.{Pick}
-use Rattle.expansion_definition.specs.Input.{Input, docs, protoOfOrigin, lastField}
+use Rattle.pick_table.specs.Picks.{Prototype, prototypeIn}
+use Rattle.expansion_definition.specs.Input.{Input, docs, usedUrl, protoOfOrigin, lastField}
 use Rattle.expansion_definition.specs.Scopes.{Scope}
 use Rattle.expansion_definition.specs.Ids.{dataIds, bindingIds}
 use Rattle.expansion_definition.specs.State.{State, ok, Comp, _>>=_, ret, mapM, foldM, withNodes, lookup, startState}
 use Rattle.expansion_definition.specs.Charges.{chargeIf, charge, chargeEach, paid}
 use Rattle.expansion_definition.specs.Values.{Values, valueNamed, Env, src, Copier, copyData, value, clone}
-use Rattle.expansion_definition.specs.Externs.{lookupExtern, noValue, pushExtern, declare, externProto}
+use Rattle.expansion_definition.specs.Externs.{lookupExtern, noValue, declared, pushExtern, declare, externProto}
 use Rattle.expansion_definition.specs.PlainCopy.{blankNode, addNode, reserveIf, reserve, copyOrigin, associate, isValue, isField, copyBinding, copyField, isInterface, copyTarget, copyInterface, remapRoute, copyRoute, copyExtern, copyStatement, somes, keptOrder, contents, copyPlain}
 use Rattle.expansion_definition.specs.Instances.{pushScope, openScope, takeDefault, cloneOr, interfaceValue, store, values, Body, place, bodyStatement, rootOf, associationsOf, nestedRoots, nestedRoutes, withInstance, update, recordInstance, instantiate}
 use Rattle.expansion_definition.specs.Copy.{copyNode, mappedOr, copy}
 use Rattle.expansion_definition.specs.Expand.{statement, rootEnv, statements}
+use Rattle.expansion_definition.specs.Expanded.{Supplied}
+use Rattle.expansion_definition.proofs.Marks.{supplied}
 use Rattle.expansion_definition.proofs.Outcome.{refused, accepted, bindOut, mapOut, atOk}
-use Rattle.expansion_definition.proofs.OutputState.{Out, All, none-some, some-some, IdsBelow, RouteBelow, InstanceBelow, TopStatement, NodeStatement, OutputNode, ids-up, nodeStatement-up, topStatement-up, InterfaceOk, interface-up, node-up, size, Valueless, Sound, Post, Good, Free, Below, Opt, opt-up, somes-mem, set-mem, get-mem, both, cons, nothing, lookup-cons}
+use Rattle.expansion_definition.proofs.OutputState.{Out, All, none-some, some-some, IdsBelow, RouteBelow, InstanceBelow, TopStatement, NodeStatement, OutputNode, ids-up, nodeStatement-up, topStatement-up, InterfaceOk, interface-up, node-up, size, Declares, Sound, Post, Good, Free, Below, Opt, opt-up, somes-mem, set-mem, get-mem, both, cons, nothing, lookup-cons}
 
 module _ (I : Input) where
   -- An answer in P.
@@ -43,13 +45,13 @@ module _ (I : Input) where
     maps : st′ .world .map ≡ st .world .map
     ledger : st′ .world .ledger ≡ st .world .ledger
     isMap : st′ .isMap ≡ st .isMap
-    externs : (x : ExternProtoDecl) → List·Memᴰ x (st′ .externProtos) → List·Memᴰ x (st .externProtos) ⊎ Valueless x
+    externs : (x : ExternProtoDecl) → List·Memᴰ x (st′ .externProtos) → List·Memᴰ x (st .externProtos) ⊎ Declares I x
 
   -- Such a step leaves the state in order.
   still : {A : Type 0} {m : ℕ} (P : ℕ → A → Type 0) (st st′ : State) (a : A) → Still st st′ → m ≤ size st → ((n : ℕ) → m ≤ n → P n a) → Sound I st → Out (Post I P st) (ok a st′)
   still {m = m} P st st′ a e h f b = accepted (record { sound = same; grow = grown; res = f (size st′) (le-trans h grown) })
     where
-      old : (x : ExternProtoDecl) → List·Memᴰ x (st .externProtos) ⊎ Valueless x → Valueless x
+      old : (x : ExternProtoDecl) → List·Memᴰ x (st .externProtos) ⊎ Declares I x → Declares I x
       old x (inl q) = b .externs x q
       old x (inr q) = q
 
@@ -169,25 +171,28 @@ module _ (I : Input) where
 
   externProto-good : (m : ℕ) (env : Env) (x : ℕ) → Good I m Free (externProto I env x)
   unfolding externProto declare
-  externProto-good m env x st = go (lookupExtern (st .externMap) (src env) x) (externProtoAt (docs I) (src env) x) st
+  externProto-good m env x st = go (lookupExtern (st .externMap) (src env) x) (externProtoAt (docs I) (src env) x) refl st
     where
-      valueless : (decl : ExternProtoDecl) → Valueless (record { name = decl .name; interface = map noValue (decl .interface); urls = decl .urls })
-      valueless decl d q = let y = Memᴰ·of-map noValue (decl .interface) q in ap (λ (z : InterfaceDecl). z .value) (sym (y .2))
+      new-one : (decl : ExternProtoDecl) → externProtoAt (docs I) (src env) x ≡ some decl → Declares I (declared (usedUrl I (src env) x) decl)
+      new-one decl e = record {
+        values = λ d q. let y = Memᴰ·of-map noValue (decl .interface) q in ap (λ (z : InterfaceDecl). z .value) (sym (y .2));
+        marks = supplied I (src env) x decl e;
+      }
 
-      more : (decl x : ExternProtoDecl) → (x ≡ record { name = decl .name; interface = map noValue (decl .interface); urls = decl .urls }) ⊎ List·Memᴰ x [] → Valueless x
-      more decl x (inl e) = subst Valueless (sym e) (valueless decl)
-      more decl x (inr q) = absurd (List·Memᴰ·not-nil q)
+      more : (decl y : ExternProtoDecl) → externProtoAt (docs I) (src env) x ≡ some decl → (y ≡ declared (usedUrl I (src env) x) decl) ⊎ List·Memᴰ y [] → Declares I y
+      more decl y q (inl e) = subst (Declares I) (sym e) (new-one decl q)
+      more decl y q (inr n) = absurd (List·Memᴰ·not-nil n)
 
-      new : (decl : ExternProtoDecl) (s : State) (x : ExternProtoDecl) → List·Memᴰ x (s .externProtos) ⊎ List·Memᴰ x (record { name = decl .name; interface = map noValue (decl .interface); urls = decl .urls } ∷ []) → List·Memᴰ x (s .externProtos) ⊎ Valueless x
-      new decl s x (inl q) = inl q
-      new decl s x (inr q) = inr (more decl x (List·Memᴰ·cases-cons q))
+      new : (decl : ExternProtoDecl) → externProtoAt (docs I) (src env) x ≡ some decl → (s : State) (y : ExternProtoDecl) → List·Memᴰ y (s .externProtos) ⊎ List·Memᴰ y (declared (usedUrl I (src env) x) decl ∷ []) → List·Memᴰ y (s .externProtos) ⊎ Declares I y
+      new decl e s y (inl q) = inl q
+      new decl e s y (inr q) = inr (more decl y e (List·Memᴰ·cases-cons q))
 
-      go : (o : Option ℕ) (decl : Option ExternProtoDecl) → Good I m Free (declare I (src env) x o decl)
-      go (some n) decl = good-ret (λ k h. tt)
-      go none none = λ s h b. refused tt
-      go none (some decl) =
+      go : (o : Option ℕ) (decl : Option ExternProtoDecl) → externProtoAt (docs I) (src env) x ≡ decl → Good I m Free (declare I (src env) x o decl)
+      go (some n) decl e = good-ret (λ k h. tt)
+      go none none e = λ s h b. refused tt
+      go none (some decl) e =
           good-bind (charge-good m) (λ a n1 h1 p1. good-bind (chargeEach-good n1 (decl .interface)) (λ b n2 h2 p2. good-bind (chargeEach-good n2 (decl .urls))
-          (λ c n3 h3 p3 s h b. still Free s (pushExtern (src env) x decl s) _ (record { nodes = refl; maps = refl; ledger = refl; isMap = refl; externs = λ y q. new decl s y (List·Memᴰ·append-cases (s .externProtos) q) }) h (λ k q. tt) b)))
+          (λ c n3 h3 p3 s h b. still Free s (pushExtern (src env) x (declared (usedUrl I (src env) x) decl) s) _ (record { nodes = refl; maps = refl; ledger = refl; isMap = refl; externs = λ y q. new decl e s y (List·Memᴰ·append-cases (s .externProtos) q) }) h (λ k q. tt) b)))
 
   -- ---- plain nodes: what each step answers is in order
 
@@ -374,7 +379,7 @@ module _ (I : Input) where
   store-good m name vs none ha hv = good-ret (λ n q. values-up m n vs q ha)
   store-good m name vs (some v) ha hv = paid-good values-up (good-ret (λ n q. cons (name, v) vs (value-up m n v q hv) (values-up m n vs q ha)))
 
-  values-good : (f : Env → Copier) → Goods f → (env : Env) (p : Pick) (fields : List Field) (l : List InterfaceDecl) (m : ℕ) → EnvOk m env → (k : ℕ) (vs : Values) → ValuesOk m vs → Good I m ValuesOk (values I f env p fields k l vs)
+  values-good : (f : Env → Copier) → Goods f → (env : Env) (p : Prototype) (fields : List Field) (l : List InterfaceDecl) (m : ℕ) → EnvOk m env → (k : ℕ) (vs : Values) → ValuesOk m vs → Good I m ValuesOk (values I f env p fields k l vs)
   unfolding values
   values-good f hf env p fields [] m he k vs ha = good-ret (λ n q. values-up m n vs q ha)
   values-good f hf env p fields (d ∷ l) m he k vs ha =
@@ -415,7 +420,7 @@ module _ (I : Input) where
   body-good f hf env i inner [] m he b hb = good-ret (λ n q. body-up m n b q hb)
   body-good f hf env i inner (s ∷ l) m he b hb = good-bind (bodyStatement-good f hf env i inner m he b hb s) (λ c n h p. body-good f hf env i inner l n (env-up m n inner h he) c p)
 
-  rootOf-good : (m : ℕ) (p : Pick) (root : Option ℕ) → Opt Below m root → Good I m Below (rootOf p root)
+  rootOf-good : (m : ℕ) (p : Prototype) (root : Option ℕ) → Opt Below m root → Good I m Below (rootOf p root)
   unfolding rootOf
   rootOf-good m p none h = λ st q b. refused tt
   rootOf-good m p (some o) h = good-ret (λ n q. le-trans h q)
@@ -464,7 +469,7 @@ module _ (I : Input) where
         res = omega (arith, length-set (st .nodes) o (withInstance defName x node));
       }
 
-  instantiate-good : (f : Env → Copier) → Goods f → (env : Env) (m : ℕ) → EnvOk m env → (i : ℕ) (node : Node) (p : Pick) (decl : Option ProtoDecl) → Good I m Below (instantiate I f env i node p decl)
+  instantiate-good : (f : Env → Copier) → Goods f → (env : Env) (m : ℕ) → EnvOk m env → (i : ℕ) (node : Node) (p : Prototype) (decl : Option ProtoDecl) → Good I m Below (instantiate I f env i node p decl)
   unfolding instantiate
   instantiate-good f hf env m he i node p none = λ st q b. refused tt
   instantiate-good f hf env m he i node p (some decl) =
@@ -478,13 +483,13 @@ module _ (I : Input) where
 
   -- A plain node is of no origin Proto.
   not-proto : (d : ℕ) (o : NodeOrigin) → protoOfOrigin I d o ≡ none → OriginKept o
-  unfolding protoOfOrigin
+  unfolding prototypeIn
   not-proto d NodeOrigin.Builtin e = tt
   not-proto d (NodeOrigin.Proto p) e = let z : _≡_ {A = ℕ} 0 1 = cc in omega arith
   not-proto d (NodeOrigin.ExternProto x) e = tt
   not-proto d NodeOrigin.Unknown e = tt
 
-  copyNode-good : (f : Env → Copier) → Goods f → (env : Env) (m : ℕ) → EnvOk m env → (i : ℕ) (node : Node) (p : Option Pick) → protoOfOrigin I (src env) (node .origin) ≡ p → Good I m Below (copyNode I f env i node p)
+  copyNode-good : (f : Env → Copier) → Goods f → (env : Env) (m : ℕ) → EnvOk m env → (i : ℕ) (node : Node) (p : Option Prototype) → protoOfOrigin I (src env) (node .origin) ≡ p → Good I m Below (copyNode I f env i node p)
   unfolding copyNode
   copyNode-good f hf env m he i node none e = copyPlain-good f hf env m he i node (not-proto (src env) (node .origin) e)
   copyNode-good f hf env m he i node (some p) e = instantiate-good f hf env m he i node p (protoAt (docs I) (p .document) (p .proto))
@@ -528,9 +533,10 @@ pub record Output (I : Input) (l : List Statement) (st : State) : Type 0 where
   pub nodes : (x : Node) → List·Memᴰ x (st .nodes) → OutputNode (length (st .nodes)) x
   pub statements : (s : Statement) → List·Memᴰ s l → TopStatement (length (st .nodes)) s
   pub externs : (x : ExternProtoDecl) → List·Memᴰ x (st .externProtos) → (d : InterfaceDecl) → List·Memᴰ d (x .interface) → d .value ≡ none
+  pub supplied : (x : ExternProtoDecl) → List·Memᴰ x (st .externProtos) → Supplied I x
 
 -- The output of an accepted expansion.
 pub output : (I : Input) (l : List Statement) (st : State) → statements I startState ≡ ok l st → Output I l st
 output I l st e =
     let p : Post I (λ n k. All (TopStatement n) k) startState l st = atOk (statements-good I) e in
-    record { listed = p .sound .listed; room = p .sound .room; nodes = p .sound .nodes; statements = p .res; externs = p .sound .externs }
+    record { listed = p .sound .listed; room = p .sound .room; nodes = p .sound .nodes; statements = p .res; externs = λ x m. p .sound .externs x m .values; supplied = λ x m. p .sound .externs x m .marks }

@@ -17,7 +17,9 @@ use Rattle.expansion_definition.specs.Ids.{optionIds, bindingIds}
 use Rattle.expansion_definition.specs.State.{Entry, State, Result, Comp, lookup}
 use Rattle.expansion_definition.specs.Values.{value}
 use Rattle.expansion_definition.specs.PlainCopy.{somes}
+use Rattle.expansion_definition.specs.Instances.{values}
 use Rattle.expansion_definition.specs.Expand.{statements}
+use Rattle.expansion_definition.specs.Expanded.{Supplied}
 use Rattle.expansion_definition.proofs.Outcome.{Outcome, Any}
 
 abbrev pub Out : {A : Type 0} → (A → State → Type 0) → Result A → Type 0
@@ -118,9 +120,10 @@ node-up {n} {m} h y = record { origin = y .origin; fields = λ f q. ids-up (bind
 abbrev pub size : State → ℕ
 size st = length (st .nodes)
 
--- an extern whose interfaces have no value
-abbrev pub Valueless : ExternProtoDecl → Type 0
-Valueless x = (d : InterfaceDecl) → List·Memᴰ d (x .interface) → d .value ≡ none
+-- an extern whose interfaces have no value, and whose urls are marked as its pick has it
+pub record Declares (I : Input) (x : ExternProtoDecl) : Type 0 where
+  pub values : (d : InterfaceDecl) → List·Memᴰ d (x .interface) → d .value ≡ none
+  pub marks : Supplied I x
 
 -- a state whose output is in order so far
 pub record Sound (I : Input) (st : State) : Type 0 where
@@ -129,7 +132,7 @@ pub record Sound (I : Input) (st : State) : Type 0 where
   pub nodes : (x : Node) → List·Memᴰ x (st .nodes) → OutputNode (size st) x
   pub isMap : (x : ℕ × Association) → List·Memᴰ x (st .isMap) → x .1 .node < size st
   pub room : size st ≤ I .limits .maxNodes
-  pub externs : (x : ExternProtoDecl) → List·Memᴰ x (st .externProtos) → Valueless x
+  pub externs : (x : ExternProtoDecl) → List·Memᴰ x (st .externProtos) → Declares I x
 
 -- after a step: the state is in order, no node is gone, the answer is in P
 pub record Post {A : Type 0} (I : Input) (P : ℕ → A → Type 0) (st : State) (a : A) (st′ : State) : Type 0 where

@@ -12,19 +12,20 @@ use lib.Dec.{T, ltb, eqb, ltb→lt, eqb→eq}
 use Rattle.ast.specs.Ast.{NodeOrigin, FieldData, FieldValue, FieldBinding, Field, InterfaceDecl, Route, Statement, Association, ProtoInstance, Node, ProtoDecl, ExternProtoDecl}
 use Rattle.ast.specs.Choice.{andThen}
 use Rattle.ast.specs.Lookups.{nodeAt, protoAt, externProtoAt}
-use Rattle.pick_table.specs.Picks.{Pick}
-use Rattle.expansion_definition.specs.Input.{Input, docs, protoOfOrigin, lastField}
+use Rattle.pick_table.specs.Picks.{Prototype}
+use Rattle.expansion_definition.specs.Input.{Input, docs, usedUrl, protoOfOrigin, lastField}
 use Rattle.expansion_definition.specs.Scopes.{Scope}
 use Rattle.expansion_definition.specs.Ids.{dataIds, optionIds, bindingIds}
 use Rattle.expansion_definition.specs.State.{State, ok, Comp, bindR, _>>=_, ret, fail, mapM, foldM, withWorld, withNodes, lookup, startState}
 use Rattle.expansion_definition.specs.Charges.{oneMore, chargeIf, charge, chargeEach, paid}
 use Rattle.expansion_definition.specs.Values.{Values, valueNamed, Env, src, Copier, copyData, value, clone}
-use Rattle.expansion_definition.specs.Externs.{lookupExtern, noValue, pushExtern, declare, externProto}
+use Rattle.expansion_definition.specs.Externs.{lookupExtern, declared, pushExtern, declare, externProto}
 use Rattle.expansion_definition.specs.PlainCopy.{blankNode, addNode, reserveIf, reserve, copyOrigin, pushAssociation, associate, isValue, isField, copyBinding, copyField, isInterface, copyTarget, copyInterface, remapRoute, copyRoute, copyExtern, copyStatement, keptOrder, contents, copyPlain}
 use Rattle.expansion_definition.specs.Instances.{pushScope, openScope, takeDefault, cloneOr, interfaceValue, store, values, Body, addEntry, place, bodyStatement, rootOf, associationsOf, nestedRoots, nestedRoutes, withInstance, update, recordInstance, instantiate}
 use Rattle.expansion_definition.specs.Copy.{copyNode, mappedOr, copy}
 use Rattle.expansion_definition.specs.Expand.{statement, rootEnv, statements}
 use Rattle.expansion_definition.specs.Outputs.{sumOf, fieldRowCount, interfaceRowCount, instanceRowCount, contentRows, nodeRowCount, externRowCount}
+use Rattle.expansion_definition.proofs.Marks.{marked-length}
 use Rattle.expansion_definition.proofs.Outcome.{Outcome, refused, accepted, bindOut, mapOut}
 use Rattle.expansion_definition.proofs.Books.{Numbered, four, five, six, seven, eight, nine, ten, Out, oneIf, sum-append, set-sum, set-at, valueless-rows, blank-rows, optionRow, optionField, somes-fields, somes-rows, also, ScopesBelow, waiting-new, waiting-own, count, worth, Books, Covered, Booked, Unopened, Cov}
 
@@ -105,8 +106,8 @@ module _ (I : Input) where
         go : (o : Option ℕ) (decl : Option ExternProtoDecl) → Cov I n ω k (declare I (src env) x o decl) (λ y. k)
         go (some m) decl = cov-ret m (le-refl _)
         go none none = λ s hn hω b. refused (four (src env) x)
-        go none (some decl) = cov-bind (charge-cov k) (λ u. cov-bind (chargeEach-cov (suc k) (decl .interface)) (λ u2. cov-bind (chargeEach-cov (length (decl .interface) + suc k) (decl .urls)) (λ u3 s hn hω b. booked (λ y. k) s (length (s .externProtos)) (pushExtern (src env) x decl s) (le-refl _) (b .below) (b .capped)
-            (omega (arith, sum-append externRowCount (s .externProtos) (record { name = decl .name; interface = map noValue (decl .interface); urls = decl .urls } ∷ []), valueless-rows (decl .interface))))))
+        go none (some decl) = cov-bind (charge-cov k) (λ u. cov-bind (chargeEach-cov (suc k) (decl .interface)) (λ u2. cov-bind (chargeEach-cov (length (decl .interface) + suc k) (decl .urls)) (λ u3 s hn hω b. booked (λ y. k) s (length (s .externProtos)) (pushExtern (src env) x (declared (usedUrl I (src env) x) decl) s) (le-refl _) (b .below) (b .capped)
+            (omega (arith, sum-append externRowCount (s .externProtos) (declared (usedUrl I (src env) x) decl ∷ []), valueless-rows (decl .interface), marked-length (usedUrl I (src env) x) 0 (decl .urls))))))
 
     copyOrigin-cov : (k : ℕ) (env : Env) (o : NodeOrigin) → Cov I n ω k (copyOrigin I env o) (λ x. k)
     unfolding copyOrigin
@@ -254,7 +255,7 @@ module _ (I : Input) where
   store-cov n ω k name vs none = cov-ret n ω vs (le-refl _)
   store-cov n ω k name vs (some v) = paid-ret-cov n ω _ (omega arith)
 
-  values-cov : (f : Env → Copier) → Paying f → (n : ℕ) (ω : ℕ → Bool) (env : Env) → env .scope < n → (p : Pick) (fields : List Field) (k j : ℕ) (l : List InterfaceDecl) (vs : Values) → Cov I n ω k (values I f env p fields j l vs) (λ x. k)
+  values-cov : (f : Env → Copier) → Paying f → (n : ℕ) (ω : ℕ → Bool) (env : Env) → env .scope < n → (p : Prototype) (fields : List Field) (k j : ℕ) (l : List InterfaceDecl) (vs : Values) → Cov I n ω k (values I f env p fields j l vs) (λ x. k)
   unfolding values
   values-cov f hf n ω env lt p fields k j [] vs = cov-ret n ω vs (le-refl _)
   values-cov f hf n ω env lt p fields k j (d ∷ l) vs =
@@ -284,7 +285,7 @@ module _ (I : Input) where
     body-cov k [] b = cov-ret n ω b (le-refl _)
     body-cov k (s ∷ l) b = cov-bind n ω (bodyStatement-cov k b s) (λ c. body-cov k l c)
 
-  rootOf-cov : (n : ℕ) (ω : ℕ → Bool) (k : ℕ) (p : Pick) (root : Option ℕ) → Cov I n ω k (rootOf p root) (λ o. k)
+  rootOf-cov : (n : ℕ) (ω : ℕ → Bool) (k : ℕ) (p : Prototype) (root : Option ℕ) → Cov I n ω k (rootOf p root) (λ o. k)
   unfolding rootOf
   rootOf-cov n ω k p none = λ st hn hω b. refused (seven (p .document) (p .proto))
   rootOf-cov n ω k p (some o) = cov-ret n ω o (le-refl _)
@@ -330,7 +331,7 @@ module _ (I : Input) where
       go false e false q = refl
 
   -- An instance: while its body is copied, its scope's associations wait too.
-  instantiate-cov : (f : Env → Copier) → Paying f → (n : ℕ) (ω : ℕ → Bool) (env : Env) → env .scope < n → (k i : ℕ) (node : Node) (p : Pick) (decl : Option ProtoDecl) → Cov I n ω k (instantiate I f env i node p decl) (λ o. k)
+  instantiate-cov : (f : Env → Copier) → Paying f → (n : ℕ) (ω : ℕ → Bool) (env : Env) → env .scope < n → (k i : ℕ) (node : Node) (p : Prototype) (decl : Option ProtoDecl) → Cov I n ω k (instantiate I f env i node p decl) (λ o. k)
   unfolding instantiate
   instantiate-cov f hf n ω env lt k i node p none st hn hω b = refused (six (p .document) (p .proto))
   instantiate-cov f hf n ω env lt k i node p (some decl) st hn hω b =
@@ -352,7 +353,7 @@ module _ (I : Input) where
 
   -- ---- the copier
 
-  copyNode-cov : (f : Env → Copier) → Paying f → (n : ℕ) (ω : ℕ → Bool) (env : Env) → env .scope < n → (k i : ℕ) (node : Node) (p : Option Pick) → Cov I n ω k (copyNode I f env i node p) (λ o. k)
+  copyNode-cov : (f : Env → Copier) → Paying f → (n : ℕ) (ω : ℕ → Bool) (env : Env) → env .scope < n → (k i : ℕ) (node : Node) (p : Option Prototype) → Cov I n ω k (copyNode I f env i node p) (λ o. k)
   unfolding copyNode
   copyNode-cov f hf n ω env lt k i node none = copyPlain-cov n ω (f env) (hf env n ω lt) env lt k i node
   copyNode-cov f hf n ω env lt k i node (some p) = instantiate-cov f hf n ω env lt k i node p (protoAt (docs I) (p .document) (p .proto))

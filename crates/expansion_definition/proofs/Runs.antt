@@ -14,8 +14,8 @@ use lib.Dec.{T, leb, ltb, ltb→lt, lt→ltb, le→leb}
 use Rattle.ast.specs.Ast.{NodeOrigin, FieldData, FieldValue, FieldBinding, Field, InterfaceDecl, Route, Statement, Association, Node, ProtoDecl, ExternProtoDecl, Document, File}
 use Rattle.ast.specs.Choice.{andThen}
 use Rattle.ast.specs.Lookups.{nodeAt, protoAt, externProtoAt}
-use Rattle.pick_table.specs.Picks.{Pick}
-use Rattle.expansion_definition.specs.Input.{Limits, Input, docs, pickOf, protoOfOrigin, lastField}
+use Rattle.pick_table.specs.Picks.{Prototype}
+use Rattle.expansion_definition.specs.Input.{Limits, Input, docs, protoOfOrigin, lastField}
 use Rattle.expansion_definition.specs.Scopes.{Scope}
 use Rattle.expansion_definition.specs.Ids.{dataIds}
 use Rattle.expansion_definition.specs.State.{State, Result, refusal, ok, Comp, bindR, _>>=_, _>>_, ret, mapM, foldM, withWorld, lookup, startState}
@@ -310,7 +310,7 @@ module _ (root : Document) (library : List File) (L L′ : Limits) (le : Bigger 
   place-steps env i o b none = bind charge-steps (λ u st s. same (record { sound = s; nodes = le-refl _; charges = le-refl _ }))
   place-steps env i o b (some root) = paid-steps (return _)
 
-  rootOf-steps : (p : Pick) (o : Option ℕ) → Steps (rootOf p o) (rootOf p o)
+  rootOf-steps : (p : Prototype) (o : Option ℕ) → Steps (rootOf p o) (rootOf p o)
   unfolding rootOf
   rootOf-steps p none = λ st s. refuses
   rootOf-steps p (some o) = return o
@@ -336,7 +336,7 @@ module _ (root : Document) (library : List File) (L L′ : Limits) (le : Bigger 
     interfaceValue-steps env e default (some (FieldBinding.Is t)) = cloneOr-steps (takeDefault-steps e default) (andThen (env .isValues) (valueNamed t))
     interfaceValue-steps env e default none = takeDefault-steps e default
 
-    values-steps : (env : Env) (p : Pick) (fields : List Field) (k : ℕ) (l : List InterfaceDecl) (vs : Values) → Steps (valuesIn words I f env p fields k l vs) (values I′ f′ env p fields k l vs)
+    values-steps : (env : Env) (p : Prototype) (fields : List Field) (k : ℕ) (l : List InterfaceDecl) (vs : Values) → Steps (valuesIn words I f env p fields k l vs) (values I′ f′ env p fields k l vs)
     unfolding values valuesIn
     values-steps env p fields k [] vs = return vs
     values-steps env p fields k (d ∷ l) vs = bind (interfaceValue-steps env _ (d .value) (lastField (d .name) fields)) (λ v. bind (store-steps (d .name) vs v) (λ vs′. values-steps env p fields (suc k) l vs′))
@@ -349,13 +349,13 @@ module _ (root : Document) (library : List File) (L L′ : Limits) (le : Bigger 
     bodyStatement-steps env i inner b (Statement.Route r) = paid-steps (return _)
     bodyStatement-steps env i inner b (Statement.Other p) = return b
 
-    instantiate-steps : (env : Env) (i : ℕ) (node : Node) (p : Pick) (decl : Option ProtoDecl) → Steps (instantiateIn words I f env i node p decl) (instantiate I′ f′ env i node p decl)
+    instantiate-steps : (env : Env) (i : ℕ) (node : Node) (p : Prototype) (decl : Option ProtoDecl) → Steps (instantiateIn words I f env i node p decl) (instantiate I′ f′ env i node p decl)
     unfolding instantiate instantiateIn
     instantiate-steps env i node p none = λ st s. refuses
     instantiate-steps env i node p (some proto) =
         bind (values-steps env p (node .fields) 0 (proto .interface) []) (λ vs. bind (open-steps _) (λ n. bind (folded (bodyStatement-steps env i _) _ (proto .body)) (λ b. bind (rootOf-steps p (b .root)) (λ o. bind charge-steps (λ u. recordInstance-steps (proto .name) (node .defName) n b o)))))
 
-    copyNode-steps : (env : Env) (i : ℕ) (node : Node) (p : Option Pick) → Steps (copyNodeIn words I f env i node p) (copyNode I′ f′ env i node p)
+    copyNode-steps : (env : Env) (i : ℕ) (node : Node) (p : Option Prototype) → Steps (copyNodeIn words I f env i node p) (copyNode I′ f′ env i node p)
     unfolding copyNode copyNodeIn
     copyNode-steps env i node none = copyPlain-steps _ _ (hf env) env i node
     copyNode-steps env i node (some p) = instantiate-steps env i node p (protoAt (docs I) (p .document) (p .proto))
@@ -368,12 +368,7 @@ module _ (root : Document) (library : List File) (L L′ : Limits) (le : Bigger 
 
   -- what a node is does not depend on limits
   protoOf-same : (d : ℕ) (o : NodeOrigin) → protoOfOrigin I d o ≡ protoOfOrigin I′ d o
-  unfolding protoOfOrigin pickOf
-  protoOf-same d NodeOrigin.Builtin = refl
-  protoOf-same d (NodeOrigin.Proto p) = refl
-  protoOf-same zero (NodeOrigin.ExternProto x) = refl
-  protoOf-same (suc d) (NodeOrigin.ExternProto x) = refl
-  protoOf-same d NodeOrigin.Unknown = refl
+  protoOf-same d o = refl
 
   copyOne : {f f′ : Env → Copier} → ((env : Env) (i : ℕ) → Steps (f env i) (f′ env i)) → (env : Env) (i : ℕ) (node : Node) → Steps (copyNodeIn words I f env i node (protoOfOrigin I (src env) (node .origin))) (copyNode I′ f′ env i node (protoOfOrigin I′ (src env) (node .origin)))
   copyOne {f} {f′} hf env i node = rw (protoOf-same (src env) (node .origin)) (copyNode-steps f f′ hf env i node (protoOfOrigin I′ (src env) (node .origin)))

@@ -10,7 +10,7 @@ use Rattle.ast.proofs.Basics.{map-append}
 use Rattle.ast.specs.Ast.{NodeOrigin, FieldData, FieldValue, FieldBinding, Field, InterfaceDecl, Statement, Node, ProtoDecl}
 use Rattle.ast.specs.Choice.{andThen, mapO}
 use Rattle.ast.specs.Lookups.{nodeAt, protoAt}
-use Rattle.pick_table.specs.Picks.{Pick}
+use Rattle.pick_table.specs.Picks.{Prototype}
 use Rattle.expansion_definition.specs.Input.{Input, docs, protoOfOrigin, lastField}
 use Rattle.expansion_definition.specs.Scopes.{Scope, scopeDocument}
 use Rattle.expansion_definition.specs.State.{Bookkeeping, State, Result, refusal, ok, Comp, bindR, _>>=_, _>>_, ret, mapM, foldM, lookup, startState}
@@ -271,7 +271,7 @@ module _ (I : Input) where
         is (some v) = kept env (keep-bind I (clone-keep I v) (λ v′. keep-ret I _))
     grow-interfaceValue env e default none = grow-default env e default
 
-    grow-values : (env : Env) (p : Pick) (fields : List Field) (j : ℕ) (l : List InterfaceDecl) (vs : Values) → Grows env (values I f env p fields j l vs)
+    grow-values : (env : Env) (p : Prototype) (fields : List Field) (j : ℕ) (l : List InterfaceDecl) (vs : Values) → Grows env (values I f env p fields j l vs)
     unfolding values
     grow-values env p fields j [] vs = kept env (keep-ret I vs)
     grow-values env p fields j (d ∷ l) vs = grow-bind env (grow-interfaceValue env (Scope.Default p j (env .scope)) (d .value) (lastField (d .name) fields)) (λ v. grow-bind env (kept env (store-keep I (d .name) vs v)) (λ vs′. grow-values env p fields (suc j) l vs′))
@@ -295,12 +295,12 @@ module _ (I : Input) where
     grow-foldM env inner i b [] = kept inner (keep-ret I b)
     grow-foldM env inner i b (s ∷ l) = grow-bind inner (grow-body env inner i b s) (λ c. grow-foldM env inner i c l)
 
-    grow-root : (env : Env) (p : Pick) (o : Option ℕ) → Grows env (rootOf p o)
+    grow-root : (env : Env) (p : Prototype) (o : Option ℕ) → Grows env (rootOf p o)
     unfolding rootOf
     grow-root env p none st o = refused tt
     grow-root env p (some n) st o = kept env (keep-ret I n) st o
 
-    grow-instance : (env : Env) (i : ℕ) (node : Node) (p : Pick) (decl : Option ProtoDecl) → Grows env (instantiate I f env i node p decl)
+    grow-instance : (env : Env) (i : ℕ) (node : Node) (p : Prototype) (decl : Option ProtoDecl) → Grows env (instantiate I f env i node p decl)
     unfolding instantiate
     grow-instance env i node p none st o = refused tt
     grow-instance env i node p (some decl) st o =
@@ -310,7 +310,7 @@ module _ (I : Input) where
         inner : ℕ → Values → Env
         inner n vs = record { scope = n; entry = Scope.Body p (env .scope); isValues = some vs }
 
-    grow-node : (env : Env) (i : ℕ) (node : Node) → nodeAt (docs I) (src env) i ≡ some node → (p : Option Pick) → Grows env (copyNode I f env i node p)
+    grow-node : (env : Env) (i : ℕ) (node : Node) → nodeAt (docs I) (src env) i ≡ some node → (p : Option Prototype) → Grows env (copyNode I f env i node p)
     unfolding copyNode
     grow-node env i node en none = grow-plain env (f env) (hf env) i node en
     grow-node env i node en (some p) = grow-instance env i node p (protoAt (docs I) (p .document) (p .proto))

@@ -12,20 +12,20 @@ use Rattle.ast.proofs.Basics.{map-append}
 use Rattle.ast.specs.Ast.{NodeOrigin, FieldData, FieldValue, FieldBinding, Field, InterfaceDecl, Route, Statement, Association, ProtoInstance, Node, ProtoDecl, ExternProtoDecl}
 use Rattle.ast.specs.Choice.{choose, andThen}
 use Rattle.ast.specs.Lookups.{nodeAt, externProtoAt}
-use Rattle.pick_table.specs.Picks.{Pick}
+use Rattle.pick_table.specs.Picks.{Prototype}
 use Rattle.expansion_steps.specs.Steps.{instanceNode, Action, copyId, addMapped, addPlain, addDefault, addBody, Mapped, Task, one, all, Run, noAction, firstWorld, WholeRun}
 use Rattle.expansion_steps.proofs.Depth.{Within, mappedWithin, plainWithin, instanceWithin, noWithin, copyWithin, defaultWithin, within-run, append-within}
 use Rattle.expansion_steps.specs.Places.{Comes, here, inPlain, inValues, inRoot, inOthers, inCopy, afterCopy, inDefault, afterDefault, comes-left, comes-right}
 use Rattle.expansion_steps.specs.Steps
 use Rattle.expansion_steps.proofs.Laws.{append-run}
-use Rattle.expansion_definition.specs.Input.{Input, docs, protoOfOrigin, lastField}
+use Rattle.expansion_definition.specs.Input.{Input, docs, usedUrl, protoOfOrigin, lastField}
 use Rattle.expansion_definition.specs.Scopes.{Scope}
 use Rattle.ast.specs.Lists.{flat}
 use Rattle.expansion_definition.specs.Ids.{dataIds, optionIds, bindingIds, statementIds}
 use Rattle.expansion_definition.specs.State.{Entry, Bookkeeping, State, Result, refusal, ok, Comp, bindR, _>>=_, _>>_, ret, mapM, foldM, lookup, startState}
 use Rattle.expansion_definition.specs.Charges.{chargeIf, charge, chargeEach, paid}
 use Rattle.expansion_definition.specs.Values.{Values, valueNamed, Env, src, Copier, copyData, value, clone}
-use Rattle.expansion_definition.specs.Externs.{lookupExtern, pushExtern, declare, externProto}
+use Rattle.expansion_definition.specs.Externs.{lookupExtern, declared, pushExtern, declare, externProto}
 use Rattle.expansion_definition.specs.PlainCopy.{blankNode, reserveIf, reserve, copyOrigin, associate, isValue, isField, copyBinding, copyField, isInterface, copyTarget, copyInterface, remapRoute, copyRoute, copyExtern, copyStatement, contents, copyPlain}
 use Rattle.expansion_definition.specs.Instances.{pushScope, openScope, takeDefault, cloneOr, interfaceValue, store, values, Body, place, bodyStatement, rootOf, associationsOf, withInstance, update, recordInstance, instantiate}
 use Rattle.expansion_definition.specs.Copy.{copyNode, mappedOr, copy}
@@ -113,9 +113,9 @@ module _ (I : Input) where
   some-fine : (d x : ℕ) {decl : ExternProtoDecl} → externProtoAt (docs I) d x ≡ some decl → Fine d x
   some-fine d x p q = let z : _≡_ {A = ℕ} 0 1 = cc in omega arith
 
-  valid-push : (d x : ℕ) (decl : ExternProtoDecl) (st : State) → externProtoAt (docs I) d x ≡ some decl → Valid st → Valid (pushExtern d x decl st)
+  valid-push : (d x : ℕ) (decl y : ExternProtoDecl) (st : State) → externProtoAt (docs I) d x ≡ some decl → Valid st → Valid (pushExtern d x y st)
   unfolding lookupExtern
-  valid-push d x decl st e h d′ x′ n = go (eqb d d′) (eqb x x′) (eqb→eq d d′) (eqb→eq x x′)
+  valid-push d x decl y st e h d′ x′ n = go (eqb d d′) (eqb x x′) (eqb→eq d d′) (eqb→eq x x′)
     where
       go : (a b : Bool) → (T a → d ≡ d′) → (T b → x ≡ x′) → choose (a && b) (some (length (st .externProtos))) (lookupExtern (st .externMap) d′ x′) ≡ some n → Fine d′ x′
       go true true p q r = some-fine d′ x′ (ap (λ (y : ℕ). externProtoAt (docs I) y x′) (sym (p tt)) ∙ ap (externProtoAt (docs I) d) (sym (q tt)) ∙ e)
@@ -186,7 +186,7 @@ module _ (I : Input) where
         go : (o : Option ℕ) (decl : Option ExternProtoDecl) → externProtoAt (docs I) (src env) x ≡ decl → Keep d X (declare I (src env) x o decl)
         go (some n) decl e = keep-ret n
         go none none e = λ s. refused (subst (λ (y : ℕ). Short y X 4 (src env) x) q (extern x hx e))
-        go none (some decl) e = keep-bind charge-keep (λ a. keep-bind (chargeEach-keep (decl .interface)) (λ b. keep-bind (chargeEach-keep (decl .urls)) (λ c s. accepted (record { world = refl; size = refl; types = refl; valid = valid-push (src env) x decl s e }))))
+        go none (some decl) e = keep-bind charge-keep (λ a. keep-bind (chargeEach-keep (decl .interface)) (λ b. keep-bind (chargeEach-keep (decl .urls)) (λ c s. accepted (record { world = refl; size = refl; types = refl; valid = valid-push (src env) x decl (declared (usedUrl I (src env) x) decl) s e }))))
 
     pub copyOrigin-keep : (env : Env) → src env ≡ d → (o : NodeOrigin) → ((x : ℕ) → o ≡ NodeOrigin.ExternProto x → X x) → Keep d X (copyOrigin I env o)
     unfolding copyOrigin
@@ -347,7 +347,7 @@ module _ (I : Input) where
   -- the extern ids that stand in a plain node, or in the body of an instance's PROTO, lead somewhere
   pub record Fair (s : Known) (i : ℕ) : Type 0 where
     pub ofPlain : (node : Node) → PlainAt I s i node → (x : ℕ) → ExternOf node x → Fine (knownDocument s) x
-    pub ofInstance : (p : Pick) → InstanceAt I s i p → (decl : ProtoDecl) → declOf I p ≡ some decl → AllFine (p .document) (decl .body)
+    pub ofInstance : (p : Prototype) → InstanceAt I s i p → (decl : ProtoDecl) → declOf I p ≡ some decl → AllFine (p .document) (decl .body)
 
   -- the task is run, from g on, with at most so many nodes open
   record Ran (left : ℕ) (t : Task Known) (g : Unseen) (st st′ : State) : Type 0 where
@@ -583,11 +583,11 @@ module _ (I : Input) where
   Copying left f = (d : ℕ) (X : ℕ → Type 0) (env : Env) (names : List ℕ) → Shows env names → (i : ℕ) → Runs left d X (one (env .scope) (known env names) i) (f env i)
 
   -- what the documents say of the node: it is there, and p is its PROTO, if it is an instance
-  record Node′ (env : Env) (i : ℕ) (node : Node) (p : Option Pick) : Type 0 where
+  record Node′ (env : Env) (i : ℕ) (node : Node) (p : Option Prototype) : Type 0 where
     there : nodeInScope I (env .entry) i ≡ some node
     proto : protoOfOrigin I (src env) (node .origin) ≡ p
 
-  module _ (env : Env) (names : List ℕ) (i : ℕ) (node : Node) (p : Option Pick) (h : Node′ env i node p) where
+  module _ (env : Env) (names : List ℕ) (i : ℕ) (node : Node) (p : Option Prototype) (h : Node′ env i node p) where
     -- Plain or an instance, as its PROTO says.
     kind-is : graph I .kind (known env names) i ≡ kindBy I names node p
     kind-is = ap (nodeKind I (known env names)) (h .there) ∙ ap (kindBy I names node) (h .proto)
@@ -640,10 +640,10 @@ module _ (I : Input) where
           either node′ e x (inl q) = fo x (ap (λ (y : Node). y .origin) e ∙ q)
           either node′ e x (inr q) = fs x (rw e q)
 
-          other : (node′ : Node) → node ≡ node′ → (p : Pick) → protoOfOrigin I (src env) (node′ .origin) ≡ some p → ⊥
+          other : (node′ : Node) → node ≡ node′ → (p : Prototype) → protoOfOrigin I (src env) (node′ .origin) ≡ some p → ⊥
           other node′ e p q = clash (h .proto) (ap (λ (y : Node). protoOfOrigin I (src env) (y .origin)) e ∙ q)
             where
-              clash : {o : Option Pick} → o ≡ none → o ≡ some p → ⊥
+              clash : {o : Option Prototype} → o ≡ none → o ≡ some p → ⊥
               clash a b = let z : _≡_ {A = ℕ} 0 1 = cc in omega arith
 
       inner : (P : Task Known → Steps.World Known → Type 0) (s1 : State) → see g (s1 .world) ≡ addPlain (env .scope) i (see g (st .world)) → P (all (env .scope) (known env names) (map copyId (plainNexts node))) (see g (s1 .world))
@@ -683,7 +683,7 @@ module _ (I : Input) where
   }
 
   -- A default, in its own scope, if there is one.
-  takeDefault-run : {left d : ℕ} {X : ℕ → Type 0} (f : Env → Copier) → Copying left f → (n : ℕ) (e : Known) (p : Pick) (k : ℕ) (v : Option FieldValue) → defaultIds k (declOf I p) ≡ optionIds v → Runs left d X (all n e (defaultAction (defaultScope p k) v)) (takeDefault I f (Scope.Default p k n) v)
+  takeDefault-run : {left d : ℕ} {X : ℕ → Type 0} (f : Env → Copier) → Copying left f → (n : ℕ) (e : Known) (p : Prototype) (k : ℕ) (v : Option FieldValue) → defaultIds k (declOf I p) ≡ optionIds v → Runs left d X (all n e (defaultAction (defaultScope p k) v)) (takeDefault I f (Scope.Default p k n) v)
   unfolding takeDefault
   takeDefault-run f hf n e p k none eb g st ft = accepted (record { after = g; fits = ft; run = noWithin })
   takeDefault-run {left} {d} {X} f hf n e p k (some v) eb g st ft =
@@ -703,7 +703,7 @@ module _ (I : Input) where
           rw eb (subst (λ (x : ℕ). P (all x b (map copyId (dataIds (v .«data»)))) (addDefault b (see g (st .world)))) em (subst (λ (x : Bookkeeping). P (all m b (map copyId (dataIds (v .«data»)))) (see (withScope b g) x)) ew r))
 
   -- The value of one interface: a default is taken exactly where the field gives none.
-  interfaceValue-run : {left d : ℕ} {X : ℕ → Type 0} (f : Env → Copier) → Copying left f → (env : Env) (names : List ℕ) → Shows env names → (p : Pick) (k : ℕ) (default : Option FieldValue) → defaultIds k (declOf I p) ≡ optionIds default → (given : Option FieldBinding)
+  interfaceValue-run : {left d : ℕ} {X : ℕ → Type 0} (f : Env → Copier) → Copying left f → (env : Env) (names : List ℕ) → Shows env names → (p : Prototype) (k : ℕ) (default : Option FieldValue) → defaultIds k (declOf I p) ≡ optionIds default → (given : Option FieldBinding)
       → Runs left d X (all (env .scope) (known env names) (valueActions (gives names given) (defaultScope p k) default given)) (interfaceValue I f env (Scope.Default p k (env .scope)) default given)
   unfolding interfaceValue cloneOr
   interfaceValue-run {d = d} {X} f hf env names hn p k default eb (some (FieldBinding.Value v)) = then-keep (value-run (env .scope) (known env names) (f env) (hf d X env names hn) v) (λ v′. keep-ret _)
@@ -720,7 +720,7 @@ module _ (I : Input) where
   at-length (y ∷ l) x r = at-length l x r
 
   -- pre: the interfaces before these
-  values-run : {left d : ℕ} {X : ℕ → Type 0} (f : Env → Copier) → Copying left f → (env : Env) (names : List ℕ) → Shows env names → (p : Pick) (fields : List Field) (decl : ProtoDecl) → declOf I p ≡ some decl → (l pre : List InterfaceDecl) (k : ℕ) (vs : Values) → pre ++ l ≡ decl .interface → length pre ≡ k
+  values-run : {left d : ℕ} {X : ℕ → Type 0} (f : Env → Copier) → Copying left f → (env : Env) (names : List ℕ) → Shows env names → (p : Prototype) (fields : List Field) (decl : ProtoDecl) → declOf I p ≡ some decl → (l pre : List InterfaceDecl) (k : ℕ) (vs : Values) → pre ++ l ≡ decl .interface → length pre ≡ k
       → Runs left d X (all (env .scope) (known env names) (interfaceActions names p fields k l)) (values I f env p fields k l vs)
   unfolding values
   values-run f hf env names hn p fields decl ep [] pre k vs el ek = no-run (env .scope) (known env names) (keep-ret vs)
@@ -915,7 +915,7 @@ module _ (I : Input) where
           at k (inr h) = Memᴰ·append-right (statementIds s) (k h)
 
   -- An instance.
-  instantiate-run : (left : ℕ) (f : Env → Copier) → Copying left f → (d : ℕ) (X : ℕ → Type 0) (env : Env) (names : List ℕ) → Shows env names → (i : ℕ) (node : Node) (p : Pick) → Node′ env i node (some p) → (g : Unseen) (st : State) → Fits g st → (Mapped (see g (st .world)) (env .scope) i → ⊥)
+  instantiate-run : (left : ℕ) (f : Env → Copier) → Copying left f → (d : ℕ) (X : ℕ → Type 0) (env : Env) (names : List ℕ) → Shows env names → (i : ℕ) (node : Node) (p : Prototype) → Node′ env i node (some p) → (g : Unseen) (st : State) → Fits g st → (Mapped (see g (st .world)) (env .scope) i → ⊥)
       → (decl : Option ProtoDecl) → declOf I p ≡ decl → Outcome (Stop (suc left) d X (one (env .scope) (known env names) i) (see g (st .world))) (λ o st′. Ran (suc left) (one (env .scope) (known env names) i) g st st′) (instantiate I f env i node p decl st)
   unfolding instantiate rootOf bindR
   instantiate-run left f hf d X env names hn i node p h g st ft un none ep = refused (fault here un (omega arith) (six p (record { node = node; there = h .there; instance = h .proto }) ep))
@@ -1002,7 +1002,7 @@ module _ (I : Input) where
           one-node : {o : Option Node} {a b : Node} → o ≡ some a → o ≡ some b → a ≡ b
           one-node p q = cc
 
-          one-pick : {o : Option Pick} {a b : Pick} → o ≡ some a → o ≡ some b → a ≡ b
+          one-pick : {o : Option Prototype} {a b : Prototype} → o ≡ some a → o ≡ some b → a ≡ b
           one-pick p q = cc
 
           one-decl : {o : Option ProtoDecl} {a b : ProtoDecl} → o ≡ some a → o ≡ some b → a ≡ b
@@ -1011,11 +1011,11 @@ module _ (I : Input) where
           other : (node′ : Node) → node ≡ node′ → protoOfOrigin I (src env) (node′ .origin) ≡ none → ⊥
           other node′ e q = clash (h .proto) (ap (λ (y : Node). protoOfOrigin I (src env) (y .origin)) e ∙ q)
             where
-              clash : {o : Option Pick} {a : Pick} → o ≡ some a → o ≡ none → ⊥
+              clash : {o : Option Prototype} {a : Prototype} → o ≡ some a → o ≡ none → ⊥
               clash a b = let z : _≡_ {A = ℕ} 0 1 = cc in omega arith
 
-          at-once : (p′ : Pick) → p ≡ p′ → (decl′ : ProtoDecl) → declOf I p′ ≡ some decl′ → AllFine (p′ .document) (decl′ .body)
-          at-once p′ e decl′ q = let d : decl ≡ decl′ = one-decl ep (ap (declOf I) e ∙ q) in subst (λ (y : Pick). AllFine (y .document) (decl′ .body)) e (subst (λ (y : ProtoDecl). AllFine (p .document) (y .body)) d fb)
+          at-once : (p′ : Prototype) → p ≡ p′ → (decl′ : ProtoDecl) → declOf I p′ ≡ some decl′ → AllFine (p′ .document) (decl′ .body)
+          at-once p′ e decl′ q = let d : decl ≡ decl′ = one-decl ep (ap (declOf I) e ∙ q) in subst (λ (y : Prototype). AllFine (y .document) (decl′ .body)) e (subst (λ (y : ProtoDecl). AllFine (p .document) (y .body)) d fb)
 
       whole : (n : ℕ) (vs : Values) (hv : Shows (inner n vs) ns) → AllFine (p .document) (decl .body) → (s1 s2 w : State) (rv : Valued s1) → Opens (b .entry) s1 n s2
           → Rooted left f hf env i (inner n vs) ns hv (flat statementIds (decl .body)) (begun s1 rv) s2 w → Ran (suc left) (one (env .scope) (known env names) i) g st w
@@ -1041,7 +1041,7 @@ module _ (I : Input) where
 
   -- A node that is not mapped.
   copyNode-run : (left : ℕ) (f : Env → Copier) → Copying left f → (d : ℕ) (X : ℕ → Type 0) (env : Env) (names : List ℕ) → Shows env names → (i : ℕ) (node : Node) → nodeInScope I (env .entry) i ≡ some node → (g : Unseen) (st : State) → Fits g st → (Mapped (see g (st .world)) (env .scope) i → ⊥)
-      → (p : Option Pick) → protoOfOrigin I (src env) (node .origin) ≡ p → Outcome (Stop (suc left) d X (one (env .scope) (known env names) i) (see g (st .world))) (λ o st′. Ran (suc left) (one (env .scope) (known env names) i) g st st′) (copyNode I f env i node p st)
+      → (p : Option Prototype) → protoOfOrigin I (src env) (node .origin) ≡ p → Outcome (Stop (suc left) d X (one (env .scope) (known env names) i) (see g (st .world))) (λ o st′. Ran (suc left) (one (env .scope) (known env names) i) g st st′) (copyNode I f env i node p st)
   unfolding copyNode
   copyNode-run left f hf d X env names hn i node en g st ft un none ep = copyPlain-run left f hf d X env names hn i node (record { there = en; proto = ep }) g st ft un
   copyNode-run left f hf d X env names hn i node en g st ft un (some p) ep = instantiate-run left f hf d X env names hn i node p (record { there = en; proto = ep }) g st ft un (declOf I p) refl

@@ -4,7 +4,7 @@ use mathlib.Core.Option.{Option, none, some}
 use Prim.Native.Nat.{ℕ, zero, suc}
 use Rattle.ast.specs.Ast.{Node}
 use Rattle.ast.specs.Lookups.{nodeAt, protoAt}
-use Rattle.pick_table.specs.Picks.{Pick}
+use Rattle.pick_table.specs.Picks.{Prototype}
 use Rattle.expansion_definition.specs.Input.{Input, docs, protoOfOrigin}
 use Rattle.expansion_definition.specs.State.{Comp, ret, fail, lookup}
 use Rattle.expansion_definition.specs.Values.{Env, src, Copier}
@@ -12,7 +12,7 @@ use Rattle.expansion_definition.specs.PlainCopy.{copyPlain}
 use Rattle.expansion_definition.specs.Instances.{instantiate}
 
 -- a plain node, or an instance of the PROTO p
-unfoldable pub copyNode : Input → (Env → Copier) → Env → ℕ → Node → Option Pick → Comp ℕ
+unfoldable pub copyNode : Input → (Env → Copier) → Env → ℕ → Node → Option Prototype → Comp ℕ
 copyNode I f env i node none = copyPlain I (f env) env i node
 copyNode I f env i node (some p) = instantiate I f env i node p (protoAt (docs I) (p .document) (p .proto))
 

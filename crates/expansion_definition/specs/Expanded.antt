@@ -3,15 +3,15 @@ use mathlib.Core.Path.{_≡_}
 use mathlib.Core.Logic.{_↔_}
 use mathlib.Core.Bool.{true, false}
 use mathlib.Core.List.{List, [], _∷_, _++_, map, List·Memᴰ}
-use mathlib.Core.Option.{none, some}
+use mathlib.Core.Option.{Option, none, some}
 use Prim.Native.Nat.{ℕ, _≤_, _<_}
 use lib.ListN.{length, getElem?}
-use Rattle.ast.specs.Ast.{NodeOrigin, InterfaceDecl, Statement, Node, ProtoDecl, ExternProtoDecl, Document}
+use Rattle.ast.specs.Ast.{NodeOrigin, InterfaceDecl, Statement, Node, ProtoDecl, Url, ExternProtoDecl, Document}
 use Rattle.ast.specs.Choice.{mapO}
 use Rattle.ast.specs.Expanded.{IsExpanded}
 use Rattle.ast.specs.Lists.{flat}
 use Rattle.ast.specs.Lookups.{nodeAt, protoAt, externProtoAt}
-use Rattle.pick_table.specs.Picks.{Pick}
+use Rattle.pick_table.specs.Picks.{Prototype, Pick, prototypeOf, pickUrl, pickOf}
 use Rattle.expansion_steps.specs.Lists.{Nodup, countIf}
 use Rattle.expansion_steps.specs.Steps.{instanceNode, copyId, Plain, Instance, ReachedIn, World, addMapped, addPlain, addBody, firstWorld, Mapped, count, one, all, Run, WholeRun, opened}
 use Rattle.expansion_steps.specs.Places.{Comes}
@@ -38,7 +38,7 @@ abbrev pub scopeAt : Input → World Known → ℕ → Known
 scopeAt I w s = entry (graph I) (w .scopes) s
 
 -- In a scope of which s is known, instance j of PROTO p takes the default of the PROTO's interface number k: no field gives a value there, and there is a default.
-pub record TakesDefault (I : Input) (s : Known) (j : ℕ) (p : Pick) (k : ℕ) : Type 0 where
+pub record TakesDefault (I : Input) (s : Known) (j : ℕ) (p : Prototype) (k : ℕ) : Type 0 where
   pub node : Node
   pub here : nodeInScope I (s .entry) j ≡ some node
   pub instance : protoOfOrigin I (scopeDocument (s .entry)) (node .origin) ≡ some p
@@ -51,7 +51,26 @@ pub record TakesDefault (I : Input) (s : Known) (j : ℕ) (p : Pick) (k : ℕ) :
 
 -- x is an instance reached in that scope, and the number of an interface whose default it takes
 abbrev pub DefaultTaken : Input → Known → ℕ × ℕ → Type 0
-DefaultTaken I s x = ReachedIn (graph I) s (x .0) × ((p : Pick) × TakesDefault I s (x .0) p (x .1))
+DefaultTaken I s x = ReachedIn (graph I) s (x .0) × ((p : Prototype) × TakesDefault I s (x .0) p (x .1))
+
+-- a url but for its mark
+abbrev pub address : Url → ℕ × Option ℕ
+address u = (u .base, u .fragment)
+
+-- Document 02, wish 1. y stands in the output for extern `id` of document `document`: its urls are the same, but for the marks.
+pub record Supplied (I : Input) (y : ExternProtoDecl) : Type 0 where
+  pub document : ℕ
+  pub id : ℕ
+  pub decl : ExternProtoDecl
+  pub declares : externProtoAt (docs I) document id ≡ some decl
+  pub name : y .name ≡ decl .name
+  pub urls : map address (y .urls) ≡ map address (decl .urls)
+  -- "In the output, that url row has c = 1 and every other url row c = 0.": a marked url is the one that the pick took,
+  pub taken : (k : ℕ) (u : Url) → getElem? (y .urls) k ≡ some u → u .used ≡ true → (p : Pick) × (pickOf (I .root) (I .library) document id ≡ some p) × (p .url ≡ k)
+  -- an extern with a pick has a mark, on a url that leads to the picked PROTO,
+  pub one : (p : Pick) → pickOf (I .root) (I .library) document id ≡ some p → (u : Url) × (getElem? (y .urls) (p .url) ≡ some u) × (u .used ≡ true) × (pickUrl (I .library) u ≡ some (prototypeOf p))
+  -- and one without a pick has none.
+  pub none : pickOf (I .root) (I .library) document id ≡ none → (u : Url) → List·Memᴰ u (y .urls) → u .used ≡ false
 
 pub record Expanded (I : Input) (e : Expansion) : Type 0 where
   -- The steps come to their end, and whichever run of them does opens these scopes, world .scopes.
@@ -70,7 +89,7 @@ pub record Expanded (I : Input) (e : Expansion) : Type 0 where
   pub scopes : e .scopes ≡ map knownEntry (world .scopes)
   pub scopeCount : e .scopeCount ≡ length (e .scopes)
   -- Document 02, wish 6: a default scope is opened exactly where no field gives a value. Its entry stands in the list if and only if an instance reached in the opening scope takes that default.
-  pub defaults : (p : Pick) (k n : ℕ) → List·Memᴰ (Scope.Default p k n) (e .scopes) ↔ ((n < e .scopeCount) × (j : ℕ) × ReachedIn (graph I) (scopeAt I world n) j × TakesDefault I (scopeAt I world n) j p k)
+  pub defaults : (p : Prototype) (k n : ℕ) → List·Memᴰ (Scope.Default p k n) (e .scopes) ↔ ((n < e .scopeCount) × (j : ℕ) × ReachedIn (graph I) (scopeAt I world n) j × TakesDefault I (scopeAt I world n) j p k)
   -- "The node count = the sum, over all these scopes, of the plain nodes reached in each, by document 01's closure."
   pub nodesReached : Total (graph I) (Plain (graph I)) (world .scopes) (e .nodeCount)
   -- "The ledger has, for each of these scopes and each plain node reached in it, exactly one entry with that scope, document and source id, and no other entry."
@@ -95,6 +114,8 @@ pub record Expanded (I : Input) (e : Expansion) : Type 0 where
   pub form : IsExpanded (e .document)
   -- "An extern is row 8, interfaces of class 0, urls."
   pub externs : (x : ExternProtoDecl) → List·Memᴰ x (e .document .externProtos) → (i : InterfaceDecl) → List·Memᴰ i (x .interface) → i .value ≡ none
+  -- Document 02, wish 1, of every extern of the output, whichever statement declares it
+  pub supplied : (x : ExternProtoDecl) → List·Memᴰ x (e .document .externProtos) → Supplied I x
 
 -- ---- refusals
 
@@ -118,7 +139,7 @@ pub record PlainAt (I : Input) (s : Known) (i : ℕ) (node : Node) : Type 0 wher
   pub plain : protoOfOrigin I (knownDocument s) (node .origin) ≡ none
 
 -- it is there, and an instance of PROTO p.proto of document p.document
-pub record InstanceAt (I : Input) (s : Known) (i : ℕ) (p : Pick) : Type 0 where
+pub record InstanceAt (I : Input) (s : Known) (i : ℕ) (p : Prototype) : Type 0 where
   pub node : Node
   pub there : nodeAt (docs I) (knownDocument s) i ≡ some node
   pub instance : protoOfOrigin I (knownDocument s) (node .origin) ≡ some p
@@ -148,12 +169,12 @@ pub data Fault (I : Input) (n : ℕ) (s : Known) (i : ℕ) (w : World Known) : �
   fourStatement : (node : Node) → PlainAt I s i node → length (w .ledger) < I .limits .maxNodes → ((y : ℕ) → node .origin ≡ NodeOrigin.ExternProto y → externProtoAt (docs I) (knownDocument s) y ≡ none → ⊥)
       → (v : World Known) → Run (graph I) (all n s (graph I .actions s i)) (addPlain n i w) v → (x : ℕ) → Dangling I (knownDocument s) (node .statements) x → Fault I n s i w 4 (knownDocument s) x
   -- of an instance whose values are copied, an ExternProto statement of the PROTO's body
-  fourBody : (p : Pick) → InstanceAt I s i p → (decl : ProtoDecl) → protoAt (docs I) (p .document) (p .proto) ≡ some decl → (v : World Known) → Run (graph I) (all n s (graph I .actions s i)) w v
+  fourBody : (p : Prototype) → InstanceAt I s i p → (decl : ProtoDecl) → protoAt (docs I) (p .document) (p .proto) ≡ some decl → (v : World Known) → Run (graph I) (all n s (graph I .actions s i)) w v
       → (x : ℕ) (h : Dangling I (p .document) (decl .body) x) (b : ℕ → Known) → graph I .kind s i ≡ instanceNode b → BodyDone I n i (b n) v (flat statementIds (h .before)) → Fault I n s i w 4 (p .document) x
   -- "6 dangling PROTO id": of an instance
-  six : (p : Pick) → InstanceAt I s i p → protoAt (docs I) (p .document) (p .proto) ≡ none → Fault I n s i w 6 (p .document) (p .proto)
+  six : (p : Prototype) → InstanceAt I s i p → protoAt (docs I) (p .document) (p .proto) ≡ none → Fault I n s i w 6 (p .document) (p .proto)
   -- "7 body without a root", "7 last": of an instance whose values are copied, no Node statement in the PROTO's body, whose externs are there
-  seven : (p : Pick) → InstanceAt I s i p → (decl : ProtoDecl) → protoAt (docs I) (p .document) (p .proto) ≡ some decl → (v : World Known) → Run (graph I) (all n s (graph I .actions s i)) w v
+  seven : (p : Prototype) → InstanceAt I s i p → (decl : ProtoDecl) → protoAt (docs I) (p .document) (p .proto) ≡ some decl → (v : World Known) → Run (graph I) (all n s (graph I .actions s i)) w v
       → ((j : ℕ) → List·Memᴰ (Statement.Node j) (decl .body) → ⊥) → ExternsThere I (p .document) (decl .body) → Fault I n s i w 7 (p .document) (p .proto)
   -- "8 if nodes ≥ N": a plain node, where N nodes are there
   eight : (node : Node) → PlainAt I s i node → length (w .ledger) ≡ I .limits .maxNodes → Fault I n s i w 8 0 0

@@ -6,7 +6,7 @@ use lib.ListN.{length, getElem?, set}
 use lib.Dec.{eqb}
 use Rattle.ast.specs.Ast.{FieldValue, FieldBinding, Field, InterfaceDecl, Route, Statement, Association, ProtoInstance, Node, ProtoDecl}
 use Rattle.ast.specs.Choice.{choose, andThen, orElse}
-use Rattle.pick_table.specs.Picks.{Pick}
+use Rattle.pick_table.specs.Picks.{Prototype}
 use Rattle.expansion_definition.specs.Input.{Input, lastField}
 use Rattle.expansion_definition.specs.Scopes.{Scope}
 use Rattle.expansion_definition.specs.State.{State, ok, Comp, _>>=_, _>>_, ret, fail, foldM, withWorld, withNodes}
@@ -58,7 +58,7 @@ store I name vs none = ret vs
 store I name vs (some v) = paid I (ret ((name, v) ∷ vs))
 
 -- "values in interface order"; k is the first interface's index
-unfoldable pub values : Input → (Env → Copier) → Env → Pick → List Field → ℕ → List InterfaceDecl → Values → Comp Values
+unfoldable pub values : Input → (Env → Copier) → Env → Prototype → List Field → ℕ → List InterfaceDecl → Values → Comp Values
 values I f env p fields k [] vs = ret vs
 values I f env p fields k (d ∷ l) vs = do
   v ← interfaceValue I f env (Scope.Default p k (env .scope)) (d .value) (lastField (d .name) fields)
@@ -97,7 +97,7 @@ bodyStatement I f env i inner b (Statement.Route r) = paid I (ret (record { root
 bodyStatement I f env i inner b (Statement.Other p) = ret b
 
 -- "7 body without a root": after the body
-unfoldable pub rootOf : Pick → Option ℕ → Comp ℕ
+unfoldable pub rootOf : Prototype → Option ℕ → Comp ℕ
 rootOf p none = fail 7 (p .document) (p .proto)
 rootOf p (some o) = ret o
 
@@ -143,7 +143,7 @@ recordInstance name defName n b o st =
 -- ---- the instance
 
 -- "An instance, after 6: values in interface order"; "Then the body in a fresh scope"; "7 last"; charged: "its record"
-unfoldable pub instantiate : Input → (Env → Copier) → Env → ℕ → Node → Pick → Option ProtoDecl → Comp ℕ
+unfoldable pub instantiate : Input → (Env → Copier) → Env → ℕ → Node → Prototype → Option ProtoDecl → Comp ℕ
 instantiate I f env i node p none = fail 6 (p .document) (p .proto)
 instantiate I f env i node p (some proto) = do
   vs ← values I f env p (node .fields) 0 (proto .interface) []

@@ -1,5 +1,6 @@
 -- The charges of small scenes, taken apart as `Counted` counts them: one equation by computation.
 use mathlib.Core.Path.{_≡_, refl, ap}
+use mathlib.Core.Bool.{false}
 use mathlib.Core.List.{List, [], _∷_, map, List·Memᴰ, List·Memᴰ·not-nil, List·Memᴰ·cases-cons}
 use mathlib.Core.Logic.{_⊎_, inl, inr}
 use mathlib.Core.Option.{Option, none, some}
@@ -27,7 +28,7 @@ one x = scene usual (x ∷ leaf ∷ []) [] (Statement.Node 0 ∷ [])
 -- an extern with an interface and two urls; a node of it, mentioned in its own statements too
 abbrev declared : Input
 declared = record {
-  root = document (record { typeName = 7; defName = none; origin = NodeOrigin.ExternProto 0; fields = []; interface = []; statements = Statement.ExternProto 0 ∷ []; bodyOrder = []; instance = none } ∷ []) [] (record { name = 6; interface = interface 1 none ∷ []; urls = record { base = 20; fragment = none } ∷ record { base = 21; fragment = none } ∷ [] } ∷ []) (Statement.Node 0 ∷ []);
+  root = document (record { typeName = 7; defName = none; origin = NodeOrigin.ExternProto 0; fields = []; interface = []; statements = Statement.ExternProto 0 ∷ []; bodyOrder = []; instance = none } ∷ []) [] (record { name = 6; interface = interface 1 none ∷ []; urls = record { base = 20; fragment = none; used = false } ∷ record { base = 21; fragment = none; used = false } ∷ [] } ∷ []) (Statement.Node 0 ∷ []);
   library = [];
   limits = usual;
 }

@@ -8,7 +8,7 @@ use lib.ListN.{getElem?}
 use Rattle.ast.specs.Ast.{FieldValue, FieldBinding, Field, InterfaceDecl, Node, ProtoDecl}
 use Rattle.ast.specs.Choice.{choose, andThen}
 use Rattle.ast.specs.Lookups.{nodeAt, protoAt}
-use Rattle.pick_table.specs.Picks.{Pick, member}
+use Rattle.pick_table.specs.Picks.{Prototype, member}
 use Rattle.expansion_steps.specs.Steps.{Kind, noNode, plainNode, instanceNode, Action, copyId, openDefault, Graph}
 use Rattle.expansion_definition.specs.Input.{Input, docs, protoOfOrigin, lastField}
 use Rattle.expansion_definition.specs.Scopes.{Scope, scopeDocument, isBody}
@@ -35,7 +35,7 @@ abbrev pub defaultIds : ℕ → Option ProtoDecl → List ℕ
 defaultIds k none = []
 defaultIds k (some p) = optionIds (andThen (getElem? (p .interface) k) (λ d. d .value))
 
-abbrev pub declOf : Input → Pick → Option ProtoDecl
+abbrev pub declOf : Input → Prototype → Option ProtoDecl
 declOf I p = protoAt (docs I) (p .document) (p .proto)
 
 -- "Starts: the Node statements of the top or body, or the default's ids."
@@ -65,7 +65,7 @@ instanceNexts fields none = []
 instanceNexts fields (some p) = flat (λ d. givenIds (lastField (d .name) fields)) (p .interface)
 
 -- "From a plain node"; "From an instance"
-abbrev pub nextsBy : Input → Node → Option Pick → List ℕ
+abbrev pub nextsBy : Input → Node → Option Prototype → List ℕ
 nextsBy I node none = plainNexts node
 nextsBy I node (some p) = instanceNexts (node .fields) (declOf I p)
 
@@ -94,15 +94,15 @@ bodyNames names fields none = []
 bodyNames names fields (some p) = flat (nameIfValued names fields) (p .interface)
 
 -- the scopes that an instance opens, for its own scope's number; in a default scope no name has a value
-abbrev pub bodyScope : Pick → List ℕ → ℕ → Known
+abbrev pub bodyScope : Prototype → List ℕ → ℕ → Known
 bodyScope p names n = record { entry = Scope.Body p n; names = names }
 
-abbrev pub defaultScope : Pick → ℕ → ℕ → Known
+abbrev pub defaultScope : Prototype → ℕ → ℕ → Known
 defaultScope p k n = record { entry = Scope.Default p k n; names = [] }
 
 -- ---- plain nodes and instances
 
-abbrev pub kindBy : Input → List ℕ → Node → Option Pick → Kind Known
+abbrev pub kindBy : Input → List ℕ → Node → Option Prototype → Kind Known
 kindBy I names node none = plainNode
 kindBy I names node (some p) = instanceNode (bodyScope p (bodyNames names (node .fields) (declOf I p)))
 
@@ -122,16 +122,16 @@ valueActions true e default given = map copyId (givenIds given)
 valueActions false e default given = defaultAction e default
 
 -- k is the first interface's index
-abbrev pub interfaceActions : List ℕ → Pick → List Field → ℕ → List InterfaceDecl → List (Action Known)
+abbrev pub interfaceActions : List ℕ → Prototype → List Field → ℕ → List InterfaceDecl → List (Action Known)
 interfaceActions names p fields k [] = []
 interfaceActions names p fields k (d ∷ l) =
     valueActions (gives names (lastField (d .name) fields)) (defaultScope p k) (d .value) (lastField (d .name) fields) ++ interfaceActions names p fields (suc k) l
 
-abbrev pub instanceActions : List ℕ → Pick → List Field → Option ProtoDecl → List (Action Known)
+abbrev pub instanceActions : List ℕ → Prototype → List Field → Option ProtoDecl → List (Action Known)
 instanceActions names p fields none = []
 instanceActions names p fields (some decl) = interfaceActions names p fields 0 (decl .interface)
 
-abbrev pub actionsBy : Input → List ℕ → Node → Option Pick → List (Action Known)
+abbrev pub actionsBy : Input → List ℕ → Node → Option Prototype → List (Action Known)
 actionsBy I names node none = map copyId (plainNexts node)
 actionsBy I names node (some p) = instanceActions names p (node .fields) (declOf I p)
 

@@ -1,17 +1,18 @@
 -- How open points of document 01 are read: a computed example for each reading that an answer shows.
 -- A list of numbers is a refusal with its places, or 0, nodes, scopes, body scopes, charges.
 use mathlib.Core.Path.{_≡_, refl}
+use mathlib.Core.Bool.{Bool, true, false}
 use mathlib.Core.List.{List, [], _∷_, map}
 use mathlib.Core.Option.{Option, none, some}
 use Prim.Native.Nat.{ℕ}
-use Rattle.ast.specs.Ast.{NodeOrigin, BodyElement, FieldValue, FieldBinding, Field, InterfaceDecl, Statement, ProtoInstance, Node}
+use Rattle.ast.specs.Ast.{NodeOrigin, BodyElement, FieldValue, FieldBinding, Field, InterfaceDecl, Statement, ProtoInstance, Node, ProtoDecl, Url}
 use Rattle.expansion_steps.specs.Lists.{countIf}
 use Rattle.expansion_definition.specs.Input.{Input}
 use Rattle.expansion_definition.specs.Scopes.{Scope, isDefault, scopeEntry}
 use Rattle.expansion_definition.specs.State.{State, refusal}
 use Rattle.expansion_definition.specs.Expand.{expand}
 use Rattle.expansion_definition.specs.Room.{pushIf, pushIn, openIn, takeDefaultIn, interfaceValueIn, valuesIn, instantiateIn, copyNodeIn, copyIn, statementsIn, expandIn}
-use Rattle.expansion_definition.specs.Scenes.{ids, numberValue, fieldWith, fieldIs, interface, interfaceIs, route, node, leaf, group, plain, instanceOfProto, proto, document, limits, usual, scene, scattered, counts, seen, computed}
+use Rattle.expansion_definition.specs.Scenes.{ids, numberValue, fieldWith, fieldIs, interface, interfaceIs, route, node, leaf, group, plain, instanceOfProto, proto, extern, document, limits, usual, scene, scattered, counts, seen, computed}
 
 abbrev outputNodes : Input → Option (List Node)
 outputNodes I = seen (λ e. e .document .nodes) (expand I)
@@ -362,6 +363,33 @@ is-in-default : counts (expand (scene usual (instanceOfProto 0 [] ∷ instanceOf
     ≡ (0 ∷ 2 ∷ 5 ∷ 2 ∷ 21 ∷ [])
 unfolding computed
 is-in-default = refl
+
+-- ---- document 02, wish 1: the mark is on the pick's url of every extern that the output declares; no pick, no mark
+
+-- the marks of the urls of each extern of the output
+abbrev marksOf : Input → Option (List (List Bool))
+marksOf I = seen (λ e. map (λ x. map (λ u. u .used) (x .urls)) (e .document .externProtos)) (expand I)
+
+abbrev urlTo : ℕ → Option ℕ → Url
+urlTo base fragment = record { base = base; fragment = fragment; used = false }
+
+-- of the four urls of extern 0 the third is taken: the file of base 20 has no Proto, that of base 21 one of name 3; extern 1 has no pick.
+-- The Proto's body declares an extern of the file.
+abbrev supplying : List Node → List ProtoDecl → List Statement → Input
+supplying ns ps l = record {
+  root = document ns ps (extern (urlTo 20 none ∷ urlTo 21 (some 9) ∷ urlTo 21 (some 3) ∷ urlTo 21 (some 3) ∷ []) ∷ extern (urlTo 20 none ∷ []) ∷ []) l;
+  library = record { base = 20; document = document [] [] [] [] } ∷ record { base = 21; document = document (leaf ∷ []) (proto [] (Statement.ExternProto 0 ∷ Statement.Node 0 ∷ []) ∷ []) (extern (urlTo 21 (some 3) ∷ []) ∷ []) (Statement.Proto 0 ∷ []) } ∷ [];
+  limits = usual;
+}
+
+-- declared by a top statement, by a statement in a node, by a body's statement; a file's extern, declared by the picked PROTO's body
+url-marks :
+    (marksOf (supplying [] [] (Statement.ExternProto 0 ∷ Statement.ExternProto 1 ∷ [])) ≡ some ((false ∷ false ∷ true ∷ false ∷ []) ∷ (false ∷ []) ∷ []))
+    × (marksOf (supplying (plain [] [] (Statement.ExternProto 0 ∷ []) [] ∷ []) [] (Statement.Node 0 ∷ [])) ≡ some ((false ∷ false ∷ true ∷ false ∷ []) ∷ []))
+    × (marksOf (supplying (instanceOfProto 0 [] ∷ leaf ∷ []) (proto [] (Statement.ExternProto 0 ∷ Statement.Node 1 ∷ []) ∷ []) (Statement.Node 0 ∷ [])) ≡ some ((false ∷ false ∷ true ∷ false ∷ []) ∷ []))
+    × (marksOf (supplying (node (NodeOrigin.ExternProto 0) [] ∷ []) [] (Statement.Node 0 ∷ [])) ≡ some ((false ∷ []) ∷ []))
+unfolding computed
+url-marks = (refl, refl, refl, refl)
 
 -- ---- document 02, wish 9: limits that are just enough give what bigger ones give; less gives 8, 9, 10
 

@@ -10,7 +10,7 @@ use lib.Dec.{leb}
 use Rattle.ast.specs.Ast.{FieldValue, FieldBinding, Field, InterfaceDecl, Statement, Node, ProtoDecl}
 use Rattle.ast.specs.Choice.{andThen}
 use Rattle.ast.specs.Lookups.{nodeAt, protoAt}
-use Rattle.pick_table.specs.Picks.{Pick}
+use Rattle.pick_table.specs.Picks.{Prototype}
 use Rattle.expansion_definition.specs.Input.{Limits, Input, docs, protoOfOrigin, lastField}
 use Rattle.expansion_definition.specs.Scopes.{Scope}
 use Rattle.expansion_definition.specs.State.{State, Comp, _>>=_, _>>_, ret, fail, mapM, foldM, lookup, startState}
@@ -47,14 +47,14 @@ interfaceValueIn words I f env e default (some (FieldBinding.Value v)) = do
 interfaceValueIn words I f env e default (some (FieldBinding.Is target)) = cloneOr I (takeDefaultIn words I f e default) (andThen (env .isValues) (valueNamed target))
 interfaceValueIn words I f env e default none = takeDefaultIn words I f e default
 
-unfoldable pub valuesIn : ℕ → Input → (Env → Copier) → Env → Pick → List Field → ℕ → List InterfaceDecl → Values → Comp Values
+unfoldable pub valuesIn : ℕ → Input → (Env → Copier) → Env → Prototype → List Field → ℕ → List InterfaceDecl → Values → Comp Values
 valuesIn words I f env p fields k [] vs = ret vs
 valuesIn words I f env p fields k (d ∷ l) vs = do
   v ← interfaceValueIn words I f env (Scope.Default p k (env .scope)) (d .value) (lastField (d .name) fields)
   vs′ ← store I (d .name) vs v
   valuesIn words I f env p fields (suc k) l vs′
 
-unfoldable pub instantiateIn : ℕ → Input → (Env → Copier) → Env → ℕ → Node → Pick → Option ProtoDecl → Comp ℕ
+unfoldable pub instantiateIn : ℕ → Input → (Env → Copier) → Env → ℕ → Node → Prototype → Option ProtoDecl → Comp ℕ
 instantiateIn words I f env i node p none = fail 6 (p .document) (p .proto)
 instantiateIn words I f env i node p (some proto) = do
   vs ← valuesIn words I f env p (node .fields) 0 (proto .interface) []
@@ -64,7 +64,7 @@ instantiateIn words I f env i node p (some proto) = do
   charge I
   recordInstance (proto .name) (node .defName) n b o
 
-unfoldable pub copyNodeIn : ℕ → Input → (Env → Copier) → Env → ℕ → Node → Option Pick → Comp ℕ
+unfoldable pub copyNodeIn : ℕ → Input → (Env → Copier) → Env → ℕ → Node → Option Prototype → Comp ℕ
 copyNodeIn words I f env i node none = copyPlain I (f env) env i node
 copyNodeIn words I f env i node (some p) = instantiateIn words I f env i node p (protoAt (docs I) (p .document) (p .proto))
 

@@ -1,18 +1,19 @@
 -- Small scenes for worked examples, and an answer in numbers.
+use mathlib.Core.Bool.{false}
 use mathlib.Core.List.{List, [], _∷_}
 use mathlib.Core.Option.{Option, none, some}
 use Prim.Native.Nat.{ℕ}
 use Rattle.ast.specs.Ast.{NodeOrigin, BodyElement, FieldData, FieldValue, FieldBinding, Field, InterfaceDecl, Route, Statement, Node, ProtoDecl, ExternProtoDecl, Url, Document}
 use Rattle.ast.specs.Lookups.{nodeAt, protoAt, externProtoAt}
 use Rattle.pick_file.specs.PickIn.{topProtos, firstNamed, pickIn}
-use Rattle.pick_table.specs.Picks.{libraryFile, pickUrl, member, remember, pickUrls, picksFrom, picks}
+use Rattle.pick_table.specs.Picks.{libraryFile, pickUrl, member, remember, pickUrls, picksFrom, picks, pickOf, prototypeIn}
 use Rattle.expansion_steps.specs.Lists.{countIf}
-use Rattle.expansion_definition.specs.Input.{Limits, Input, pickOf, protoOfOrigin, lastField}
+use Rattle.expansion_definition.specs.Input.{Limits, Input, lastField}
 use Rattle.expansion_definition.specs.Scopes.{isBody}
 use Rattle.expansion_definition.specs.State.{bindR, mapM, foldM, lookup}
 use Rattle.expansion_definition.specs.Charges.{chargeIf, charge, chargeEach, paid}
 use Rattle.expansion_definition.specs.Values.{valueNamed, copyData, value, clone}
-use Rattle.expansion_definition.specs.Externs.{lookupExtern, declare, externProto}
+use Rattle.expansion_definition.specs.Externs.{lookupExtern, marked, declare, externProto}
 use Rattle.expansion_definition.specs.PlainCopy.{reserveIf, reserve, copyOrigin, associate, isField, copyBinding, copyField, isInterface, copyTarget, copyInterface, copyRoute, copyExtern, copyStatement, somes, keptOrder, contents, copyPlain}
 use Rattle.expansion_definition.specs.Instances.{pushScope, openScope, takeDefault, cloneOr, interfaceValue, store, values, place, bodyStatement, rootOf, associationsOf, recordInstance, instantiate}
 use Rattle.expansion_definition.specs.Copy.{copyNode, mappedOr, copy}
@@ -73,7 +74,7 @@ limits n d k = record { maxNodes = n; maxDepth = d; maxRows = k }
 
 -- one file, of base 20, and a root whose node 0 is of its extern 0, picked from that file if it can be
 abbrev pub scattered : Limits → Option ℕ → List Field → Document → List Statement → Input
-scattered l fragment fs file s = record { root = document (node (NodeOrigin.ExternProto 0) fs ∷ []) [] (extern (record { base = 20; fragment = fragment } ∷ []) ∷ []) s; library = record { base = 20; document = file } ∷ []; limits = l }
+scattered l fragment fs file s = record { root = document (node (NodeOrigin.ExternProto 0) fs ∷ []) [] (extern (record { base = 20; fragment = fragment; used = false } ∷ []) ∷ []) s; library = record { base = 20; document = file } ∷ []; limits = l }
 
 -- the program's limits
 abbrev pub usual : Limits
@@ -97,5 +98,5 @@ seen g (Answer.Expanded e) = some (g e)
 
 -- a proof that unfolds this computes the definition
 unfoldable pub computed : Input → Answer
-unfolding nodeAt protoAt externProtoAt libraryFile topProtos firstNamed pickIn pickUrl member remember pickUrls picksFrom picks pickOf protoOfOrigin lastField bindR mapM foldM lookup chargeIf charge chargeEach paid valueNamed copyData value clone lookupExtern declare externProto reserveIf reserve copyOrigin associate isField copyBinding copyField isInterface copyTarget copyInterface copyRoute copyExtern copyStatement somes keptOrder contents copyPlain pushScope openScope takeDefault cloneOr interfaceValue store values place bodyStatement rootOf associationsOf recordInstance instantiate copyNode mappedOr copy statement statements answer expand
+unfolding nodeAt protoAt externProtoAt libraryFile topProtos firstNamed pickIn pickUrl member remember pickUrls picksFrom picks pickOf prototypeIn lastField bindR mapM foldM lookup chargeIf charge chargeEach paid valueNamed copyData value clone lookupExtern marked declare externProto reserveIf reserve copyOrigin associate isField copyBinding copyField isInterface copyTarget copyInterface copyRoute copyExtern copyStatement somes keptOrder contents copyPlain pushScope openScope takeDefault cloneOr interfaceValue store values place bodyStatement rootOf associationsOf recordInstance instantiate copyNode mappedOr copy statement statements answer expand
 computed I = expand I

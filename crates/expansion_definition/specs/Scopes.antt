@@ -2,14 +2,14 @@
 use mathlib.Core.Bool.{Bool, true, false}
 use mathlib.Core.List.{List, [], _∷_}
 use Prim.Native.Nat.{ℕ}
-use Rattle.pick_table.specs.Picks.{Pick}
+use Rattle.pick_table.specs.Picks.{Prototype}
 
 -- "Scope 0 is the root file. An instance opens a body scope; each declared default taken opens a default scope."
 -- A body: its PROTO, the opening scope. A default: its PROTO, the interface's index, the opening scope.
 pub data Scope : Type 0 where
   Root : Scope
-  Body : Pick → ℕ → Scope
-  Default : Pick → ℕ → ℕ → Scope
+  Body : Prototype → ℕ → Scope
+  Default : Prototype → ℕ → ℕ → Scope
 
 -- the document that the nodes of a scope live in
 abbrev pub scopeDocument : Scope → ℕ

@@ -9,7 +9,7 @@ use Rattle.sheet_check.specs.declared.grammar.Form.the-variants as form
 use Rattle.sheet_rows.specs.Rows.{rows}
 use Rattle.sheet_check.specs.Grammar.{checked}
 use Rattle.sheet_rows.specs.Parse.{documentOf}
-use Rattle.pick_table.specs.Picks.{Pick}
+use Rattle.pick_table.specs.Picks.{Prototype}
 use Rattle.expansion_definition.specs.Scopes.{Scope, scopeEntry}
 use Rattle.ast.specs.Lists.{flat}
 use Rattle.expansion_definition.specs.Expand.{LedgerEntry, Expansion, Answer, expand}
@@ -73,7 +73,7 @@ ledgerSaid zero l = []
 ledgerSaid (suc n) l = record { scope = getD l 0 0; document = getD l 1 0; source = getD l 2 0 } ∷ ledgerSaid n (drop 3 l)
 
 -- "kind (0 root, 1 body, 2 default), document, PROTO id, interface index from 0 (defaults only), opening scope"
-abbrev pub scopeSaid : ℕ → Pick → ℕ → ℕ → Scope
+abbrev pub scopeSaid : ℕ → Prototype → ℕ → ℕ → Scope
 scopeSaid zero p index opener = Scope.Root
 scopeSaid (suc zero) p index opener = Scope.Body p opener
 scopeSaid (suc (suc k)) p index opener = Scope.Default p index opener
@@ -105,6 +105,7 @@ pub record Accepted (c : Call) (r : After) : Type 0 where
   -- "The ledger has, for each of these scopes and each plain node reached in it, exactly one entry with that scope, document and source id, and no other entry.": ledgerOnce, ledger, ledgerSize. Entry k is node k's: ledgerOrder, typeNames.
   -- "And only a loop doubles a pod: whenever no instance reached in any of these scopes reaches itself, the body scopes opened = the sum, over all these scopes, of the instances reached in each.": pods.
   -- Document 02, wish 6, "The double-count guarantee covers the new default scopes as well.": defaultCount.
+  -- Document 02, wish 1, "In the output, that url row has c = 1 and every other url row c = 0.": supplied.
   -- Document 01, Charges: the charges told are the items of its list, no more and no fewer: charges.
   pub expanded : Expanded (input c) (said r)
   -- "The output is exactly what document 01's steps give"

@@ -1,5 +1,6 @@
 -- The output of every accepted expansion: in range, expanded, and so a sheet that says it.
 use mathlib.Core.Path.{_≡_, refl, subst}
+use mathlib.Core.Bool.{true}
 use mathlib.Core.List.{List}
 use Prim.Native.Nat.{ℕ}
 use native.Mathlib.Omega.{arith}
@@ -12,7 +13,7 @@ use Rattle.sheet_rows.specs.Parse.{documentOf}
 use Rattle.sheet_rows.specs.Print.{documentRows}
 use Rattle.sheet_roundtrip.specs.Ranges.{InRange}
 use Rattle.ast.specs.Expanded.{IsExpanded}
-use Rattle.sheet_roundtrip.proofs.RoundTrip.{expanded-fits, root-parsed-back}
+use Rattle.sheet_roundtrip.proofs.RoundTrip.{expanded-fits, document-parsed-back}
 use Rattle.expansion_definition.specs.Input.{Input}
 use Rattle.expansion_definition.specs.State.{Result, refusal, ok, startState}
 use Rattle.expansion_definition.specs.Expand.{statements, Expansion, Answer, expansion, answer, expand}
@@ -25,13 +26,13 @@ use Rattle.expansion_output.proofs.RowCount.{rows-count}
 -- ---- in range
 
 -- The output of every accepted expansion is in range, if the input is.
-pub in-range : (I : Input) → InputInRange I → (e : Expansion) → expand I ≡ Answer.Expanded e → InRange (e .document)
+pub in-range : (I : Input) → InputInRange I → (e : Expansion) → expand I ≡ Answer.Expanded e → InRange true (e .document)
 unfolding expand answer
 in-range I given e = go (statements I startState) refl
   where
-    go : (r : Result (List Statement)) → statements I startState ≡ r → answer I r ≡ Answer.Expanded e → InRange (e .document)
+    go : (r : Result (List Statement)) → statements I startState ≡ r → answer I r ≡ Answer.Expanded e → InRange true (e .document)
     go (refusal c d i) q h = absurd (let z : _≡_ {A = ℕ} 0 1 = cc in omega arith)
-    go (ok l st) q h = let same : expansion I l st ≡ e = cc in subst (λ (x : Expansion). InRange (x .document)) same (output-in-range I given l st q)
+    go (ok l st) q h = let same : expansion I l st ≡ e = cc in subst (λ (x : Expansion). InRange true (x .document)) same (output-in-range I given l st q)
 
 -- ---- expanded
 
@@ -51,4 +52,4 @@ rows-fit I given e q = expanded-fits (e .document) (in-range I given e q) (is-ex
 
 -- And they say the output.
 pub rows-say : (I : Input) → InputInRange I → (e : Expansion) → expand I ≡ Answer.Expanded e → documentOf (documentRows (e .document)) ≡ e .document
-rows-say I given e q = root-parsed-back (e .document) (in-range I given e q)
+rows-say I given e q = document-parsed-back true (e .document) (in-range I given e q)

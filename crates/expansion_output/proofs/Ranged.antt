@@ -7,19 +7,19 @@ use Prim.Native.Nat.{ℕ, zero, suc, _≤_, _<_}
 use native.Mathlib.Omega.{arith}
 use lib.ListN.{length, getElem?, set, length-append}
 use lib.Dec.{T, ltb, ltb→lt}
-use Rattle.ast.specs.Ast.{NodeOrigin, FieldData, FieldValue, FieldBinding, Field, InterfaceDecl, Route, Statement, Association, ProtoInstance, Node, ProtoDecl, ExternProtoDecl, File}
+use Rattle.ast.specs.Ast.{NodeOrigin, FieldData, FieldValue, FieldBinding, Field, InterfaceDecl, Route, Statement, Association, ProtoInstance, Node, ProtoDecl, Url, ExternProtoDecl, File}
 use Rattle.ast.specs.Choice.{andThen, mapO}
 use Rattle.ast.specs.Lookups.{nodeAt, protoAt, externProtoAt}
-use Rattle.pick_table.specs.Picks.{Pick}
+use Rattle.pick_table.specs.Picks.{Prototype}
 use Rattle.ast.specs.Each.{Each}
-use Rattle.sheet_roundtrip.specs.Ranges.{IsName, IsPresent, DataInRange, ValueInRange, BindingInRange, FieldInRange, DefaultInRange, InterfaceInRange, RouteInRange, StatementInRange, AssociationInRange, InstanceInRange, OriginInRange, NodeInRange, ProtoInRange, ExternInterfaceInRange, ExternProtoInRange, InRange, FileInRange}
-use Rattle.expansion_definition.specs.Input.{Input, docs, lastField}
+use Rattle.sheet_roundtrip.specs.Ranges.{IsName, IsPresent, DataInRange, ValueInRange, BindingInRange, FieldInRange, DefaultInRange, InterfaceInRange, RouteInRange, StatementInRange, AssociationInRange, InstanceInRange, OriginInRange, NodeInRange, ProtoInRange, ExternInterfaceInRange, UrlInRange, ExternProtoInRange, InRange, FileInRange}
+use Rattle.expansion_definition.specs.Input.{Input, docs, usedUrl, lastField}
 use Rattle.expansion_definition.specs.Scopes.{Scope}
 use Rattle.expansion_definition.specs.Ids.{dataIds}
 use Rattle.expansion_definition.specs.State.{State, ok, Comp, _>>=_, ret, mapM, foldM, withNodes, startState}
 use Rattle.expansion_definition.specs.Charges.{oneMore, chargeIf, charge, chargeEach, paid}
 use Rattle.expansion_definition.specs.Values.{Values, valueNamed, Env, src, Copier, copyData, value, clone}
-use Rattle.expansion_definition.specs.Externs.{lookupExtern, noValue, pushExtern, declare, externProto}
+use Rattle.expansion_definition.specs.Externs.{lookupExtern, noValue, marked, declared, pushExtern, declare, externProto}
 use Rattle.expansion_definition.specs.PlainCopy.{blankNode, reserveIf, reserve, copyOrigin, associate, isValue, isField, copyBinding, copyField, isInterface, copyTarget, copyInterface, remapRoute, copyRoute, copyExtern, copyStatement, somes, keptOrder, contents, copyPlain}
 use Rattle.expansion_definition.specs.Instances.{pushScope, openScope, takeDefault, cloneOr, interfaceValue, store, values, Body, place, bodyStatement, rootOf, associationsOf, withInstance, update, recordInstance, instantiate}
 use Rattle.expansion_definition.specs.Copy.{copyNode, mappedOr, copy}
@@ -43,9 +43,9 @@ module _ (I : Input) (given : InputInRange I) where
   unfolding protoAt
   proto-at d i = opt-then Source ProtoInRange (getElem? (docs I) d) (λ x. getElem? (x .protos) i) (each-get Source (docs I) d docs-ok) (λ x h. each-get ProtoInRange (x .protos) i (h .0 .protos))
 
-  extern-at : (d i : ℕ) → Opt ExternProtoInRange (externProtoAt (docs I) d i)
+  extern-at : (d i : ℕ) → Opt (ExternProtoInRange false) (externProtoAt (docs I) d i)
   unfolding externProtoAt
-  extern-at d i = opt-then Source ExternProtoInRange (getElem? (docs I) d) (λ x. getElem? (x .externProtos) i) (each-get Source (docs I) d docs-ok) (λ x h. each-get ExternProtoInRange (x .externProtos) i (h .0 .externProtos))
+  extern-at d i = opt-then Source (ExternProtoInRange false) (getElem? (docs I) d) (λ x. getElem? (x .externProtos) i) (each-get Source (docs I) d docs-ok) (λ x h. each-get (ExternProtoInRange false) (x .externProtos) i (h .0 .externProtos))
 
   -- ---- steps: each leads from a state in range to one, and `f-good` says what f answers
 
@@ -123,6 +123,12 @@ module _ (I : Input) (given : InputInRange I) where
 
   -- ---- externs
 
+  -- the urls of a declared extern, marked
+  marked-ok : (used : Option ℕ) (n : ℕ) (l : List Url) → Each (UrlInRange false) l → Each (UrlInRange true) (marked used n l)
+  unfolding marked
+  marked-ok used n [] h = tt
+  marked-ok used n (u ∷ l) h = (record { base = h .0 .base; fragment = h .0 .fragment; used = tt }, marked-ok used (suc n) l (h .1))
+
   -- a charge is left for an extern more
   record Spare (st : State) : Type 0 where
     ranged : Ranged I st
@@ -137,23 +143,23 @@ module _ (I : Input) (given : InputInRange I) where
   unfolding externProto declare
   externProto-good env x st b = go (lookupExtern (st .externMap) (src env) x) (lookupExtern-ok (st .externMap) (src env) x (b .externMap)) (externProtoAt (docs I) (src env) x) (extern-at (src env) x)
     where
-      push : (decl : ExternProtoDecl) → ExternProtoInRange decl → (s : State) → Spare s → Post I IsName (length (s .externProtos)) (pushExtern (src env) x decl s)
+      push : (decl : ExternProtoDecl) → ExternProtoInRange false decl → (s : State) → Spare s → Post I IsName (length (s .externProtos)) (pushExtern (src env) x (declared (usedUrl I (src env) x) decl) s)
       push decl h s p =
           let id : IsName (length (s .externProtos)) = omega (arith, p .left, p .ranged .capped, given .maxRows) in
           record {
             ranged = record {
               mapped = p .ranged .mapped;
               nodes = p .ranged .nodes;
-              externProtos = each-snoc ExternProtoInRange (s .externProtos) _ (p .ranged .externProtos) (record { name = h .name; interface = each-map ExternInterfaceInRange ExternInterfaceInRange noValue (λ d q. (record { access = q .0 .access; tag = q .0 .tag; name = q .0 .name; value = tt; is = q .0 .is }, refl)) (decl .interface) (h .interface); urls = h .urls });
+              externProtos = each-snoc (ExternProtoInRange true) (s .externProtos) _ (p .ranged .externProtos) (record { name = h .name; interface = each-map ExternInterfaceInRange ExternInterfaceInRange noValue (λ d q. (record { access = q .0 .access; tag = q .0 .tag; name = q .0 .name; value = tt; is = q .0 .is }, refl)) (decl .interface) (h .interface); urls = marked-ok (usedUrl I (src env) x) 0 (decl .urls) (h .urls) });
               externMap = (id, p .ranged .externMap);
               isMap = p .ranged .isMap;
-              externsPaid = omega (arith, p .left, length-append (s .externProtos) (record { name = decl .name; interface = map noValue (decl .interface); urls = decl .urls } ∷ []));
+              externsPaid = omega (arith, p .left, length-append (s .externProtos) (declared (usedUrl I (src env) x) decl ∷ []));
               capped = p .ranged .capped;
             };
             res = id;
           }
 
-      go : (o : Option ℕ) → Opt IsName o → (decl : Option ExternProtoDecl) → Opt ExternProtoInRange decl → Out (Post I IsName) (declare I (src env) x o decl st)
+      go : (o : Option ℕ) → Opt IsName o → (decl : Option ExternProtoDecl) → Opt (ExternProtoInRange false) decl → Out (Post I IsName) (declare I (src env) x o decl st)
       go (some n) h decl k = accepted (record { ranged = b; res = h })
       go none h none k = refused tt
       go none h (some decl) k =
@@ -287,7 +293,7 @@ module _ (I : Input) (given : InputInRange I) where
   store-good name vs h none q = good-ret h
   store-good name vs h (some v) q = paid-good (good-ret (q, h))
 
-  values-good : (f : Env → Copier) → Goods f → (env : Env) → EnvOk env → (p : Pick) (fields : List Field) → Each FieldInRange fields → (k : ℕ) (l : List InterfaceDecl) → Each InterfaceInRange l → (vs : Values) → ValuesInRange vs → Good I ValuesInRange (values I f env p fields k l vs)
+  values-good : (f : Env → Copier) → Goods f → (env : Env) → EnvOk env → (p : Prototype) (fields : List Field) → Each FieldInRange fields → (k : ℕ) (l : List InterfaceDecl) → Each InterfaceInRange l → (vs : Values) → ValuesInRange vs → Good I ValuesInRange (values I f env p fields k l vs)
   unfolding values
   values-good f hf env he p fields h k [] e vs q = good-ret q
   values-good f hf env he p fields h k (d ∷ l) e vs q =
@@ -320,7 +326,7 @@ module _ (I : Input) (given : InputInRange I) where
   body-good f hf env i inner he [] e b h = good-ret h
   body-good f hf env i inner he (s ∷ l) e b h = good-bind (bodyStatement-good f hf env i inner he b h s (e .0)) (λ c p. body-good f hf env i inner he l (e .1) c p)
 
-  rootOf-good : (p : Pick) (root : Option ℕ) → Opt IsName root → Good I IsName (rootOf p root)
+  rootOf-good : (p : Prototype) (root : Option ℕ) → Opt IsName root → Good I IsName (rootOf p root)
   unfolding rootOf
   rootOf-good p none h = λ st b. refused tt
   rootOf-good p (some o) h = good-ret h
@@ -339,7 +345,7 @@ module _ (I : Input) (given : InputInRange I) where
       go none q = record { mapped = r .mapped; nodes = r .nodes; externProtos = r .externProtos; externMap = r .externMap; isMap = r .isMap; externsPaid = r .externsPaid; capped = r .capped }
       go (some node) q = set-ranged o (withInstance defName x node) st (instance-ok defName x node hd hx q) r
 
-  instantiate-good : (f : Env → Copier) → Goods f → (env : Env) → EnvOk env → (i : ℕ) (node : Node) → SourceNode node → (p : Pick) (decl : Option ProtoDecl) → Opt ProtoInRange decl → Good I IsName (instantiate I f env i node p decl)
+  instantiate-good : (f : Env → Copier) → Goods f → (env : Env) → EnvOk env → (i : ℕ) (node : Node) → SourceNode node → (p : Prototype) (decl : Option ProtoDecl) → Opt ProtoInRange decl → Good I IsName (instantiate I f env i node p decl)
   unfolding instantiate
   instantiate-good f hf env he i node h p none q = λ st b. refused tt
   instantiate-good f hf env he i node h p (some decl) q =
@@ -351,7 +357,7 @@ module _ (I : Input) (given : InputInRange I) where
 
   -- ---- the copier
 
-  copyNode-good : (f : Env → Copier) → Goods f → (env : Env) → EnvOk env → (i : ℕ) (node : Node) → SourceNode node → (p : Option Pick) → Good I IsName (copyNode I f env i node p)
+  copyNode-good : (f : Env → Copier) → Goods f → (env : Env) → EnvOk env → (i : ℕ) (node : Node) → SourceNode node → (p : Option Prototype) → Good I IsName (copyNode I f env i node p)
   unfolding copyNode
   copyNode-good f hf env he i node h none = copyPlain-good f hf env he i node h
   copyNode-good f hf env he i node h (some p) = instantiate-good f hf env he i node h p (protoAt (docs I) (p .document) (p .proto)) (proto-at (p .document) (p .proto))
@@ -386,7 +392,7 @@ module _ (I : Input) (given : InputInRange I) where
   start-ranged = record { mapped = tt; nodes = tt; externProtos = tt; externMap = tt; isMap = tt; externsPaid = omega arith; capped = omega arith }
 
   -- The output of a run that is not refused is in range.
-  pub output-in-range : (l : List Statement) (st : State) → statements I startState ≡ ok l st → InRange (output I l st)
+  pub output-in-range : (l : List Statement) (st : State) → statements I startState ≡ ok l st → InRange true (output I l st)
   output-in-range l st e =
       let p : Post I (Each StatementInRange) l st = atOk (statements-good startState start-ranged) e in
       record { nodes = p .ranged .nodes; protos = tt; externProtos = p .ranged .externProtos; statements = p .res }

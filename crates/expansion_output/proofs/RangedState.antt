@@ -33,7 +33,7 @@ present n h e = omega arith
 pub record Ranged (I : Input) (st : State) : Type 0 where
   pub mapped : Each (λ e. IsName (e .out)) (st .world .map)
   pub nodes : Each NodeInRange (st .nodes)
-  pub externProtos : Each ExternProtoInRange (st .externProtos)
+  pub externProtos : Each (ExternProtoInRange true) (st .externProtos)
   pub externMap : Each (λ e. IsName (e .out)) (st .externMap)
   pub isMap : Each (λ x. AssociationInRange (x .1)) (st .isMap)
   -- each extern is charged, so that its id is a name
@@ -62,7 +62,7 @@ abbrev pub SourceInterface : InterfaceDecl → Type 0
 SourceInterface d = InterfaceInRange d × IsTarget (d .is)
 
 abbrev pub Source : Document → Type 0
-Source x = InRange x × Targets x
+Source x = InRange false x × Targets x
 
 -- What a map answers is a name.
 pub lookup-ok : (m : List Entry) (s i : ℕ) → Each (λ e. IsName (e .out)) m → Opt IsName (lookup m s i)

@@ -1,4 +1,5 @@
 -- An input whose sheets fit and whose limits are within their caps: what refusals 1 to 3 let by.
+use mathlib.Core.Bool.{false}
 use mathlib.Core.Option.{Option, none, some}
 use Prim.Native.Nat.{ℕ, _≤_}
 use Rattle.ast.specs.Ast.{Document, Node}
@@ -18,7 +19,7 @@ abbrev pub Targets : Document → Type 0
 Targets x = Each NodeTargets (x .nodes)
 
 pub record InputInRange (I : Input) : Type 0 where
-  pub root : InRange (I .root)
+  pub root : InRange false (I .root)
   pub rootTargets : Targets (I .root)
   pub library : Each FileInRange (I .library)
   pub libraryTargets : Each (λ f. Targets (f .document)) (I .library)

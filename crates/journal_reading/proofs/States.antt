@@ -39,7 +39,7 @@ pub scope-lasting : Lasting scopeRec
 scope-lasting = record { same = λ r w w′ f. rw (word f 1, word f 2, word f 3, word f 4, word f 5) }
 
 pub extern-lasting : (root library : List ℕ) → Lasting (externRec root library)
-extern-lasting root library = record { same = λ r w w′ f. rw (word f 1, word f 4) }
+extern-lasting root library = record { same = λ r w w′ f. rw (word f 1, word f 4, word f 6) }
 
 pub externEntry-lasting : Lasting externEntryRec
 externEntry-lasting = record { same = λ r w w′ f. rw (word f 1, word f 2, word f 3) }
@@ -260,11 +260,11 @@ module _ (root library : List ℕ) {c : ℕ} {w w′ : List ℕ} (q : RecordsSta
 
     -- an extern
     module _ (e : r .tag ≡ tagExtern) where
-      extern-new : externsOf root library w′ (c + 1) ≡ externsOf root library w c ++ (externBy root library (r .a) (r .d) ∷ [])
+      extern-new : externsOf root library w′ (c + 1) ≡ externsOf root library w c ++ (externBy root library (r .a) (r .d) (r .f) ∷ [])
       unfolding externsOf
       extern-new =
           up-new (λ u. tagged u tagExtern) (tagged-stable tagExtern) (externRec root library) (extern-lasting root library) (q .fixed) (tagged-here w′ tagExtern c (o .at0 ∙ e))
-          ∙ rw (put 1 (r .a) (rw e (omega arith)) (o .at1), put 4 (r .d) (rw e (omega arith)) (o .at4))
+          ∙ rw (put 1 (r .a) (rw e (omega arith)) (o .at1), put 4 (r .d) (rw e (omega arith)) (o .at4), put 6 (r .f) (rw e (omega arith)) (o .at6))
 
       extern-entry : externMapOf w′ (c + 1) ≡ record { document = r .a; id = r .b; out = r .c } ∷ externMapOf w c
       unfolding externMapOf
@@ -272,7 +272,7 @@ module _ (root library : List ℕ) {c : ℕ} {w w′ : List ℕ} (q : RecordsSta
           down-new (λ u. tagged u tagExtern) (tagged-stable tagExtern) externEntryRec externEntry-lasting (q .fixed) (tagged-here w′ tagExtern c (o .at0 ∙ e))
           ∙ rw (put 1 (r .a) (rw e (omega arith)) (o .at1), put 2 (r .b) (rw e (omega arith)) (o .at2), put 3 (r .c) (rw e (omega arith)) (o .at3))
 
-      pub state-extern : stateOf root library w′ (c + 1) ≡ withExterns (externsOf root library w c ++ (externBy root library (r .a) (r .d) ∷ [])) (record { document = r .a; id = r .b; out = r .c } ∷ externMapOf w c) (oneMore before)
+      pub state-extern : stateOf root library w′ (c + 1) ≡ withExterns (externsOf root library w c ++ (externBy root library (r .a) (r .d) (r .f) ∷ [])) (record { document = r .a; id = r .b; out = r .c } ∷ externMapOf w c) (oneMore before)
       state-extern =
           rw (
             maps (λ z. omega arith),

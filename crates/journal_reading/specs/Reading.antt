@@ -1,7 +1,7 @@
 -- How the records of the journal are read as parts of the expansion's state.
 -- A handle is the place of a list's last record with one added, 0 for an empty list; word 8 of a record is the one before it.
 -- What is read by `fixedWord` never changes; what is read by `cell` may: a node's contents, and a route's remapped ends.
-use mathlib.Core.List.{List, [], _∷_, _++_, map}
+use mathlib.Core.List.{List, [], _∷_, _++_}
 use mathlib.Core.Option.{Option, none, some}
 use Prim.Native.Nat.{ℕ}
 use lib.ListN.{drop}
@@ -12,11 +12,12 @@ use Rattle.sheet_rows.specs.Rows.{rows}
 use Rattle.sheet_rows.specs.Parse.{optional, statementOf, bodyElementOf, originOf, externProtoOf}
 use Rattle.sheet_rows.specs.Print.{row}
 use Rattle.sheet_lookup.specs.Lookup.{sheetOf}
-use Rattle.pick_table.specs.Picks.{Pick}
+use Rattle.pick_table.specs.Picks.{Prototype}
+use Rattle.pick_table.specs.Chosen.{urlBy}
 use Rattle.expansion_definition.specs.Scopes.{Scope}
 use Rattle.expansion_definition.specs.State.{Entry, ExternEntry, State}
 use Rattle.expansion_definition.specs.Values.{Values}
-use Rattle.expansion_definition.specs.Externs.{noValue}
+use Rattle.expansion_definition.specs.Externs.{declared}
 use Rattle.expansion_definition.specs.Instances.{Body}
 use Rattle.journal_records.specs.declared.Record.{Record}
 use Rattle.journal_records.specs.Records.{tagMap, tagExtern, tagNode, tagScope, tagRoot, tagRoute, tagAssociation, cell, stays}
@@ -216,21 +217,19 @@ nodeRec w r = nodeBy w (cell w r 3) (cell w r 4) (cell w r 5) (cell w r 6) (cell
 
 abbrev pub scopeBy : ℕ → ℕ → ℕ → ℕ → ℕ → Scope
 scopeBy kind document proto index opener =
-    let p : Pick = record { document = document; proto = proto } in
+    let p : Prototype = record { document = document; proto = proto } in
     choose (eqb kind 0) Scope.Root (choose (eqb kind 1) (Scope.Body p opener) (Scope.Default p index opener))
 
 abbrev pub scopeRec : List ℕ → ℕ → Scope
 scopeRec w r = scopeBy (fixedWord w r 1) (fixedWord w r 2) (fixedWord w r 3) (fixedWord w r 4) (fixedWord w r 5)
 
--- ---- externs: document, id, its id in the output, the row that declares it
+-- ---- externs: document, id, its id in the output, the row that declares it, its slot, the mark of the url that was taken
 
-abbrev pub externBy : List ℕ → List ℕ → ℕ → ℕ → ExternProtoDecl
-externBy root library document at =
-    let x : ExternProtoDecl = externProtoOf (drop at (rows (sheetOf root library document))) in
-    record { name = x .name; interface = map noValue (x .interface); urls = x .urls }
+abbrev pub externBy : List ℕ → List ℕ → ℕ → ℕ → ℕ → ExternProtoDecl
+externBy root library document at mark = declared (urlBy mark) (externProtoOf (drop at (rows (sheetOf root library document))))
 
 abbrev pub externRec : List ℕ → List ℕ → List ℕ → ℕ → ExternProtoDecl
-externRec root library w r = externBy root library (fixedWord w r 1) (fixedWord w r 4)
+externRec root library w r = externBy root library (fixedWord w r 1) (fixedWord w r 4) (fixedWord w r 6)
 
 -- ---- the state that the first c records stand for
 

@@ -11,7 +11,7 @@ use lib.Dec.{ltb}
 use borrow.Author.Tests.{lt-ltb, le-ltb}
 use Rattle.ast.specs.Ast.{Url, ExternProtoDecl, Document, File}
 use Rattle.ast.specs.Choice.{choose, andThen, mapO}
-use Rattle.pick_table.specs.Picks.{Pick, Bases, Picked, member, remember, pickUrl, orNext, tryUrl, pickUrls, picksFrom, picks, pickAt, basesFrom, finalBases}
+use Rattle.pick_table.specs.Picks.{Prototype, Bases, Picked, member, remember, pickUrl, orNext, tryUrl, pickUrls, picksFrom, picks, pickOf, basesFrom, finalBases}
 use Rattle.pick_table.specs.Table.{tableAfter}
 use Rattle.pick_table.proofs.MemberLaws.{member-more, member-last}
 
@@ -67,46 +67,46 @@ settled base T F =
 -- ---- the urls of an extern
 
 -- a url's step: the table after its base, and the pick of its file unless the base is skipped
-pub try-kept : (library : List File) (url : Url) (next : Bases → Picked) (T : Bases) (r : Option Bases) → tryUrl library url next T r ≡ orNext next (tableAfter T r) (andThen r (λ t. pickUrl library url))
-try-kept library url next T none = refl
-try-kept library url next T (some t) = refl
+pub try-kept : (library : List File) (n : ℕ) (url : Url) (next : Bases → Picked) (T : Bases) (r : Option Bases) → tryUrl library n url next T r ≡ orNext n next (tableAfter T r) (andThen r (λ t. pickUrl library url))
+try-kept library n url next T none = refl
+try-kept library n url next T (some t) = refl
 
 -- whatever a url leads to, the table grows
-grows-next : (next : Bases → Picked) (T : Bases) (p : Option Pick) → ((U : Bases) → Grows U (next U .1)) → Grows T (orNext next T p .1)
-grows-next next T none f = f T
-grows-next next T (some p) f = grows-same T
+grows-next : (n : ℕ) (next : Bases → Picked) (T : Bases) (p : Option Prototype) → ((U : Bases) → Grows U (next U .1)) → Grows T (orNext n next T p .1)
+grows-next n next T none f = f T
+grows-next n next T (some p) f = grows-same T
 
-grows-urls : (library : List File) (urls : List Url) (T : Bases) → Grows T (pickUrls library urls T .1)
+grows-urls : (library : List File) (n : ℕ) (urls : List Url) (T : Bases) → Grows T (pickUrls library n urls T .1)
 unfolding pickUrls
-grows-urls library [] T = grows-same T
-grows-urls library (u ∷ l) T =
+grows-urls library n [] T = grows-same T
+grows-urls library n (u ∷ l) T =
     let k = tableAfter T (remember (u .base) T) in
     let p = andThen (remember (u .base) T) (λ t. pickUrl library u) in
-    rw (try-kept library u (pickUrls library l) T (remember (u .base) T))
-    (grows-on (grows-kept (u .base) T) (grows-next (pickUrls library l) k p (grows-urls library l)))
+    rw (try-kept library n u (pickUrls library (suc n) l) T (remember (u .base) T))
+    (grows-on (grows-kept (u .base) T) (grows-next n (pickUrls library (suc n) l) k p (grows-urls library (suc n) l)))
 
 -- the urls after one that led to no pick are the same by F if they are so alone
-same-next : (next : Bases → Picked) (T F : Bases) (p : Option Pick) → (Grows (next T .1) F → next F ≡ (next T .0, F)) → Grows (orNext next T p .1) F → orNext next F p ≡ (orNext next T p .0, F)
-same-next next T F none f g = f g
-same-next next T F (some p) f g = refl
+same-next : (n : ℕ) (next : Bases → Picked) (T F : Bases) (p : Option Prototype) → (Grows (next T .1) F → next F ≡ (next T .0, F)) → Grows (orNext n next T p .1) F → orNext n next F p ≡ (orNext n next T p .0, F)
+same-next n next T F none f g = f g
+same-next n next T F (some p) f g = refl
 
 -- by F a url is tried or skipped as it was
-try-final : (library : List File) (url : Url) (next : Bases → Picked) (F : Bases) (r : Option Bases) → tryUrl library url next F (andThen r (λ t. some F)) ≡ orNext next F (andThen r (λ t. pickUrl library url))
-try-final library url next F none = refl
-try-final library url next F (some t) = refl
+try-final : (library : List File) (n : ℕ) (url : Url) (next : Bases → Picked) (F : Bases) (r : Option Bases) → tryUrl library n url next F (andThen r (λ t. some F)) ≡ orNext n next F (andThen r (λ t. pickUrl library url))
+try-final library n url next F none = refl
+try-final library n url next F (some t) = refl
 
 -- by a table that the urls' table grows to, the pick is the same and the table stays
-same-urls : (library : List File) (urls : List Url) (T F : Bases) → Grows (pickUrls library urls T .1) F → pickUrls library urls F ≡ (pickUrls library urls T .0, F)
+same-urls : (library : List File) (n : ℕ) (urls : List Url) (T F : Bases) → Grows (pickUrls library n urls T .1) F → pickUrls library n urls F ≡ (pickUrls library n urls T .0, F)
 unfolding pickUrls
-same-urls library [] T F g = refl
-same-urls library (u ∷ l) T F g =
-    let next = pickUrls library l in
+same-urls library n [] T F g = refl
+same-urls library n (u ∷ l) T F g =
+    let next = pickUrls library (suc n) l in
     let k = tableAfter T (remember (u .base) T) in
     let p = andThen (remember (u .base) T) (λ t. pickUrl library u) in
-    let e = try-kept library u next T (remember (u .base) T) in
-    let h : Grows (orNext next k p .1) F = rw e at g in
-    rw (e, settled (u .base) T F (grows-on (grows-next next k p (grows-urls library l)) h), try-final library u next F (remember (u .base) T))
-    (same-next next k F p (same-urls library l k F) h)
+    let e = try-kept library n u next T (remember (u .base) T) in
+    let h : Grows (orNext n next k p .1) F = rw e at g in
+    rw (e, settled (u .base) T F (grows-on (grows-next n next k p (grows-urls library (suc n) l)) h), try-final library n u next F (remember (u .base) T))
+    (same-next n next k F p (same-urls library (suc n) l k F) h)
 
 -- ---- the externs of the root
 
@@ -114,23 +114,23 @@ same-urls library (u ∷ l) T F g =
 pub grows-all : (library : List File) (l : List ExternProtoDecl) (T : Bases) → Grows T (basesFrom library l T)
 unfolding basesFrom
 grows-all library [] T = grows-same T
-grows-all library (x ∷ l) T = grows-on (grows-urls library (x .urls) T) (grows-all library l (pickUrls library (x .urls) T .1))
+grows-all library (x ∷ l) T = grows-on (grows-urls library 0 (x .urls) T) (grows-all library l (pickUrls library 0 (x .urls) T .1))
 
 -- each pick of a list of externs is the one by F
-final : (library : List File) (l : List ExternProtoDecl) (T F : Bases) (i : ℕ) → Grows (basesFrom library l T) F → getElem? (picksFrom library l T) i ≡ mapO (λ x. pickUrls library (x .urls) F .0) (getElem? l i)
+final : (library : List File) (l : List ExternProtoDecl) (T F : Bases) (i : ℕ) → Grows (basesFrom library l T) F → getElem? (picksFrom library l T) i ≡ mapO (λ x. pickUrls library 0 (x .urls) F .0) (getElem? l i)
 unfolding picksFrom basesFrom
 final library [] T F i g = refl
 final library (x ∷ l) T F zero g =
-    ap (λ (p : Picked). some (p .0)) (sym (same-urls library (x .urls) T F (grows-on (grows-all library l (pickUrls library (x .urls) T .1)) g)))
-final library (x ∷ l) T F (suc i) g = final library l (pickUrls library (x .urls) T .1) F i g
+    ap (λ (p : Picked). some (p .0)) (sym (same-urls library 0 (x .urls) T F (grows-on (grows-all library l (pickUrls library 0 (x .urls) T .1)) g)))
+final library (x ∷ l) T F (suc i) g = final library l (pickUrls library 0 (x .urls) T .1) F i g
 
 -- the law of the picks: the pick of an extern is the one that its urls lead to by the final table
-pub pick-final : (root : Document) (library : List File) (id : ℕ) → pickAt root library id ≡ andThen (getElem? (root .externProtos) id) (λ x. pickUrls library (x .urls) (finalBases root library) .0)
-unfolding pickAt picks finalBases
+pub pick-final : (root : Document) (library : List File) (id : ℕ) → pickOf root library 0 id ≡ andThen (getElem? (root .externProtos) id) (λ x. pickUrls library 0 (x .urls) (finalBases root library) .0)
+unfolding pickOf picks finalBases
 pick-final root library id =
     rw (final library (root .externProtos) [] (basesFrom library (root .externProtos) []) id (grows-same _))
     (go (getElem? (root .externProtos) id))
   where
-    go : (x : Option ExternProtoDecl) → andThen (mapO (λ x. pickUrls library (x .urls) (basesFrom library (root .externProtos) []) .0) x) (λ p. p) ≡ andThen x (λ x. pickUrls library (x .urls) (basesFrom library (root .externProtos) []) .0)
+    go : (x : Option ExternProtoDecl) → andThen (mapO (λ x. pickUrls library 0 (x .urls) (basesFrom library (root .externProtos) []) .0) x) (λ p. p) ≡ andThen x (λ x. pickUrls library 0 (x .urls) (basesFrom library (root .externProtos) []) .0)
     go none = refl
     go (some x) = refl

@@ -24,27 +24,35 @@ pub enum Chosen {
     Nothing,
 }
 
-// The pick of an extern beside the table of bases and the memo of the files.
+// The pick of an extern, with the index of the url that was taken (0 where none was), beside the table of bases and the memo
+// of the files.
 pub struct Choice {
     pub chosen: Chosen,
+    pub url: usize,
     pub table: Table,
     pub memo: Memo,
 }
 
 // What a url leads to, beside the memo.
-pub struct Led {
+pub struct UrlChoice {
     pub chosen: Chosen,
     pub memo: Memo,
 }
 
 // What a url leads to, by the file of its base.
-fn pick_from(library: &[u32], source: Source, fragment: u32, memo: Memo, slots: &mut [u32]) -> Led
+fn pick_from(
+    library: &[u32],
+    source: Source,
+    fragment: u32,
+    memo: Memo,
+    slots: &mut [u32],
+) -> UrlChoice
     requires { ⌜ Capped (now library) × MemoSound (rows (now library)) (now slots) memo ⌝ }
     ensures { λ x. ⌜ Leads (rows (now (library .entry))) source fragment (x .chosen) × MemoSound (rows (now (library .entry))) (now (slots .exit)) (x .memo) ⌝ }
 {
     let number = source.number;
     if number == 0 {
-        return Led {
+        return UrlChoice {
             chosen: Chosen::Nothing,
             memo,
         };
@@ -53,7 +61,7 @@ fn pick_from(library: &[u32], source: Source, fragment: u32, memo: Memo, slots: 
     let memo = picked.memo;
     let top = picked.top;
     let TopProto::At { id, row: _ } = top else {
-        return Led {
+        return UrlChoice {
             chosen: Chosen::Nothing,
             memo,
         };
@@ -62,7 +70,7 @@ fn pick_from(library: &[u32], source: Source, fragment: u32, memo: Memo, slots: 
         document: number,
         id,
     };
-    Led { chosen, memo }
+    UrlChoice { chosen, memo }
 }
 
 // The pick of the extern at a row of the root: its urls in order, the table and the memo passed through.
@@ -80,29 +88,33 @@ pub fn pick_urls(
     let mut table = table;
     let mut memo = memo;
     let mut at = row + 1;
+    let mut url = 0;
     loop {
         let Found::At(q) = walk::seek(root, Part::Urls, at) else {
             return Choice {
                 chosen: Chosen::Nothing,
+                url: 0,
                 table,
                 memo,
             };
         };
         at = q + 1;
-        let url = row::row_at(root, q);
-        let looked = table::remember(library, table, url.a);
+        let r = row::row_at(root, q);
+        let looked = table::remember(library, table, r.a);
         table = looked.table;
         let source = looked.source;
-        let led = pick_from(library, source, url.b, memo, slots);
+        let led = pick_from(library, source, r.b, memo, slots);
         memo = led.memo;
         let chosen = led.chosen;
         if let Chosen::Proto { document: _, id: _ } = chosen {
             return Choice {
                 chosen,
+                url,
                 table,
                 memo,
             };
         }
+        url += 1;
     }
 }
 

@@ -92,3 +92,21 @@ numbers = refl
 past-the-rows : _≡_ {A = List Checked} (checkedNumbered 0 (sample ++ (1 ∷ [])) ∷ checkedNumbered 3 (1 ∷ []) ∷ checkedNumbered 4 (sample ++ (7 ∷ [])) ∷ []) (Bad 4 ∷ Bad 0 ∷ Bad 0 ∷ [])
 unfolding checkedNumbered sample rows run fits shapeFits roleOf moves
 past-the-rows = refl
+
+-- a document with an extern of one url, whose mark is c
+one-url : ℕ → List ℕ
+one-url c =
+    1 ∷ 5 ∷ 0 ∷ 0 ∷ 0 ∷ 0 ∷ 0 ∷ 0 ∷
+    8 ∷ 6 ∷ 0 ∷ 0 ∷ 0 ∷ 0 ∷ 0 ∷ 0 ∷
+    10 ∷ 20 ∷ 4294967295 ∷ c ∷ 0 ∷ 0 ∷ 0 ∷ 0 ∷
+    11 ∷ 0 ∷ 0 ∷ 0 ∷ 0 ∷ 0 ∷ 0 ∷ 0 ∷ []
+
+one-file : ℕ → List ℕ
+one-file c = 12 ∷ 3 ∷ 0 ∷ 0 ∷ 0 ∷ 0 ∷ 0 ∷ 0 ∷ one-url c
+
+-- "Sheets given to Expand keep 0 there; operations on an expanded document take 0 or 1." (document 02, wish 1)
+marks : _≡_ {A = List Checked}
+    (checked Root (rows (one-url 0)) ∷ checked Root (rows (one-url 1)) ∷ checked Library (rows (one-file 0)) ∷ checked Library (rows (one-file 1)) ∷ checked Expanded (rows (one-url 0)) ∷ checked Expanded (rows (one-url 1)) ∷ checked Expanded (rows (one-url 2)) ∷ [])
+    (Fits ∷ Bad 2 ∷ Fits ∷ Bad 3 ∷ Fits ∷ Fits ∷ Bad 2 ∷ [])
+unfolding one-url one-file rows run fits shapeFits roleOf moves
+marks = refl

@@ -97,9 +97,17 @@ moves form s r =
     (choose (ltb 0 (s .associations)) (goIf (eqb (r .kind) 14) (lessAssociation s))
     (byRole form s r (roleOf (r .kind)))))
 
+-- whether its urls may have marks: "Sheets given to Expand keep 0 there; operations on an expanded document take 0 or 1." (document 02, wish 1)
+abbrev pub takesMarks : Form → Bool
+takesMarks Root = false
+takesMarks Library = false
+takesMarks Expanded = true
+takesMarks Documents = true
+takesMarks Protos = false
+
 -- a row by its shape and its place
 abbrev pub rowFits : Form → State → Row → Next
-rowFits form s r = choose (shapeFits r) (moves form s r) No
+rowFits form s r = choose (shapeFits (takesMarks form) r) (moves form s r) No
 
 -- "An expanded document is a root sheet without kind 7, Proto statements or origin Proto, whose nodes hold only Route and ExternProto statements and whose interfaces with an IS have class 0."
 abbrev pub staysExpanded : State → Row → Bool

@@ -2,7 +2,7 @@
 use sheet_rows::row::NONE;
 use sheet_rows::row::Row;
 ghost use mathlib.Core.Path.{_≡_};
-ghost use Rattle.sheet_check.specs.Grammar.{isLibrary, beginsIn, endsIn, startsIn, staysExpanded, allowed, roleOf, openedPart, goIf, standsIn, comesIn, afterInner, byRole, moves, fits, hasEnded, start};
+ghost use Rattle.sheet_check.specs.Grammar.{isLibrary, takesMarks, beginsIn, endsIn, startsIn, staysExpanded, allowed, roleOf, openedPart, goIf, standsIn, comesIn, afterInner, byRole, moves, fits, hasEnded, start};
 
 // What a sheet is to be: a root sheet; a library; an expanded document, which is a root sheet without prototypes; expanded
 // documents one after another; protos without body statements.
@@ -62,6 +62,19 @@ fn starts_in(form: Form) -> u32
         Form::Expanded => 0,
         Form::Documents => 12,
         Form::Protos => 1,
+    }
+}
+
+// Whether its urls may have marks.
+fn takes_marks(form: Form) -> bool
+    ensures { λ x. ⌜ x ≡ takesMarks form ⌝ }
+{
+    match form {
+        Form::Root => false,
+        Form::Library => false,
+        Form::Expanded => true,
+        Form::Documents => true,
+        Form::Protos => false,
     }
 }
 
@@ -242,7 +255,7 @@ pub fn step(form: Form, s: State, r: Row) -> Next
     ensures { λ x. ⌜ x ≡ fits form s r ⌝ }
 {
     if allowed(form, s, r) {
-        if sheet_shape::shape_fits(r) {
+        if sheet_shape::shape_fits(takes_marks(form), r) {
             moves(form, s, r)
         } else {
             Next::No

@@ -1,5 +1,6 @@
 -- Documents one after another in one sheet (document 02, wish 5): the sheet and what it says determine each other.
 use mathlib.Core.Path.{_≡_, refl, sym, ap, ap₂, _∙_}
+use mathlib.Core.Bool.{true}
 use mathlib.Core.List.{List, [], _∷_, _++_, map}
 use mathlib.Core.Logic.{_↔_}
 use Prim.Native.Nat.{ℕ, suc}
@@ -47,7 +48,7 @@ unfolding documentsRows
 printed [] h = refl
 printed (x ∷ L) h = ap₂ _++_ (expanded-printed-back x (h .0)) (printed L (h .1))
 
-in-range : (L : List (List Row)) → Each (λ x. checked Expanded x ≡ Fits) L → Each InRange (map documentOf L) × Each IsExpanded (map documentOf L)
+in-range : (L : List (List Row)) → Each (λ x. checked Expanded x ≡ Fits) L → Each (InRange true) (map documentOf L) × Each IsExpanded (map documentOf L)
 in-range [] h = (tt, tt)
 in-range (x ∷ L) h = let a = expanded-in-range x (h .0) in let b = in-range L (h .1) in ((a .0, b .0), (a .1, b .1))
 
@@ -58,7 +59,7 @@ documents-say R h =
     ap documentsOf (sym (c .1) ∙ sym (printed (sheetsOf R) (c .0))) ∙ documents-parsed (map documentOf (sheetsOf R)) (in-range (sheetsOf R) (c .0) .0)
 
 -- they are in range and expanded
-pub documents-in-range : (R : List Row) → checked Documents R ≡ Fits → Each InRange (documentsOf R) × Each IsExpanded (documentsOf R)
+pub documents-in-range : (R : List Row) → checked Documents R ≡ Fits → Each (InRange true) (documentsOf R) × Each IsExpanded (documentsOf R)
 documents-in-range R h = rw (documents-say R h) (in-range (sheetsOf R) (cut R h .0))
 
 -- and written in the sheet's own rows
@@ -66,11 +67,11 @@ pub documents-printed-back : (R : List Row) → checked Documents R ≡ Fits →
 documents-printed-back R h = rw (documents-say R h) (printed (sheetsOf R) (cut R h .0) ∙ cut R h .1)
 
 -- documents in range are what their rows say
-pub documents-parsed-back : (L : List Document) → Each InRange L → documentsOf (documentsRows L) ≡ L
+pub documents-parsed-back : (L : List Document) → Each (InRange true) L → documentsOf (documentsRows L) ≡ L
 documents-parsed-back = documents-parsed
 
 -- and if they are expanded, their rows fit
-pub documents-fit : (L : List Document) → Each InRange L → Each IsExpanded L → checked Documents (documentsRows L) ≡ Fits
+pub documents-fit : (L : List Document) → Each (InRange true) L → Each IsExpanded L → checked Documents (documentsRows L) ≡ Fits
 unfolding documentsRows
 documents-fit L r k = ap (checked Documents) (rows-of L) ∙ join (map documentRows L) (each-fit L r k) .0
   where
@@ -78,10 +79,10 @@ documents-fit L r k = ap (checked Documents) (rows-of L) ∙ join (map documentR
     rows-of [] = refl
     rows-of (D ∷ L) = ap (_++_ (documentRows D)) (rows-of L)
 
-    each-fit : (L : List Document) → Each InRange L → Each IsExpanded L → Each (λ x. checked Expanded x ≡ Fits) (map documentRows L)
+    each-fit : (L : List Document) → Each (InRange true) L → Each IsExpanded L → Each (λ x. checked Expanded x ≡ Fits) (map documentRows L)
     each-fit [] r k = tt
     each-fit (D ∷ L) r k = (expanded-fits D (r .0) (k .0), each-fit L (r .1) (k .1))
 
 -- so the sheets that fit are the prints of such documents
-pub documents-sheets : (R : List Row) → (checked Documents R ≡ Fits) ↔ ((L : List Document) × Each InRange L × Each IsExpanded L × (documentsRows L ≡ R))
+pub documents-sheets : (R : List Row) → (checked Documents R ≡ Fits) ↔ ((L : List Document) × Each (InRange true) L × Each IsExpanded L × (documentsRows L ≡ R))
 documents-sheets R = ((λ h. (documentsOf R, documents-in-range R h .0, documents-in-range R h .1, documents-printed-back R h)), (λ w. ap (checked Documents) (sym (w .3)) ∙ documents-fit (w .0) (w .1) (w .2)))

@@ -25,7 +25,7 @@ use Rattle.sheet_forms.proofs.Cut.{joined}
 
 -- a sheet that fits begins with a row of kind 1, and has no other
 heads : (x : List Row) → checked Expanded x ≡ Fits → Heads 1 partKinds x
-heads x h = subst (Heads 1 partKinds) (expanded-printed-back x h) (document-heads (documentOf x))
+heads x h = subst (Heads 1 partKinds) (expanded-printed-back x h) (document-heads true (documentOf x))
 
 -- ---- it fits
 

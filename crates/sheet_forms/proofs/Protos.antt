@@ -61,7 +61,7 @@ same-moves s r = ap (λ (x : Next). choose (ltb 0 (s .ids)) (goIf (eqb (r .kind)
 
 same-fits : (s : State) (r : Row) → rowFits Protos s r ≡ fits Root s r
 unfolding fits
-same-fits s r = ap (λ (x : Next). choose (shapeFits r) x No) (same-moves s r)
+same-fits s r = ap (λ (x : Next). choose (shapeFits false r) x No) (same-moves s r)
 
 -- ---- from a root sheet to protos
 
@@ -95,15 +95,15 @@ pays false false false true u t h = no-go h
 module _ (s t : State) (a b c d e f g : ℕ) (i : Inside s) where
   seven : fits Root s (row 7 a b c d e f g) ≡ Go t → Inside t
   unfolding fits moves roleOf
-  seven h = let x = goes (ltb 0 (s .ids)) (ltb 0 (s .routes)) (ltb 0 (s .associations)) (shapeFits (row 7 a b c d e f g)) (leb 1 (s .part) && leb (s .part) 7 && ltb (s .part) 11) (openedPart 7) t h in subst Inside (x .to) (omega arith)
+  seven h = let x = goes (ltb 0 (s .ids)) (ltb 0 (s .routes)) (ltb 0 (s .associations)) (shapeFits false (row 7 a b c d e f g)) (leb 1 (s .part) && leb (s .part) 7 && ltb (s .part) 11) (openedPart 7) t h in subst Inside (x .to) (omega arith)
 
   four : fits Root s (row 4 a b c d e f g) ≡ Go t → Inside t
   unfolding fits moves roleOf
-  four h = let x = goes (ltb 0 (s .ids)) (ltb 0 (s .routes)) (ltb 0 (s .associations)) (shapeFits (row 4 a b c d e f g)) (comesIn s (row 4 a b c d e f g)) (afterInner s (row 4 a b c d e f g)) t h in subst Inside (x .to) i
+  four h = let x = goes (ltb 0 (s .ids)) (ltb 0 (s .routes)) (ltb 0 (s .associations)) (shapeFits false (row 4 a b c d e f g)) (comesIn s (row 4 a b c d e f g)) (afterInner s (row 4 a b c d e f g)) t h in subst Inside (x .to) i
 
   nine : fits Root s (row 9 a b c d e f g) ≡ Go t → Inside t
   unfolding fits moves roleOf
-  nine h = subst Inside (pays (ltb 0 (s .ids)) (ltb 0 (s .routes)) (ltb 0 (s .associations)) (shapeFits (row 9 a b c d e f g)) (lessId s) t h) i
+  nine h = subst Inside (pays (ltb 0 (s .ids)) (ltb 0 (s .routes)) (ltb 0 (s .associations)) (shapeFits false (row 9 a b c d e f g)) (lessId s) t h) i
 
 stays-inside : (s t : State) (r : Row) → staysBare r ≡ true → fits Root s r ≡ Go t → Inside s → Inside t
 stays-inside s t r b h i = ⊎-elim (λ x. ⊎-elim (λ (e : eqb (r .kind) 7 ≡ true). seven s t (r .a) (r .b) (r .c) (r .d) (r .e) (r .f) (r .g) i (of-kind 7 (eqb-true (r .kind) 7 e))) (λ (e : eqb (r .kind) 4 ≡ true). four s t (r .a) (r .b) (r .c) (r .d) (r .e) (r .f) (r .g) i (of-kind 4 (eqb-true (r .kind) 4 e))) (or-e (eqb (r .kind) 7) (eqb (r .kind) 4) x)) (λ (e : eqb (r .kind) 9 ≡ true). nine s t (r .a) (r .b) (r .c) (r .d) (r .e) (r .f) (r .g) i (of-kind 9 (eqb-true (r .kind) 9 e))) (or-e (eqb (r .kind) 7 || eqb (r .kind) 4) (eqb (r .kind) 9) b)

@@ -55,7 +55,7 @@ goes false false false true true u t h = record { ids = refl; routes = refl; ass
 -- ---- a row of kind 1
 
 abbrev Owing : State → Row → Bool → Next
-Owing s r E = choose (shapeFits r) (choose (ltb 0 (s .ids)) No (choose (ltb 0 (s .routes)) No (choose (ltb 0 (s .associations)) No (goIf E (openedPart 1))))) No
+Owing s r E = choose (shapeFits true r) (choose (ltb 0 (s .ids)) No (choose (ltb 0 (s .routes)) No (choose (ltb 0 (s .associations)) No (goIf E (openedPart 1))))) No
 
 several-row : (s : State) (r : Row) → r .kind ≡ 1 → fits Documents s r ≡ Owing s r (leb 11 (s .part))
 unfolding fits moves roleOf
@@ -68,13 +68,13 @@ one-row s r k = rw (as-kind r 1 k)
 -- the documents before it may end, and it starts one
 pub starts-here : (s t : State) (r : Row) → r .kind ≡ 1 → fits Documents s r ≡ Go t → (hasEnded Expanded s ≡ true) × (openedPart 1 ≡ t) × (fits Expanded (openedPart 0) r ≡ Go (openedPart 1))
 starts-here s t r k h =
-    let g = goes (ltb 0 (s .ids)) (ltb 0 (s .routes)) (ltb 0 (s .associations)) (shapeFits r) (leb 11 (s .part)) (openedPart 1) t (sym (several-row s r k) ∙ h) in
+    let g = goes (ltb 0 (s .ids)) (ltb 0 (s .routes)) (ltb 0 (s .associations)) (shapeFits true r) (leb 11 (s .part)) (openedPart 1) t (sym (several-row s r k) ∙ h) in
     (rw (g .place, none-owed (s .ids) (g .ids), none-owed (s .routes) (g .routes), none-owed (s .associations) (g .associations)), g .to, one-row (openedPart 0) r k ∙ rw (g .shape))
 
 -- where they have ended, it does
 pub starts-again : (s t : State) (r : Row) → r .kind ≡ 1 → hasEnded Expanded s ≡ true → fits Expanded (openedPart 0) r ≡ Go t → fits Documents s r ≡ Go t
 starts-again s t r k e h =
-    let g = goes false false false (shapeFits r) true (openedPart 1) t (sym (one-row (openedPart 0) r k) ∙ h) in
+    let g = goes false false false (shapeFits true r) true (openedPart 1) t (sym (one-row (openedPart 0) r k) ∙ h) in
     let a = and-l (leb 11 (s .part) && eqb (s .ids) 0 && eqb (s .routes) 0) (eqb (s .associations) 0) e in
     let b = and-l (leb 11 (s .part) && eqb (s .ids) 0) (eqb (s .routes) 0) a in
     several-row s r k ∙ rw (g .shape, owes-none (s .ids) (and-r (leb 11 (s .part)) (eqb (s .ids) 0) b), owes-none (s .routes) (and-r (leb 11 (s .part) && eqb (s .ids) 0) (eqb (s .routes) 0) a), owes-none (s .associations) (and-r (leb 11 (s .part) && eqb (s .ids) 0 && eqb (s .routes) 0) (eqb (s .associations) 0) e), and-l (leb 11 (s .part)) (eqb (s .ids) 0) b) (ap Go (g .to))
@@ -88,13 +88,13 @@ when false x y f = refl
 
 pub same-row : (s : State) (r : Row) → eqb (r .kind) 1 ≡ false → fits Documents s r ≡ fits Expanded s r
 unfolding fits moves
-same-row s r n = ap (λ (x : Next). choose (staysExpanded s r) x No) (when (shapeFits r) (moves Documents s r) (moves Expanded s r) by-roles)
+same-row s r n = ap (λ (x : Next). choose (staysExpanded s r) x No) (when (shapeFits true r) (moves Documents s r) (moves Expanded s r) by-roles)
   where
-    by-roles : shapeFits r ≡ true → moves Documents s r ≡ moves Expanded s r
+    by-roles : shapeFits true r ≡ true → moves Documents s r ≡ moves Expanded s r
     by-roles h = ap (λ (x : Next). choose (ltb 0 (s .ids)) (goIf (eqb (r .kind) 9) (lessId s)) (choose (ltb 0 (s .routes)) (goIf (eqb (r .kind) 5 && eqb (r .a) 3) (lessRoute s)) (choose (ltb 0 (s .associations)) (goIf (eqb (r .kind) 14) (lessAssociation s)) x))) (go (roleOf (r .kind)) refl)
       where
         go : (role : Role) → roleOf (r .kind) ≡ role → byRole Documents s r role ≡ byRole Expanded s r role
-        go Starts e = absurd (kind-by-role r h Starts e (λ k. eqb k 1 ≡ false → ⊥) ((λ z. never (sym z)), tt) n)
+        go Starts e = absurd (kind-by-role true r h Starts e (λ k. eqb k 1 ≡ false → ⊥) ((λ z. never (sym z)), tt) n)
         go Opens e = refl
         go Inner e = refl
         go Files e = refl
@@ -102,7 +102,7 @@ same-row s r n = ap (λ (x : Next). choose (staysExpanded s r) x No) (when (shap
         go Never e = refl
 
 -- a row that fits is of a kind from 1 to 14
-pub kind-passes : (r : Row) → shapeFits r ≡ true → passes DocumentsPart (r .kind) ≡ true
+pub kind-passes : (r : Row) → shapeFits true r ≡ true → passes DocumentsPart (r .kind) ≡ true
 unfolding shapeFits
 kind-passes r h =
     between (λ (k : ℕ). passes DocumentsPart k ≡ true) 14 1 (r .kind) (refl, (refl, (refl, (refl, (refl, (refl, (refl, (refl, (refl, (refl, (refl, (refl, (refl, (refl, tt)))))))))))))) (low (decLt 0 (r .kind))) (high (decLt (r .kind) 15))
@@ -113,9 +113,9 @@ kind-passes r h =
 
     high : Dec (r .kind < 15) → r .kind < 15
     high (yes z) = z
-    high (no z) = never (shape-none r (omega arith) ∙ h)
+    high (no z) = never (shape-none true r (omega arith) ∙ h)
 
 -- a row that fits has its shape
-pub has-shape : (s t : State) (r : Row) → fits Documents s r ≡ Go t → shapeFits r ≡ true
+pub has-shape : (s t : State) (r : Row) → fits Documents s r ≡ Go t → shapeFits true r ≡ true
 unfolding fits
-has-shape s t r h = go-l (shapeFits r) (moves Documents s r) t (go-r (staysExpanded s r) (choose (shapeFits r) (moves Documents s r) No) t h)
+has-shape s t r h = go-l (shapeFits true r) (moves Documents s r) t (go-r (staysExpanded s r) (choose (shapeFits true r) (moves Documents s r) No) t h)

@@ -2,8 +2,8 @@
 use mathlib.Core.Path.{_≡_, refl, sym, ap, _∙_}
 use mathlib.Core.List.{List, [], _∷_, map}
 use mathlib.Core.Logic.{⊎-elim}
-use mathlib.Core.Bool.{true, _&&_}
-use Prim.Native.Nat.{ℕ, _≤_, suc-le-suc}
+use mathlib.Core.Bool.{Bool, true, false, _&&_}
+use Prim.Native.Nat.{ℕ, zero, suc, _≤_, suc-le-suc}
 use native.Mathlib.Omega.{arith}
 use native.Mathlib.Decide.{ℕ-discrete}
 use lib.ListN.{length}
@@ -17,7 +17,7 @@ use Rattle.ast.specs.Choice.{choose}
 use Rattle.sheet_rows.specs.Rows.{none#}
 use Rattle.sheet_shape.specs.Shape.{isName, hasValue, zeroFromC, zeroFromE, originFits, routeFits, nodeFits, fieldFits, interfaceFits, statementFits, orderFits, nameFits, urlFits, topFits, associationFits, zeroFromB}
 use Rattle.sheet_rows.specs.Parse.{optional, idsOf, fieldOf, interfaceOf, statementOf, routeOf, bodyElementOf, originOf, associationOf, urlOf}
-use Rattle.sheet_rows.specs.Print.{row, class, amount, dataRows, topRow, orNone, idRow, fieldRows, interfaceRows, statementRow, routeRow, bodyElementRow, nodeRow, associationRow, urlRow}
+use Rattle.sheet_rows.specs.Print.{row, class, amount, dataRows, topRow, orNone, idRow, fieldRows, interfaceRows, statementRow, routeRow, bodyElementRow, nodeRow, associationRow, mark, urlRow}
 use Rattle.sheet_roundtrip.proofs.Tests.{or-e, tests}
 
 -- a number or none is written as it is read
@@ -59,10 +59,20 @@ name-back k a b c d e f g h = zero-b k a b c d e f g (and-r (isName a) _ h)
 pub top-back : (a b c d e f g : ℕ) → topFits (row 11 a b c d e f g) ≡ true → topRow ≡ row 11 a b c d e f g
 top-back a b c d e f g h = let ha : a ≡ 0 = search tests in rw ha (zero-b 11 0 b c d e f g (and-r (eqb a 0) _ h))
 
+-- a mark is read as it is written
+used-back : (m : Bool) (c : ℕ) → c ≤ mark m → mark (eqb c 1) ≡ c
+used-back m zero h = refl
+used-back m (suc zero) h = refl
+used-back true (suc (suc n)) h = absurd (omega arith)
+used-back false (suc (suc n)) h = absurd (omega arith)
+
 -- a url's row is the print of what it says
-pub url-back : (a b c d e f g : ℕ) (l : List Row) → urlFits (row 10 a b c d e f g) ≡ true → urlRow (urlOf (row 10 a b c d e f g ∷ l)) ≡ row 10 a b c d e f g
+pub url-back : (m : Bool) (a b c d e f g : ℕ) (l : List Row) → urlFits m (row 10 a b c d e f g) ≡ true → urlRow (urlOf (row 10 a b c d e f g ∷ l)) ≡ row 10 a b c d e f g
 unfolding urlOf
-url-back a b c d e f g l h = rw (num-opt b) (zero-c 10 a b c d e f g (and-r (isName a) _ h))
+url-back m a b c d e f g l h =
+    let hc : c ≤ mark m = search tests in
+    let hd : d ≡ 0 = search tests in
+    rw (num-opt b, used-back m c hc, hd) (zero-e 10 a b c 0 e f g (and-r (isName a && leb c (mark m) && eqb d 0) _ h))
 
 -- so is an association's
 pub assoc-back : (a b c d e f g : ℕ) (l : List Row) → associationFits (row 14 a b c d e f g) ≡ true → associationRow (associationOf (row 14 a b c d e f g ∷ l)) ≡ row 14 a b c d e f g

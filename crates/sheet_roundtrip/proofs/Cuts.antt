@@ -15,7 +15,7 @@ use Rattle.sheet_check.specs.declared.grammar.Role.the-variants.{Starts, Opens,
 use Rattle.sheet_check.specs.declared.grammar.Next.the-variants.{Go, No}
 use Rattle.ast.specs.Choice.{choose}
 use Rattle.sheet_shape.specs.Shape.{shapeFits}
-use Rattle.sheet_check.specs.Grammar.{roleOf, standsIn, comesIn, afterInner, byRole, moves, allowed, goIf, fits, hasEnded}
+use Rattle.sheet_check.specs.Grammar.{takesMarks, roleOf, standsIn, comesIn, afterInner, byRole, moves, allowed, goIf, fits, hasEnded}
 use Rattle.ast.specs.Lists.{flat}
 use Rattle.sheet_rows.specs.Print.{row}
 use Rattle.sheet_shape.proofs.Numbers.{between}
@@ -36,14 +36,14 @@ made true u t h = (refl, go-inj h)
 made false u t h = no-go h
 
 -- a row that fits has its shape, and moves on
-pub moved : (form : Form) (s : State) (r : Row) (l : List Row) → Accepts form s (r ∷ l) → (shapeFits r ≡ true) × ((t : State) × (moves form s r ≡ Go t) × Accepts form t l)
+pub moved : (form : Form) (s : State) (r : Row) (l : List Row) → Accepts form s (r ∷ l) → (shapeFits (takesMarks form) r ≡ true) × ((t : State) × (moves form s r ≡ Go t) × Accepts form t l)
 unfolding fits
 moved form s r l k =
-    let x = go-r (allowed form s r) (choose (shapeFits r) (moves form s r) No) (k .0) (k .1) in
-    (go-l (shapeFits r) (moves form s r) (k .0) x, (k .0, go-r (shapeFits r) (moves form s r) (k .0) x, k .2))
+    let x = go-r (allowed form s r) (choose (shapeFits (takesMarks form) r) (moves form s r) No) (k .0) (k .1) in
+    (go-l (shapeFits (takesMarks form) r) (moves form s r) (k .0) x, (k .0, go-r (shapeFits (takesMarks form) r) (moves form s r) (k .0) x, k .2))
 
 -- with nothing owed it moves by its role
-pub by-role : (form : Form) (p la : ℕ) (r : Row) (l : List Row) (role : Role) → roleOf (r .kind) ≡ role → Accepts form (bare p la) (r ∷ l) → (shapeFits r ≡ true) × ((t : State) × (byRole form (bare p la) r role ≡ Go t) × Accepts form t l)
+pub by-role : (form : Form) (p la : ℕ) (r : Row) (l : List Row) (role : Role) → roleOf (r .kind) ≡ role → Accepts form (bare p la) (r ∷ l) → (shapeFits (takesMarks form) r ≡ true) × ((t : State) × (byRole form (bare p la) r role ≡ Go t) × Accepts form t l)
 unfolding moves
 by-role form p la r l role h k = let x = moved form (bare p la) r l k in (x .0, (x .1 .0, ap (byRole form (bare p la) r) (sym h) ∙ x .1 .1, x .1 .2))
 
@@ -167,14 +167,14 @@ kindsOf Owed = 9 ∷ 14 ∷ []
 kindsOf Never = 0 ∷ []
 
 -- what holds of each kind of a role holds of a row of that role
-pub kind-by-role : (r : Row) → shapeFits r ≡ true → (role : Role) → roleOf (r .kind) ≡ role → (P : ℕ → Type 0) → Each P (kindsOf role) → P (r .kind)
+pub kind-by-role : (m : Bool) (r : Row) → shapeFits m r ≡ true → (role : Role) → roleOf (r .kind) ≡ role → (P : ℕ → Type 0) → Each P (kindsOf role) → P (r .kind)
 unfolding roleOf
-kind-by-role r s role h P p =
+kind-by-role m r s role h P p =
     by-member P (kindsOf role) p (r .kind) (rw h at (between (λ (k : ℕ). among k (kindsOf (roleOf k)) ≡ true) 15 0 (r .kind) (refl, (refl, (refl, (refl, (refl, (refl, (refl, (refl, (refl, (refl, (refl, (refl, (refl, (refl, (refl, tt))))))))))))))) (omega arith) (small (decLt (r .kind) 15))))
   where
     small : Dec (r .kind < 15) → r .kind < 15
     small (yes z) = z
-    small (no z) = never (shape-none r (omega arith) ∙ s)
+    small (no z) = never (shape-none m r (omega arith) ∙ s)
 
 -- no row of kind j stands in part q
 abbrev pub NotIn : ℕ → ℕ → Type 0
@@ -200,4 +200,4 @@ outer form q la (r ∷ l) c t = go
     go h =
         let x = by-role form q la r l Inner h t in
         let y : comesIn (bare q la) r ≡ true = tested form (comesIn (bare q la) r) (afterInner (bare q la) r) l (x .1) .0 in
-        kind-by-role r (x .0) Inner h (λ j. r .kind ≡ j → ⊥) (each-as (Closed q la (r ∷ l)) (λ j. r .kind ≡ j → ⊥) (barred (search tests) (search tests) (search tests)) (kindsOf Inner) c) refl
+        kind-by-role (takesMarks form) r (x .0) Inner h (λ j. r .kind ≡ j → ⊥) (each-as (Closed q la (r ∷ l)) (λ j. r .kind ≡ j → ⊥) (barred (search tests) (search tests) (search tests)) (kindsOf Inner) c) refl

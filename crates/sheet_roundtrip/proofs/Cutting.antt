@@ -18,7 +18,7 @@ use Rattle.sheet_check.specs.declared.grammar.Role.{Role}
 use Rattle.sheet_check.specs.declared.grammar.Role.the-variants.{Starts, Opens, Inner, Files, Owed, Never}
 use Rattle.ast.specs.Ast.{InterfaceDecl, Route, Association, ProtoInstance, Node, ProtoDecl, ExternProtoDecl, Document, File}
 use Rattle.sheet_shape.specs.Shape.{isName, shapeFits}
-use Rattle.sheet_check.specs.Grammar.{roleOf, standsIn, comesIn, afterInner, moves, isLibrary, beginsIn, endsIn, goIf, openedPart}
+use Rattle.sheet_check.specs.Grammar.{takesMarks, roleOf, standsIn, comesIn, afterInner, moves, isLibrary, beginsIn, endsIn, goIf, openedPart}
 use Rattle.sheet_rows.specs.Parse.{optional, idsOf, fieldOf, interfaceOf, routeOf, statementOf, bodyElementOf, associationOf, urlOf, originOf}
 use Rattle.ast.specs.Lists.{flat}
 use Rattle.sheet_rows.specs.Print.{row, idRow, fieldRows, interfaceRows, routeRow, statementRow, bodyElementRow, associationRow, instanceRows, anyInstanceRows, nodeRows, protoRows, urlRow, externProtoRows, topRow, documentRows, fileRows, libraryRows}
@@ -51,7 +51,7 @@ module _ (form : Form) (single : Single form) where
   -- ---- rows that are owed
 
   -- a row that is owed: its shape, its test, and what fits after it
-  owed : (s u : State) (r : Row) (l : List Row) (b : Bool) → moves form s r ≡ goIf b u → Accepts form s (r ∷ l) → (shapeFits r ≡ true) × ((b ≡ true) × Accepts form u l)
+  owed : (s u : State) (r : Row) (l : List Row) (b : Bool) → moves form s r ≡ goIf b u → Accepts form s (r ∷ l) → (shapeFits (takesMarks form) r ≡ true) × ((b ≡ true) × Accepts form u l)
   owed s u r l b h k = let x = moved form s r l k in (x .0, tested form b u l (x .1 .0, sym h ∙ x .1 .1, x .1 .2))
 
   -- an id that is owed
@@ -101,7 +101,7 @@ module _ (form : Form) (single : Single form) where
   -- a row of kind k owes ids by its columns f and g, and is with them the print of an element
   module _ {A : Type 0} (q k : ℕ) (J : List ℕ) (print : A → List Row) (G : A → Type 0) (owing : ℕ → ℕ → ℕ) (role : roleOf k ≡ Inner) (small : Each (λ j. j < k) J)
       (after : (la a b c d e f g : ℕ) → afterInner (bare q la) (row k a b c d e f g) ≡ at q k (owing f g) 0 0)
-      (back : (a b c d e f g : ℕ) (xs : List ℕ) → shapeFits (row k a b c d e f g) ≡ true → length xs ≡ owing f g → (x : A) × (print x ≡ row k a b c d e f g ∷ map idRow xs) × G x) where
+      (back : (a b c d e f g : ℕ) (xs : List ℕ) → shapeFits (takesMarks form) (row k a b c d e f g) ≡ true → length xs ≡ owing f g → (x : A) × (print x ≡ row k a b c d e f g ∷ map idRow xs) × G x) where
     -- one element, with its ids
     element-cut : (p la a b c d e f g : ℕ) (l : List Row) → Inside q k J p la (row k a b c d e f g ∷ l) → Accepts form (bare p la) (row k a b c d e f g ∷ l) → Cut form print G (Inside q k J) (row k a b c d e f g ∷ l)
     element-cut p la a b c d e f g l w t =
@@ -170,7 +170,7 @@ module _ (form : Form) (single : Single form) where
   unfolding roleOf shapeFits urlOf
   urls-section =
       section 8 10 (4 ∷ []) (one urlRow) (λ x. IsPresent (x .fragment)) (λ f g. 0) refl (omega arith) (λ la a b c d e f g. refl)
-      (λ a b c d e f g xs h n. let r = row 10 a b c d e f g in (urlOf (r ∷ []), alone (urlRow (urlOf (r ∷ []))) r xs n (url-back a b c d e f g [] h), present b))
+      (λ a b c d e f g xs h n. let r = row 10 a b c d e f g in (urlOf (r ∷ []), alone (urlRow (urlOf (r ∷ []))) r xs n (url-back (takesMarks form) a b c d e f g [] h), present b))
 
   -- ---- an instance
 
@@ -190,7 +190,7 @@ module _ (form : Form) (single : Single form) where
         s .5,
       )
     where
-      head : (xs : List ℕ) (ys : List Route) (zs : List Association) → length xs ≡ b → length ys ≡ c → length zs ≡ d → shapeFits (row 13 a b c d e f g) ≡ true → row 13 a b c d e f g ≡ row 13 a (length xs) (length ys) (length zs) 0 0 0
+      head : (xs : List ℕ) (ys : List Route) (zs : List Association) → length xs ≡ b → length ys ≡ c → length zs ≡ d → shapeFits (takesMarks form) (row 13 a b c d e f g) ≡ true → row 13 a b c d e f g ≡ row 13 a (length xs) (length ys) (length zs) 0 0 0
       head xs ys zs i j k h = rw (i, j, k) (sym (zero-e 13 a b c d e f g (and-r (isName a) _ h)))
 
   -- at most one, and then no other row of the node
@@ -221,7 +221,7 @@ module _ (form : Form) (single : Single form) where
       record { item = x; left = left; part = k; last = lb; is = e; less = omega arith; given = g; holds = (i, omega arith, o, beyond k left J s); goes = t }
 
   -- a row that opens a part: its shape, and what fits in the part
-  opened-by : (k : ℕ) → roleOf k ≡ Opens → (p la a b c d e f g : ℕ) (l : List Row) → Accepts form (bare p la) (row k a b c d e f g ∷ l) → (shapeFits (row k a b c d e f g) ≡ true) × Accepts form (bare k 0) l
+  opened-by : (k : ℕ) → roleOf k ≡ Opens → (p la a b c d e f g : ℕ) (l : List Row) → Accepts form (bare p la) (row k a b c d e f g ∷ l) → (shapeFits (takesMarks form) (row k a b c d e f g) ≡ true) × Accepts form (bare k 0) l
   opened-by k role p la a b c d e f g l t =
       let x = by-role form p la (row k a b c d e f g) l Opens role t in
       (x .0, tested form (leb 1 p && leb p k && ltb p 11) (openedPart k) l (x .1) .1)
@@ -278,15 +278,15 @@ module _ (form : Form) (single : Single form) where
   -- ---- a document
 
   -- a row that fits with nothing owed, by its role
-  roles : {X : Type 0} (p la : ℕ) (r : Row) (l : List Row) → Accepts form (bare p la) (r ∷ l) → (p ≡ 0 → r .kind ≡ 1 → shapeFits r ≡ true → Accepts form (bare 1 0) l → X) →
-      (1 ≤ p → p < 11 → p ≤ r .kind → roleOf (r .kind) ≡ Opens → shapeFits r ≡ true → Accepts form (bare (r .kind) 0) l → X) → (roleOf (r .kind) ≡ Inner → X) → (isLibrary form ≡ true → 11 ≤ p → r .kind ≡ 12 → X) → X
+  roles : {X : Type 0} (p la : ℕ) (r : Row) (l : List Row) → Accepts form (bare p la) (r ∷ l) → (p ≡ 0 → r .kind ≡ 1 → shapeFits (takesMarks form) r ≡ true → Accepts form (bare 1 0) l → X) →
+      (1 ≤ p → p < 11 → p ≤ r .kind → roleOf (r .kind) ≡ Opens → shapeFits (takesMarks form) r ≡ true → Accepts form (bare (r .kind) 0) l → X) → (roleOf (r .kind) ≡ Inner → X) → (isLibrary form ≡ true → 11 ≤ p → r .kind ≡ 12 → X) → X
   roles {X} p la r l t starts opens inner files = go (roleOf (r .kind)) refl
     where
       go : (role : Role) → roleOf (r .kind) ≡ role → X
       go Starts h =
           let x = by-role form p la r l Starts h t in
           let y = tested form (beginsIn form p) (openedPart 1) l (x .1) in
-          starts (eqb-true p 0 (sym (single .begins p) ∙ y .0)) (kind-by-role r (x .0) Starts h (λ k. k ≡ 1) (refl, tt)) (x .0) (y .1)
+          starts (eqb-true p 0 (sym (single .begins p) ∙ y .0)) (kind-by-role (takesMarks form) r (x .0) Starts h (λ k. k ≡ 1) (refl, tt)) (x .0) (y .1)
       go Opens h =
           let x = by-role form p la r l Opens h t in
           let y = tested form (leb 1 p && leb p (r .kind) && ltb p 11) (openedPart (r .kind)) l (x .1) in
@@ -296,7 +296,7 @@ module _ (form : Form) (single : Single form) where
       go Files h =
           let x = by-role form p la r l Files h t in
           let y = tested form (isLibrary form && leb 11 p) (openedPart 0) l (x .1) in
-          files (and-l (isLibrary form) (leb 11 p) (y .0)) (leb-true 11 p (and-r (isLibrary form) (leb 11 p) (y .0))) (kind-by-role r (x .0) Files h (λ k. k ≡ 12) (refl, tt))
+          files (and-l (isLibrary form) (leb 11 p) (y .0)) (leb-true 11 p (and-r (isLibrary form) (leb 11 p) (y .0))) (kind-by-role (takesMarks form) r (x .0) Files h (λ k. k ≡ 12) (refl, tt))
       go Owed h = no-go (by-role form p la r l Owed h t .1 .1)
       go Never h = no-go (by-role form p la r l Never h t .1 .1)
 
@@ -313,9 +313,9 @@ module _ (form : Form) (single : Single form) where
       gone : (k : ℕ) → Past p (r ∷ l) k → p ≤ r .kind → r .kind ≡ k → ⊥
       gone k x m e = ⊎-elim (λ (y : k < p). omega arith) (λ y. y e) x
 
-      top : 1 ≤ p → p < 11 → p ≤ r .kind → roleOf (r .kind) ≡ Opens → shapeFits r ≡ true → Accepts form (bare (r .kind) 0) l → (m : List Row) × (r ∷ l ≡ topRow ∷ m) × Accepts form (bare 11 0) m
+      top : 1 ≤ p → p < 11 → p ≤ r .kind → roleOf (r .kind) ≡ Opens → shapeFits (takesMarks form) r ≡ true → Accepts form (bare (r .kind) 0) l → (m : List Row) × (r ∷ l ≡ topRow ∷ m) × Accepts form (bare 11 0) m
       top a b c k s u =
-          let e = kind-by-role r s Opens k (λ n. r .kind ≡ n → r .kind ≡ 11) ((λ z. absurd (gone 2 (j .1 .1 .0) c z)), ((λ z. absurd (gone 7 (j .1 .0) c z)), ((λ z. absurd (gone 8 (j .0) c z)), ((λ z. z), tt)))) refl in
+          let e = kind-by-role (takesMarks form) r s Opens k (λ n. r .kind ≡ n → r .kind ≡ 11) ((λ z. absurd (gone 2 (j .1 .1 .0) c z)), ((λ z. absurd (gone 7 (j .1 .0) c z)), ((λ z. absurd (gone 8 (j .0) c z)), ((λ z. z), tt)))) refl in
           let m = as-kind r 11 e in
           (l, ap (λ (q : Row). q ∷ l) (m ∙ sym (top-back (r .a) (r .b) (r .c) (r .d) (r .e) (r .f) (r .g) (rw m at s))), rw e at u)
 
@@ -325,7 +325,7 @@ module _ (form : Form) (single : Single form) where
   document-cut la [] t = let y : endsIn form 0 ≡ true = search tests in never (sym (single .ends 0) ∙ y)
   document-cut la (r ∷ l) t = roles 0 la r l t (λ e. body) (λ h. absurd (omega arith)) (λ h. absurd (outer-none 0 la (r ∷ l) (λ q. refl) t h)) (λ b h. absurd (omega arith))
     where
-      body : r .kind ≡ 1 → shapeFits r ≡ true → Accepts form (bare 1 0) l → (D : Document) × (left : List Row) × (lb : ℕ) × (r ∷ l ≡ documentRows D ++ left) × DocumentGiven D × Outer left × Accepts form (bare 11 lb) left
+      body : r .kind ≡ 1 → shapeFits (takesMarks form) r ≡ true → Accepts form (bare 1 0) l → (D : Document) × (left : List Row) × (lb : ℕ) × (r ∷ l ≡ documentRows D ++ left) × DocumentGiven D × Outer left × Accepts form (bare 11 lb) left
       body e s u =
           let m = as-kind r 1 e in
           let N = cuts form 2 nodeRows NodeGiven (Outside 2 []) node-cut l 1 0 (omega arith, omega arith, outer-none 1 0 l (λ q. refl) u, tt) u in

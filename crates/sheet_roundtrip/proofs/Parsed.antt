@@ -2,7 +2,7 @@
 use mathlib.Core.Path.{_≡_, refl, ap, _∙_}
 use mathlib.Core.List.{List, [], _∷_, _++_, map, append-assoc, append-nil}
 use mathlib.Core.Option.{Option, none, some}
-use mathlib.Core.Bool.{true}
+use mathlib.Core.Bool.{Bool, true, false}
 use Prim.Native.Nat.{ℕ}
 use lib.ListN.{length}
 use lib.Dec.{eqb}
@@ -15,7 +15,7 @@ use Rattle.ast.specs.Choice.{choose, first}
 use Rattle.sheet_rows.specs.Rows.{none#, front, rest}
 use Rattle.sheet_rows.specs.Parse.{elements, optional, idsOf, valueOf, fieldOf, interfaceOf, routeOf, statementOf, bodyElementOf, originOf, associationOf, instanceOf, fieldsOf, interfacesOf, statementsOf, nodeOf, protoOf, urlOf, externProtoOf, afterTop, documentOf, fileOf, filesOf, documentsOf, protosOf}
 use Rattle.ast.specs.Lists.{flat}
-use Rattle.sheet_rows.specs.Print.{row, orNone, idRow, class, amount, dataRows, bindingRows, fieldRows, defaultRows, interfaceRows, routeRow, statementRow, bodyElementRow, associationRow, instanceRows, anyInstanceRows, nodeRow, nodeRows, protoRows, urlRow, externProtoRows, topRow, documentRows, fileRows, libraryRows, documentsRows, protosRows}
+use Rattle.sheet_rows.specs.Print.{row, orNone, idRow, class, amount, dataRows, bindingRows, fieldRows, defaultRows, interfaceRows, routeRow, statementRow, bodyElementRow, associationRow, instanceRows, anyInstanceRows, nodeRow, nodeRows, protoRows, mark, urlRow, externProtoRows, topRow, documentRows, fileRows, libraryRows, documentsRows, protosRows}
 use Rattle.ast.specs.Each.{Each}
 use Rattle.sheet_roundtrip.specs.Ranges.{IsPresent, InterfaceInRange, RouteInRange, StatementInRange, InstanceInRange, AnyInstanceInRange, NodeInRange, ProtoInRange, UrlInRange, ExternInterfaceInRange, ExternProtoInRange, InRange, FileInRange}
 use Rattle.sheet_roundtrip.proofs.Tests.{or-i}
@@ -103,9 +103,13 @@ orderListed : Listed BodyOrder [] anyKind (one bodyElementRow) bodyElementOf (λ
 orderListed = record { heads = order-heads; others = refl; again = refl; back = λ x l f h. order-parsed x l }
 
 -- urls are parsed back
-urlsListed : Listed Urls [] anyKind (one urlRow) urlOf UrlInRange
+mark-parsed : (u : Bool) → eqb (mark u) 1 ≡ u
+mark-parsed true = refl
+mark-parsed false = refl
+
+urlsListed : (m : Bool) → Listed Urls [] anyKind (one urlRow) urlOf (UrlInRange m)
 unfolding urlOf
-urlsListed = record { heads = λ x. (refl, tt); others = refl; again = refl; back = λ x l f h i. record { base = x .base; fragment = optional-parsed (x .fragment) (f .fragment) i } }
+urlsListed m = record { heads = λ x. (refl, tt); others = refl; again = refl; back = λ x l f h i. record { base = x .base; fragment = optional-parsed (x .fragment) (f .fragment) i; used = mark-parsed (x .used) i } }
 
 -- ---- fields, interfaces: a row, and the ids of its value
 
@@ -367,21 +371,21 @@ abbrev afterExtern : List ℕ
 afterExtern = 8 ∷ 11 ∷ []
 
 -- an extern is parsed back
-extern-parsed : (x : ExternProtoDecl) (l : List Row) → ExternProtoInRange x → Follows afterExtern l → externProtoOf (externProtoRows x ++ l) ≡ x
+extern-parsed : (m : Bool) (x : ExternProtoDecl) (l : List Row) → ExternProtoInRange m x → Follows afterExtern l → externProtoOf (externProtoRows x ++ l) ≡ x
 unfolding externProtoOf interfacesOf
-extern-parsed x l f h =
-    let is = found-in [] interfacesListed (x .interface) (run-of urlsListed (x .urls) ∷ []) afterExtern l refl refl refl (each-as ExternInterfaceInRange (λ y. IsPresent (y .is)) (λ y r. r .0 .is) (x .interface) (f .interface)) h in
-    let urls = found-in (run-of interfacesListed (x .interface) ∷ []) urlsListed (x .urls) [] afterExtern l refl refl refl (f .urls) h in
-    ap (λ (R : List Row). externProtoOf (row 8 (x .name) 0 0 0 0 0 0 ∷ R)) (two-rows urlsListed (x .interface) (x .urls) l) ∙ (λ i. record { name = x .name; interface = is i; urls = urls i })
+extern-parsed m x l f h =
+    let is = found-in [] interfacesListed (x .interface) (run-of (urlsListed m) (x .urls) ∷ []) afterExtern l refl refl refl (each-as ExternInterfaceInRange (λ y. IsPresent (y .is)) (λ y r. r .0 .is) (x .interface) (f .interface)) h in
+    let urls = found-in (run-of interfacesListed (x .interface) ∷ []) (urlsListed m) (x .urls) [] afterExtern l refl refl refl (f .urls) h in
+    ap (λ (R : List Row). externProtoOf (row 8 (x .name) 0 0 0 0 0 0 ∷ R)) (two-rows (urlsListed m) (x .interface) (x .urls) l) ∙ (λ i. record { name = x .name; interface = is i; urls = urls i })
 
 -- and so externs
-externsListed : Listed Externs (4 ∷ 9 ∷ 10 ∷ []) afterExtern externProtoRows externProtoOf ExternProtoInRange
-externsListed =
+externsListed : (m : Bool) → Listed Externs (4 ∷ 9 ∷ 10 ∷ []) afterExtern externProtoRows externProtoOf (ExternProtoInRange m)
+externsListed m =
     record {
-      heads = λ x. (refl, alone-among (4 ∷ 9 ∷ 10 ∷ []) (run-of interfacesListed (x .interface) ∷ run-of urlsListed (x .urls) ∷ []) (rest (externProtoRows x)) [] refl tt (two-rows urlsListed (x .interface) (x .urls) []));
+      heads = λ x. (refl, alone-among (4 ∷ 9 ∷ 10 ∷ []) (run-of interfacesListed (x .interface) ∷ run-of (urlsListed m) (x .urls) ∷ []) (rest (externProtoRows x)) [] refl tt (two-rows (urlsListed m) (x .interface) (x .urls) []));
       others = refl;
       again = refl;
-      back = extern-parsed;
+      back = extern-parsed m;
     }
 
 -- ---- a document: its row, three lists, row 11 and its statements
@@ -397,7 +401,7 @@ documentKinds = 1 ∷ partKinds
 abbrev afterFile : List ℕ
 afterFile = 12 ∷ 1 ∷ []
 
-module _ (x : Document) where
+module _ (m : Bool) (x : Document) where
   -- its lists
   abbrev Ns : Run
   Ns = run-of nodesListed (x .nodes)
@@ -406,7 +410,7 @@ module _ (x : Document) where
   Ps = run-of protosListed (x .protos)
 
   abbrev Es : Run
-  Es = run-of externsListed (x .externProtos)
+  Es = run-of (externsListed m) (x .externProtos)
 
   abbrev Ts : Run
   Ts = run-of statementsListed (x .statements)
@@ -424,7 +428,7 @@ module _ (x : Document) where
   document-rows l = rw (rows-map statementRow (x .statements)) (simp append-assoc)
 
   -- each of its lists is found, so it is parsed back
-  pub document-parsed : (l : List Row) → InRange x → Follows afterFile l → documentOf (documentRows x ++ l) ≡ x
+  pub document-parsed : (l : List Row) → InRange m x → Follows afterFile l → documentOf (documentRows x ++ l) ≡ x
   unfolding documentOf documentRows statementsOf elements
   document-parsed l f h = ap (λ (R : List Row). documentOf (row 1 (x .header) 0 0 0 0 0 0 ∷ R)) (document-rows l) ∙ parts
     where
@@ -435,7 +439,7 @@ module _ (x : Document) where
       protos = found-in (Ns ∷ []) protosListed (x .protos) (Es ∷ []) (11 ∷ []) (top-rows l) refl refl refl (f .protos) refl
 
       externs : map externProtoOf (elements Externs (part-rows l)) ≡ x .externProtos
-      externs = found-in (Ns ∷ Ps ∷ []) externsListed (x .externProtos) [] (11 ∷ []) (top-rows l) refl refl refl (f .externProtos) refl
+      externs = found-in (Ns ∷ Ps ∷ []) (externsListed m) (x .externProtos) [] (11 ∷ []) (top-rows l) refl refl refl (f .externProtos) refl
 
       tops : map statementOf (elements Statements (afterTop (elements Tops (part-rows l)))) ≡ x .statements
       tops =
@@ -461,10 +465,10 @@ module _ (x : Document) where
 filesListed : Listed Files documentKinds afterFile fileRows fileOf FileInRange
 filesListed =
     record {
-      heads = λ x. (refl, document-kinds (x .document));
+      heads = λ x. (refl, document-kinds false (x .document));
       others = refl;
       again = refl;
-      back = λ x l f h i. record { base = x .base; document = document-parsed (x .document) l (f .document) h i };
+      back = λ x l f h i. record { base = x .base; document = document-parsed false (x .document) l (f .document) h i };
     }
 
 -- and so a library
@@ -475,11 +479,11 @@ library-parsed L f = rw append-nil at (found-in [] filesListed L [] [] [] refl r
 -- ---- documents one after another, protos alone
 
 -- documents are parsed back
-documentsListed : Listed Documents partKinds afterFile documentRows documentOf InRange
-documentsListed = record { heads = document-heads; others = refl; again = refl; back = document-parsed }
+documentsListed : Listed Documents partKinds afterFile documentRows documentOf (InRange true)
+documentsListed = record { heads = document-heads true; others = refl; again = refl; back = document-parsed true }
 
 -- and so a sheet of them
-pub documents-parsed : (L : List Document) → Each InRange L → documentsOf (documentsRows L) ≡ L
+pub documents-parsed : (L : List Document) → Each (InRange true) L → documentsOf (documentsRows L) ≡ L
 unfolding documentsOf documentsRows
 documents-parsed L f = rw append-nil at (found-in [] documentsListed L [] [] [] refl refl refl f tt)
 

@@ -16,7 +16,7 @@ use Rattle.sheet_check.specs.declared.grammar.Next.{Next}
 use Rattle.sheet_check.specs.declared.grammar.Next.the-variants.{Go, No}
 use Rattle.ast.specs.Choice.{choose}
 use Rattle.sheet_shape.specs.Shape.{shapeFits}
-use Rattle.sheet_check.specs.Grammar.{staysExpanded, beginsIn, endsIn, allowed, goIf, fits}
+use Rattle.sheet_check.specs.Grammar.{takesMarks, staysExpanded, beginsIn, endsIn, allowed, goIf, fits}
 use Rattle.ast.specs.Lists.{flat}
 use Rattle.ast.specs.Each.{Each}
 use Rattle.sheet_roundtrip.proofs.Tests.{never}
@@ -161,14 +161,14 @@ Keeps s r a = (a .kept → staysExpanded s r ≡ true) × (a .given → staysExp
 
 -- a row that goes on to t by its shape and a place C: asked are those two, and to stay in an expanded document
 abbrev pub GoesOn : Form → State → State → Row → Bool → Type 0
-GoesOn form s t r C = fits form s r ≡ choose (allowed form s r) (choose (shapeFits r) (goIf C t) No) No
+GoesOn form s t r C = fits form s r ≡ choose (allowed form s r) (choose (shapeFits (takesMarks form) r) (goIf C t) No) No
 
 -- so it is let through exactly if it is as asked
-pub through : (form : Form) (s t : State) (r : Row) (C : Bool) (a : Asks) → GoesOn form s t r C → (a .range → (shapeFits r && C) ≡ true) → (a .given → (shapeFits r && C) ≡ true → a .range) → Keeps s r a → Through form s t a (r ∷ [])
+pub through : (form : Form) (s t : State) (r : Row) (C : Bool) (a : Asks) → GoesOn form s t r C → (a .range → (shapeFits (takesMarks form) r && C) ≡ true) → (a .given → (shapeFits (takesMarks form) r && C) ≡ true → a .range) → Keeps s r a → Through form s t a (r ∷ [])
 through form s t r C a h f g e =
     record {
-      into = λ l x y k. (t, thrice (allowed form s r) (shapeFits r) C t (fits form s r) h (let-in form s r (e .0) y) (f x), k);
-      back = λ i l o k. let w = taken (allowed form s r) (shapeFits r) C t (k .0) (fits form s r) h (k .1) in
+      into = λ l x y k. (t, thrice (allowed form s r) (shapeFits (takesMarks form) r) C t (fits form s r) h (let-in form s r (e .0) y) (f x), k);
+      back = λ i l o k. let w = taken (allowed form s r) (shapeFits (takesMarks form) r) C t (k .0) (fits form s r) h (k .1) in
           (g o (w .1), let-on form i s r (e .1 o) (w .0), subst (λ (u : State). Accepts form u l) (sym (w .2)) (k .2));
     }
 
@@ -177,7 +177,7 @@ pub refused : (form : Form) (s t u : State) (r : Row) (R : List Row) (C : Bool) 
 refused form s t u r R C a h c f =
     record {
       into = λ l x y k. absurd (f x);
-      back = λ i l o k. let w = taken (allowed form s r) (shapeFits r) C u (k .0) (fits form s r) h (k .1) in never (sym c ∙ and-r (shapeFits r) C (w .1));
+      back = λ i l o k. let w = taken (allowed form s r) (shapeFits (takesMarks form) r) C u (k .0) (fits form s r) h (k .1) in never (sym c ∙ and-r (shapeFits (takesMarks form) r) C (w .1));
     }
 
 -- ---- rows that are owed

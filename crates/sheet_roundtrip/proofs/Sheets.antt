@@ -9,7 +9,7 @@ use Rattle.sheet_rows.specs.declared.row.Row.{Row}
 use Rattle.sheet_check.specs.declared.grammar.Form.{Form}
 use Rattle.sheet_check.specs.declared.grammar.Form.the-variants.{Library}
 use Rattle.sheet_check.specs.declared.Checked.the-variants.{Fits}
-use Rattle.sheet_check.specs.Grammar.{isLibrary, startsIn, hasEnded, checked}
+use Rattle.sheet_check.specs.Grammar.{takesMarks, isLibrary, startsIn, hasEnded, checked}
 use Rattle.sheet_rows.specs.Parse.{documentOf, filesOf}
 use Rattle.sheet_rows.specs.Print.{documentRows, libraryRows}
 use Rattle.ast.specs.Each.{Each}
@@ -38,12 +38,12 @@ module _ (form : Form) (single : Single form) {S T : Span} {a : Asks} {R : List 
       (y .0, y .1)
 
 -- what an accepted root sheet or expanded document says is in range, expanded if it is one, and written in the sheet's own rows
-pub document-read : (form : Form) → Single form → isLibrary form ≡ false → startsIn form ≡ 0 → (R : List Row) → checked form R ≡ Fits → InRange (documentOf R) × Only form (IsExpanded (documentOf R)) × (documentRows (documentOf R) ≡ R)
+pub document-read : (form : Form) → Single form → isLibrary form ≡ false → startsIn form ≡ 0 → (R : List Row) → checked form R ≡ Fits → InRange (takesMarks form) (documentOf R) × Only form (IsExpanded (documentOf R)) × (documentRows (documentOf R) ≡ R)
 document-read form single f b R h =
     let w = document-whole form single f R (accepts form R (bare 0 0) 0 (rw b at h)) in
     let D = w .0 in
     let x = fits-only form single (document-passes form (single .begins 0) D) (rw b (omega arith)) (omega arith) (w .2) (ap (checked form) (sym (w .1)) ∙ h) in
-    let e : documentOf R ≡ D = ap documentOf (w .1) ∙ (rw append-nil at (document-parsed D [] (x .0) tt)) in
+    let e : documentOf R ≡ D = ap documentOf (w .1) ∙ (rw append-nil at (document-parsed (takesMarks form) D [] (x .0) tt)) in
     rw e (x .0, x .1, sym (w .1))
 
 -- what an accepted library says likewise

@@ -19,10 +19,10 @@ use Rattle.ast.specs.Ast.{FieldData, Route, Statement, NodeOrigin, BodyElement,
 use Rattle.ast.specs.Choice.{choose}
 use Rattle.sheet_rows.specs.Rows.{none#}
 use Rattle.sheet_shape.specs.Shape.{isName, hasValue, zeroFromE, shapeFits}
-use Rattle.sheet_check.specs.Grammar.{roleOf, beginsIn, moves, standsIn, comesIn, afterInner, fits, openedPart}
-use Rattle.sheet_rows.specs.Print.{row, orNone, idRow, class, amount, dataRows, routeRow, statementRow, bodyElementRow, nodeRow, associationRow, urlRow, topRow}
+use Rattle.sheet_check.specs.Grammar.{takesMarks, roleOf, beginsIn, moves, standsIn, comesIn, afterInner, fits, openedPart}
+use Rattle.sheet_rows.specs.Print.{row, orNone, idRow, class, amount, dataRows, routeRow, statementRow, bodyElementRow, nodeRow, associationRow, mark, urlRow, topRow}
 use Rattle.ast.specs.Each.{Each}
-use Rattle.sheet_roundtrip.specs.Ranges.{IsName, IsPresent, DataInRange, RouteInRange, StatementInRange, AssociationInRange, OriginInRange, UrlInRange}
+use Rattle.sheet_roundtrip.specs.Ranges.{IsName, IsPresent, DataInRange, RouteInRange, StatementInRange, AssociationInRange, OriginInRange, MarkInRange, UrlInRange}
 use Rattle.ast.specs.Expanded.{TopKept, InnerKept, OriginKept}
 use Rattle.sheet_roundtrip.proofs.Tests.{never, and-i, or-e, or-l, tests}
 use Rattle.sheet_roundtrip.proofs.Accepts.{at, bare}
@@ -53,10 +53,10 @@ barred = ((λ x. absurd x), (λ o x. never x))
 abbrev pub Takes : ℕ → ℕ → Type 0
 Takes q k = (r : Row) → r .kind ≡ k → standsIn q r ≡ true
 
-module _ (form : Form) (r : Row) (a : Asks) (f : a .range → shapeFits r ≡ true) (g : a .given → shapeFits r ≡ true → a .range) where
+module _ (form : Form) (r : Row) (a : Asks) (f : a .range → shapeFits (takesMarks form) r ≡ true) (g : a .given → shapeFits (takesMarks form) r ≡ true → a .range) where
   -- at a place that holds
   pub placed : (s t : State) (C : Bool) → GoesOn form s t r C → C ≡ true → Keeps s r a → Through form s t a (r ∷ [])
-  placed s t C h c e = through form s t r C a h (λ x. and-i (f x) c) (λ o x. g o (and-l (shapeFits r) C x)) e
+  placed s t C h c e = through form s t r C a h (λ x. and-i (f x) c) (λ o x. g o (and-l (shapeFits (takesMarks form) r) C x)) e
 
   -- inside a part
   pub inner : (q la : ℕ) → roleOf (r .kind) ≡ Inner → standsIn q r ≡ true → la ≤ r .kind → la < 13 → Keeps (bare q la) r a → Through form (bare q la) (afterInner (bare q la) r) a (r ∷ [])
@@ -95,8 +95,21 @@ abbrev pub statementAsks : (Statement → Type 0) → Statement → Asks
 statementAsks K x = record { given = StatementGiven x; range = StatementInRange x; kept = K x }
 
 -- of a url
-abbrev pub urlAsks : Url → Asks
-urlAsks x = record { given = IsPresent (x .fragment); range = UrlInRange x; kept = Sure }
+abbrev pub urlAsks : Form → Url → Asks
+urlAsks form x = record { given = IsPresent (x .fragment); range = UrlInRange (takesMarks form) x; kept = Sure }
+
+-- a mark has its shape if it is in range
+mark-fits : (m u : Bool) → MarkInRange m u → leb (mark u) (mark m) ≡ true
+mark-fits true true h = refl
+mark-fits true false h = refl
+mark-fits false true h = let z : _≡_ {A = ℕ} 0 1 = cc in absurd (omega arith)
+mark-fits false false h = refl
+
+-- and only then
+mark-in : (m u : Bool) → mark u ≤ mark m → MarkInRange m u
+mark-in true u h = tt
+mark-in false true h = absurd (omega arith)
+mark-in false false h = refl
 
 -- of a node's row
 abbrev pub nodeRowAsks : ℕ → Option ℕ → NodeOrigin → Asks
@@ -123,12 +136,12 @@ module _ (form : Form) where
   ids p la ro ass = counted form (λ n. at p la n ro ass) idRow nameAsks (id-step p la ro ass)
 
   -- a route's row has its shape if the route is in range
-  pub route-fits : (x : Route) → RouteInRange x → shapeFits (routeRow x) ≡ true
+  pub route-fits : (x : Route) → RouteInRange x → shapeFits (takesMarks form) (routeRow x) ≡ true
   unfolding shapeFits
   route-fits x r = rw (lt-ltb _ _ (r .fromNode), lt-ltb _ _ (r .fromField), lt-ltb _ _ (r .toNode), lt-ltb _ _ (r .toField))
 
   -- and only then
-  pub route-in : (x : Route) → IsPresent (x .fromId) × IsPresent (x .toId) → shapeFits (routeRow x) ≡ true → RouteInRange x
+  pub route-in : (x : Route) → IsPresent (x .fromId) × IsPresent (x .toId) → shapeFits (takesMarks form) (routeRow x) ≡ true → RouteInRange x
   unfolding shapeFits
   route-in x o h = record { fromNode = search tests; fromField = search tests; toNode = search tests; toField = search tests; fromId = o .0; toId = o .1 }
 
@@ -204,7 +217,7 @@ module _ (form : Form) where
     r4 = row 4 a b c (orNone d) t (class v) (amount v)
 
     -- its shape tells its ranges
-    value-in : shapeFits r4 ≡ true → (a ≤ 3) × (b ≤ 41) × (c < none#) × (t ≤ 41)
+    value-in : shapeFits (takesMarks form) r4 ≡ true → (a ≤ 3) × (b ≤ 41) × (c < none#) × (t ≤ 41)
     unfolding shapeFits
     value-in h = (search tests, search tests, search tests, ⊎-elim (λ (x : hasValue r4 ≡ true). leb-true t 41 (search tests)) (λ (x : zeroFromE r4 ≡ true). let e : t ≡ 0 = search tests in omega arith) (or-e (hasValue r4) (zeroFromE r4) (and-r (leb a 3 && leb b 41 && isName c) _ h)))
 
@@ -240,7 +253,7 @@ module _ (form : Form) where
     extern-value A R f = refused form (bare 8 la) (bare 8 4) (afterInner (bare 8 la) r4) r4 R (comesIn (bare 8 la) r4) A refl (rw (class-not-zero v)) f
 
   -- a statement, in a part that takes it
-  module _ (q la a b c d e f g : ℕ) (A : Asks) (h : A .range → shapeFits (row 5 a b c d e f g) ≡ true) (i : A .given → shapeFits (row 5 a b c d e f g) ≡ true → A .range) where
+  module _ (q la a b c d e f g : ℕ) (A : Asks) (h : A .range → shapeFits (takesMarks form) (row 5 a b c d e f g) ≡ true) (i : A .given → shapeFits (takesMarks form) (row 5 a b c d e f g) ≡ true → A .range) where
     -- by its row
     row5 : la ≤ 5 → Takes q 5 → Keeps (bare q la) (row 5 a b c d e f g) A → Through form (bare q la) (bare q 5) A (row 5 a b c d e f g ∷ [])
     unfolding roleOf
@@ -279,9 +292,9 @@ module _ (form : Form) where
   order-step la BodyElement.Statement h = inner form (bodyElementRow BodyElement.Statement) _ (λ r. refl) (λ o x. tt) 2 la refl refl h (omega arith) free
 
   -- a url of an extern
-  pub url-step : (la : ℕ) (x : Url) → la ≤ 10 → Through form (bare 8 la) (bare 8 10) (urlAsks x) (urlRow x ∷ [])
+  pub url-step : (la : ℕ) (x : Url) → la ≤ 10 → Through form (bare 8 la) (bare 8 10) (urlAsks form x) (urlRow x ∷ [])
   unfolding shapeFits roleOf
-  url-step la x h = inner form (urlRow x) (urlAsks x) (λ r. rw (lt-ltb _ _ (r .base))) (λ o i. record { base = search tests; fragment = o }) 8 la refl refl h (omega arith) free
+  url-step la x h = inner form (urlRow x) (urlAsks form x) (λ r. rw (lt-ltb _ _ (r .base), mark-fits (takesMarks form) (x .used) (r .used))) (λ o i. let m : mark (x .used) ≤ mark (takesMarks form) = search tests in record { base = search tests; fragment = o; used = mark-in (takesMarks form) (x .used) m }) 8 la refl refl h (omega arith) free
 
   -- an instance's row: what it owes is what it counts
   pub instance-step : (la n b c d : ℕ) → la ≤ 6 → Through form (bare 2 la) (at 2 13 b c d) (nameAsks n) (row 13 n b c d 0 0 0 ∷ [])

@@ -10,7 +10,7 @@ use lib.ListN.{length}
 use lib.Dec.{eqb}
 use Rattle.sheet_check.specs.declared.grammar.Form.{Form}
 use Rattle.sheet_check.specs.declared.grammar.Form.the-variants.{Library}
-use Rattle.sheet_check.specs.Grammar.{beginsIn}
+use Rattle.sheet_check.specs.Grammar.{takesMarks, beginsIn}
 use Rattle.ast.specs.Ast.{FieldValue, FieldBinding, Field, InterfaceDecl, Statement, ProtoInstance, Node, ProtoDecl, ExternProtoDecl, Document, File}
 use Rattle.sheet_rows.specs.Print.{row, orNone, fieldRows, bindingRows, interfaceRows, defaultRows, statementRow, bodyElementRow, instanceRows, anyInstanceRows, nodeRows, protoRows, urlRow, externProtoRows, documentRows, fileRows, libraryRows}
 use Rattle.ast.specs.Each.{Each}
@@ -183,20 +183,20 @@ module _ (form : Form) where
 
   -- what is asked of an extern
   abbrev externProtoAsks : ExternProtoDecl → Asks
-  externProtoAsks x = record { given = ExternProtoGiven x; range = ExternProtoInRange x; kept = Each InterfaceKept (x .interface) }
+  externProtoAsks x = record { given = ExternProtoGiven x; range = ExternProtoInRange (takesMarks form) x; kept = Each InterfaceKept (x .interface) }
 
   -- its row, interfaces and urls
   extern-passes : (x : ExternProtoDecl) → Passes form (span 1 8 13) (span 8 8 10) (externProtoAsks x) (externProtoRows x)
   extern-passes x =
       asking (λ p la w. w) (λ p la w. w) (λ o. (tt, o)) ((λ r. record { name = r .0; interface = r .1 .0; urls = r .1 .1 }), (λ r. (r .name, (r .interface, r .urls)))) ((λ k. k .1 .0), (λ k. (tt, (k, all (λ i. tt) (x .urls)))))
       (then {T = span 8 8 0} (λ p la w. omega arith) (λ p la w. (8, 0, omega arith, extern-step form p la (x .name) (w .from) (w .to)))
-      (then (λ p la w. omega arith) (listed interfaceRows externInterfaceAsks (λ p la w. w) extern-interface-passes (x .interface)) (mapped urlRow urlAsks (λ p la w. w) (λ y. within 8 10 10 (λ la h. (10, omega arith, url-step form la y h))) (x .urls))))
+      (then (λ p la w. omega arith) (listed interfaceRows externInterfaceAsks (λ p la w. w) extern-interface-passes (x .interface)) (mapped urlRow (urlAsks form) (λ p la w. w) (λ y. within 8 10 10 (λ la h. (10, omega arith, url-step form la y h))) (x .urls))))
 
   -- ---- a document
 
   -- what is asked of a document: to be in range, and expanded if it is to be
   abbrev pub documentAsks : Document → Asks
-  documentAsks x = record { given = DocumentGiven x; range = InRange x; kept = IsExpanded x }
+  documentAsks x = record { given = DocumentGiven x; range = InRange (takesMarks form) x; kept = IsExpanded x }
 
   -- if none may be there, there is none
   no-protos : (l : List ProtoDecl) → Each (λ x. ⊥) l ↔ (l ≡ [])

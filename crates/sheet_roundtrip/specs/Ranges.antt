@@ -1,6 +1,7 @@
 -- A document within the number ranges of a sheet (document 01, Sheets).
 -- Payloads and the header are any numbers; counts are the lengths of lists.
 use mathlib.Core.Path.{_≡_}
+use mathlib.Core.Bool.{Bool, true, false}
 use mathlib.Core.Option.{Option, none, some}
 use Prim.Native.Nat.{ℕ, _≤_, _<_}
 use Rattle.ast.specs.Ast.{FieldData, FieldValue, FieldBinding, Field, InterfaceDecl, Route, Statement, NodeOrigin, Association, ProtoInstance, Node, ProtoDecl, Url, ExternProtoDecl, Document, File}
@@ -97,25 +98,32 @@ pub record ProtoInRange (x : ProtoDecl) : Type 0 where
   pub interface : Each InterfaceInRange (x .interface)
   pub body : Each StatementInRange (x .body)
 
-pub record UrlInRange (x : Url) : Type 0 where
+-- "Sheets given to Expand keep 0 there; operations on an expanded document take 0 or 1." (document 02, wish 1)
+abbrev pub MarkInRange : Bool → Bool → Type 0
+MarkInRange true used = Unit {0}
+MarkInRange false used = used ≡ false
+
+-- marks: whether there may be any
+pub record UrlInRange (marks : Bool) (x : Url) : Type 0 where
   pub base : IsName (x .base)
   pub fragment : IsPresent (x .fragment)
+  pub used : MarkInRange marks (x .used)
 
 -- "An extern is row 8, interfaces of class 0, urls."
 abbrev pub ExternInterfaceInRange : InterfaceDecl → Type 0
 ExternInterfaceInRange x = InterfaceInRange x × (x .value ≡ none)
 
-pub record ExternProtoInRange (x : ExternProtoDecl) : Type 0 where
+pub record ExternProtoInRange (marks : Bool) (x : ExternProtoDecl) : Type 0 where
   pub name : IsName (x .name)
   pub interface : Each ExternInterfaceInRange (x .interface)
-  pub urls : Each UrlInRange (x .urls)
+  pub urls : Each (UrlInRange marks) (x .urls)
 
-pub record InRange (x : Document) : Type 0 where
+pub record InRange (marks : Bool) (x : Document) : Type 0 where
   pub nodes : Each NodeInRange (x .nodes)
   pub protos : Each ProtoInRange (x .protos)
-  pub externProtos : Each ExternProtoInRange (x .externProtos)
+  pub externProtos : Each (ExternProtoInRange marks) (x .externProtos)
   pub statements : Each StatementInRange (x .statements)
 
 pub record FileInRange (x : File) : Type 0 where
   pub base : IsName (x .base)
-  pub document : InRange (x .document)
+  pub document : InRange false (x .document)

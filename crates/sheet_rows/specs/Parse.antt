@@ -119,7 +119,7 @@ unfoldable pub protoOf : List Row → ProtoDecl
 protoOf l = record { name = front l .a; interface = interfacesOf (rest l); body = statementsOf (rest l) }
 
 unfoldable pub urlOf : List Row → Url
-urlOf l = record { base = front l .a; fragment = optional (front l .b) }
+urlOf l = record { base = front l .a; fragment = optional (front l .b); used = eqb (front l .c) 1 }
 
 unfoldable pub externProtoOf : List Row → ExternProtoDecl
 externProtoOf l = record { name = front l .a; interface = interfacesOf (rest l); urls = map urlOf (elements Urls (rest l)) }

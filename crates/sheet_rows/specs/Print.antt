@@ -1,4 +1,5 @@
 -- The rows that a document is written in: the grammar of sheets, read the other way (document 01, Sheets).
+use mathlib.Core.Bool.{Bool, true, false}
 use mathlib.Core.List.{List, [], _∷_, _++_, map}
 use mathlib.Core.Option.{Option, none, some}
 use Prim.Native.Nat.{ℕ}
@@ -88,8 +89,13 @@ nodeRows x =
 abbrev pub protoRows : ProtoDecl → List Row
 protoRows x = row 7 (x .name) 0 0 0 0 0 0 ∷ flat interfaceRows (x .interface) ++ map statementRow (x .body)
 
+-- "In the output, that url row has c = 1 and every other url row c = 0." (document 02, wish 1)
+abbrev pub mark : Bool → ℕ
+mark true = 1
+mark false = 0
+
 abbrev pub urlRow : Url → Row
-urlRow x = row 10 (x .base) (orNone (x .fragment)) 0 0 0 0 0
+urlRow x = row 10 (x .base) (orNone (x .fragment)) (mark (x .used)) 0 0 0 0
 
 abbrev pub externProtoRows : ExternProtoDecl → List Row
 externProtoRows x = row 8 (x .name) 0 0 0 0 0 0 ∷ flat interfaceRows (x .interface) ++ map urlRow (x .urls)

@@ -8,15 +8,15 @@ use Rattle.sheet_shape.specs.Shape.{nameFits, shapeFits, shapes}
 use Rattle.sheet_shape.proofs.Numbers.{between}
 
 -- a shape by its number
-pub shape-at : {x : Bool} (r : Row) (k : ℕ) → r .kind ≡ k → x ≡ getD shapes k (λ (s : Row). false) r → x ≡ shapeFits r
+pub shape-at : {x : Bool} (m : Bool) (r : Row) (k : ℕ) → r .kind ≡ k → x ≡ getD (shapes m) k (λ (s : Row). false) r → x ≡ shapeFits m r
 unfolding shapeFits
-shape-at r k h e = e ∙ ap (λ (n : ℕ). getD shapes n (λ (s : Row). false) r) (sym h)
+shape-at m r k h e = e ∙ ap (λ (n : ℕ). getD (shapes m) n (λ (s : Row). false) r) (sym h)
 
-pub shape-none : (r : Row) → 15 ≤ r .kind → false ≡ shapeFits r
+pub shape-none : (m : Bool) (r : Row) → 15 ≤ r .kind → false ≡ shapeFits m r
 unfolding shapeFits
-shape-none r h = ap (λ (f : Row → Bool). f r) (sym (List·getD-eq-default shapes (λ (s : Row). false) h))
+shape-none m r h = ap (λ (f : Row → Bool). f r) (sym (List·getD-eq-default (shapes m) (λ (s : Row). false) h))
 
 -- the rows of a name alone, 7 to 9
-pub shape-name : (r : Row) → 7 ≤ r .kind → r .kind < 10 → nameFits r ≡ shapeFits r
+pub shape-name : (m : Bool) (r : Row) → 7 ≤ r .kind → r .kind < 10 → nameFits r ≡ shapeFits m r
 unfolding shapeFits
-shape-name r = between (λ (k : ℕ). nameFits r ≡ getD shapes k (λ (s : Row). false) r) 3 7 (r .kind) (refl, (refl, (refl, tt)))
+shape-name m r = between (λ (k : ℕ). nameFits r ≡ getD (shapes m) k (λ (s : Row). false) r) 3 7 (r .kind) (refl, (refl, (refl, tt)))

@@ -6,6 +6,7 @@ use lib.ListN.{getD}
 use lib.Dec.{ltb, leb, eqb}
 use Rattle.sheet_rows.specs.declared.row.Row.{Row}
 use Rattle.sheet_rows.specs.Rows.{none#}
+use Rattle.sheet_rows.specs.Print.{mark}
 
 abbrev pub isName : ℕ → Bool
 isName n = ltb n none#
@@ -54,8 +55,9 @@ orderFits r = leb (r .a) 2 && zeroFromB r
 abbrev pub nameFits : Row → Bool
 nameFits r = isName (r .a) && zeroFromB r
 
-abbrev pub urlFits : Row → Bool
-urlFits r = isName (r .a) && zeroFromC r
+-- c: 1 for the url that supplied the prototype, else 0, where there are marks (document 02, wish 1)
+abbrev pub urlFits : Bool → Row → Bool
+urlFits marks r = isName (r .a) && leb (r .c) (mark marks) && eqb (r .d) 0 && zeroFromE r
 
 abbrev pub topFits : Row → Bool
 topFits r = eqb (r .a) 0 && zeroFromB r
@@ -67,15 +69,15 @@ abbrev pub associationFits : Row → Bool
 associationFits r = isName (r .a) && isName (r .b) && isName (r .c) && eqb (r .d) 0 && zeroFromE r
 
 -- "Column 1 decides the row's shape": kinds 0 to 14 in order; no row has kind 0, nor one above 14
-abbrev pub shapes : List (Row → Bool)
-shapes =
+abbrev pub shapes : Bool → List (Row → Bool)
+shapes marks =
     (λ r. false) ∷
     zeroFromB ∷
     nodeFits ∷
     fieldFits ∷
     interfaceFits ∷
     statementFits ∷
-    orderFits ∷ nameFits ∷ nameFits ∷ nameFits ∷ urlFits ∷ topFits ∷ nameFits ∷ instanceFits ∷ associationFits ∷ []
+    orderFits ∷ nameFits ∷ nameFits ∷ nameFits ∷ urlFits marks ∷ topFits ∷ nameFits ∷ instanceFits ∷ associationFits ∷ []
 
-unfoldable pub shapeFits : Row → Bool
-shapeFits r = getD shapes (r .kind) (λ x. false) r
+unfoldable pub shapeFits : Bool → Row → Bool
+shapeFits marks r = getD (shapes marks) (r .kind) (λ x. false) r

@@ -2,6 +2,7 @@
 use sheet_rows::row::NONE;
 use sheet_rows::row::Row;
 ghost use mathlib.Core.Path.{_≡_};
+ghost use Rattle.sheet_rows.specs.Print.{mark};
 ghost use Rattle.sheet_shape.specs.Shape.{isName, zeroFromB, zeroFromC, zeroFromE, hasValue, originFits, nodeFits, fieldFits, interfaceFits, routeFits, statementFits, orderFits, nameFits, urlFits, topFits, instanceFits, associationFits, shapeFits};
 
 fn is_name(n: u32) -> bool
@@ -87,10 +88,17 @@ fn name_fits(r: Row) -> bool
     is_name(r.a) & zero_from_b(r)
 }
 
-fn url_fits(r: Row) -> bool
-    ensures { λ x. ⌜ x ≡ urlFits r ⌝ }
+// The largest mark of a url.
+fn most(marks: bool) -> u32
+    ensures { λ x. ⌜ x ≡ mark marks ⌝ }
 {
-    is_name(r.a) & zero_from_c(r)
+    if marks { 1 } else { 0 }
+}
+
+fn url_fits(marks: bool, r: Row) -> bool
+    ensures { λ x. ⌜ x ≡ urlFits marks r ⌝ }
+{
+    is_name(r.a) & (r.c <= most(marks)) & (r.d == 0) & zero_from_e(r)
 }
 
 fn top_fits(r: Row) -> bool
@@ -111,9 +119,9 @@ fn association_fits(r: Row) -> bool
     is_name(r.a) & is_name(r.b) & is_name(r.c) & (r.d == 0) & zero_from_e(r)
 }
 
-// Column 1 decides the row's shape.
-pub fn shape_fits(r: Row) -> bool
-    ensures { λ x. ⌜ x ≡ shapeFits r ⌝ }
+// Column 1 decides the row's shape; `marks`: whether a url may have one.
+pub fn shape_fits(marks: bool, r: Row) -> bool
+    ensures { λ x. ⌜ x ≡ shapeFits marks r ⌝ }
 {
     let kind = r.kind;
     match kind {
@@ -124,7 +132,7 @@ pub fn shape_fits(r: Row) -> bool
         5 => statement_fits(r),
         6 => order_fits(r),
         7..=9 | 12 => name_fits(r),
-        10 => url_fits(r),
+        10 => url_fits(marks, r),
         11 => top_fits(r),
         13 => instance_fits(r),
         14 => association_fits(r),

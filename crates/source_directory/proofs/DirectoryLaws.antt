@@ -54,6 +54,7 @@ module _ {root library dir dir′ : List ℕ} (d : Directory root library dir) (
   pub directory-kept : Directory root library dir′
   directory-kept = record {
     small = d .small;
+    rootSmall = d .rootSmall;
     long = omega (arith, o .long, d .long);
     few = few′;
     number = o .below 0 (omega arith) ∙ d .number;
@@ -186,9 +187,10 @@ module _ (root library dir : List ℕ) (t : Table) (f : Final (rows root) (rows 
       source j h i e =
           rw (e, c .entries .files j i, s .files j i, c .entries .rows j i, s .rows j i) (f .sound .sources j h)
 
-  pub stored-directory : length library ≤ 8 * 1048576 → size ≤ length dir → Directory root library dir
-  stored-directory small long = record {
+  pub stored-directory : length library ≤ 8 * 1048576 → length root ≤ 8 * 1048576 → size ≤ length dir → Directory root library dir
+  stored-directory small rootSmall long = record {
     small = small;
+    rootSmall = rootSmall;
     long = long;
     few = omega (arith, s .count, f .sound .room);
     number = s .number;

@@ -107,6 +107,7 @@ pub record TableStored (R : List Row) (t : Table) (dir : List ℕ) (n : ℕ) : T
 -- what the directory says of the documents, in its first 195 words
 pub record Directory (root library dir : List ℕ) : Type 0 where
   pub small : length library ≤ 8 * 1048576
+  pub rootSmall : length root ≤ 8 * 1048576
   pub long : size ≤ length dir
   pub few : baseCount dir ≤ 64
   pub number : numberOf dir 0 ≡ 0

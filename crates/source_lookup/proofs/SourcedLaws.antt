@@ -35,7 +35,7 @@ module _ {root library dir w : List ℕ} (s : Sourced root library dir w) where
     cache = record {
       from = s .cache .from;
       upto = s .cache .upto;
-      is = λ i h. rw (same (cacheOf dir + 2 * i) (omega (arith, r .from, s .cache .from)) (omega (arith, r .end, s .cache .upto)), same (cacheOf dir + 2 * i + 1) (omega (arith, r .from, s .cache .from)) (omega (arith, r .end, s .cache .upto))) (s .cache .is i h);
+      is = λ i h. rw (same (cacheOf dir + 3 * i) (omega (arith, r .from, s .cache .from)) (omega (arith, r .end, s .cache .upto)), same (cacheOf dir + 3 * i + 1) (omega (arith, r .from, s .cache .from)) (omega (arith, r .end, s .cache .upto)), same (cacheOf dir + 3 * i + 2) (omega (arith, r .from, s .cache .from)) (omega (arith, r .end, s .cache .upto))) (s .cache .is i h);
     };
   }
 

@@ -2,24 +2,24 @@
 use mathlib.Core.Path.{_≡_}
 use mathlib.Core.List.{List}
 use Prim.Native.Nat.{ℕ, _+_, _*_, _≤_, _<_}
-use lib.ListN.{length}
+use lib.ListN.{length, getD}
 use Rattle.sheet_rows.specs.Rows.{rows}
 use Rattle.sheet_rows.specs.Parse.{documentOf, filesOf}
-use Rattle.pick_table.specs.Picks.{pickAt}
+use Rattle.pick_table.specs.Picks.{pickOf}
 use Rattle.source_names.specs.Names.{TablesListed}
 use Rattle.source_directory.specs.Directory.{fromOf, endOf, cacheOf, cachedOf, namesOf, spreadOf, Slot, Directory, HeldAt}
-use Rattle.source_lookup.specs.Instance.{Targeted, targetAt}
+use Rattle.source_lookup.specs.Instance.{PickedAs, targetAt}
 
 -- the tables of names of the root's nodes
 pub record RootNames (root dir w : List ℕ) : Type 0 where
   pub from : fromOf dir ≤ namesOf dir
   pub listed : TablesListed (rows root) w (namesOf dir) (spreadOf dir) (cacheOf dir)
 
--- the first picks of the root's externs, in w
+-- the first picks of the root's externs, in w: a target in two words, and a mark
 pub record Cached (root library dir w : List ℕ) : Type 0 where
   pub from : fromOf dir ≤ cacheOf dir
-  pub upto : cacheOf dir + 2 * cachedOf dir ≤ endOf dir
-  pub is : (i : ℕ) → i < cachedOf dir → Targeted dir (pickAt (documentOf (rows root)) (filesOf (rows library)) i) (targetAt w (cacheOf dir + 2 * i))
+  pub upto : cacheOf dir + 3 * cachedOf dir ≤ endOf dir
+  pub is : (i : ℕ) → i < cachedOf dir → PickedAs dir (pickOf (documentOf (rows root)) (filesOf (rows library)) 0 i) (targetAt w (cacheOf dir + 3 * i)) (getD w (cacheOf dir + 3 * i + 2) 0)
 
 -- the directory and the words w answer for the two sheets
 pub record Sourced (root library dir w : List ℕ) : Type 0 where

@@ -11,14 +11,17 @@ use instance::Target;
 use sheet_walks::walk::Found;
 use source_directory;
 use words_lent::wide;
+ghost use mathlib.Core.Path.{_≡_};
 ghost use Prim.Native.Nat.{_<_};
 ghost use lib.ListN.{length};
 ghost use Rattle.ast.specs.Lookups.{nodeAt, protoAt, externProtoAt};
 ghost use Rattle.sheet_rows.specs.Rows.{rows};
 ghost use Rattle.sheet_rows.specs.Parse.{nodeOf, protoOf, externProtoOf, documentOf, filesOf};
 ghost use Rattle.sheet_lookup.specs.Lookup.{rootAndFiles, sheetOf, Located};
+ghost use Rattle.pick_table.specs.Picks.{pickOf, urlTaken, prototypeIn};
+ghost use Rattle.pick_table.specs.Chosen.{markOf};
 ghost use Rattle.source_directory.specs.Directory.{numberOf, Slot};
-ghost use Rattle.source_lookup.specs.Instance.{originFrom, instanceIn, Targeted};
+ghost use Rattle.source_lookup.specs.Instance.{originFrom, Targeted};
 ghost use Rattle.source_names.specs.Names.{LastField};
 ghost use Rattle.source_lookup.specs.Sourced.{Sourced};
 
@@ -78,7 +81,7 @@ pub fn target<'a>(
     id: u32,
 ) -> Target
     requires { ⌜ Sourced (now root) (now library) (now dir) (now work) × Slot (now dir) slot ⌝ }
-    ensures { λ x. ⌜ Targeted (now (dir .entry)) (instanceIn (documentOf (rows (now (root .entry)))) (filesOf (rows (now (library .entry)))) (numberOf (now (dir .entry)) slot) (originFrom origin id)) x ⌝ }
+    ensures { λ x. ⌜ Targeted (now (dir .entry)) (prototypeIn (documentOf (rows (now (root .entry)))) (filesOf (rows (now (library .entry)))) (numberOf (now (dir .entry)) slot) (originFrom origin id)) x ⌝ }
 {
     if origin == 1 {
         return Target::Of {
@@ -88,10 +91,30 @@ pub fn target<'a>(
     }
     if origin == 2 {
         if slot == 0 {
-            return instance::picked(root, library, dir, work, ExternProtoId(id));
+            let picked = instance::picked(root, library, dir, work, ExternProtoId(id));
+            return picked.target;
         }
     }
     Target::Plain
+}
+
+// The mark of the url that the pick of an extern of a slot's document took: its index with one added, 0 where there is no pick.
+pub fn mark<'a>(
+    root: &'a [u32],
+    library: &'a [u32],
+    dir: &[u32],
+    work: &[u32],
+    slot: u32,
+    id: ExternProtoId,
+) -> u32
+    requires { ⌜ Sourced (now root) (now library) (now dir) (now work) × Slot (now dir) slot ⌝ }
+    ensures { λ m. ⌜ m ≡ markOf (urlTaken (pickOf (documentOf (rows (now (root .entry)))) (filesOf (rows (now (library .entry)))) (numberOf (now (dir .entry)) slot) (id .0))) ⌝ }
+{
+    if slot == 0 {
+        let picked = instance::picked(root, library, dir, work, id);
+        return picked.mark;
+    }
+    0
 }
 
 // The row of the last field of a name, of the node that stands at a row of a slot's document.

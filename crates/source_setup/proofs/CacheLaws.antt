@@ -13,15 +13,15 @@ use Rattle.sheet_rows.specs.Rows.{rows}
 use Rattle.sheet_rows.specs.Parse.{documentOf, filesOf}
 use Rattle.pick_memo.specs.declared.Memo.{Memo}
 use Rattle.pick_table.specs.declared.table.Table.{Table}
-use Rattle.pick_table.specs.Picks.{Pick, pickAt}
+use Rattle.pick_table.specs.Picks.{Prototype, Pick, pickOf}
 use Rattle.source_lookup.specs.declared.instance.Target.{Target}
 use Rattle.source_lookup.specs.declared.instance.Target.the-variants.{Plain, Of}
 use Rattle.words_lent.specs.Words.{Outside}
 use Rattle.pick_memo.specs.Memo.{MemoSound}
 use Rattle.source_directory.specs.Directory.{size, baseCount, cacheOf, cachedOf, fromOf, endOf, groupOf, Slot, Copy, Directory, HeldAt}
-use Rattle.source_lookup.specs.Instance.{Targeted, targetAt, SlotSmall}
+use Rattle.source_lookup.specs.Instance.{Targeted, PickedAs, targetAt, SlotSmall}
 use Rattle.source_lookup.specs.Sourced.{Sourced, Region}
-use Rattle.source_setup.specs.Prepared.{PicksCached}
+use Rattle.source_setup.specs.Prepared.{PickKept, PicksCached}
 use Rattle.pick_memo.proofs.MemoLaws.{kept-on}
 use Rattle.words_lent.proofs.WordLaws.{stays, stays-front, stays-set, stays-on, stays-wide}
 use Rattle.source_directory.proofs.DirectoryLaws.{slot-on, copy-on, slot-back, directory-kept}
@@ -29,7 +29,7 @@ use Rattle.source_setup.proofs.ListingLaws.{names-set}
 use Rattle.source_directory.proofs.GroupLaws.{held-on, held-dir}
 use Rattle.source_lookup.proofs.SourcedLaws.{sourced-kept}
 
--- ---- a target in two words
+-- ---- a target in two words, and its mark
 
 module _ (w : List ℕ) (at : ℕ) where
   pub kept-of : (s p : ℕ) → at + 1 < length w → (targetAt (set (set w at (s + 1)) (at + 1) p) at ≡ Of s (record { 0 = p })) × Outside at (at + 2) w (set (set w at (s + 1)) (at + 1) p)
@@ -43,18 +43,43 @@ module _ (w : List ℕ) (at : ℕ) where
   pub kept-plain : at + 1 < length w → (targetAt (set w at 0) at ≡ Plain) × Outside at (at + 2) w (set w at 0)
   kept-plain h = (rw (getD-set-same w at 0 0 (omega arith)), stays-set w at 0 (omega arith) (omega arith))
 
+module _ (w : List ℕ) (at m : ℕ) (h : at + 2 < length w) where
+  abbrev w₁ : List ℕ
+  w₁ = set w (at + 2) m
+
+  long : at + 1 < length w₁
+  long = omega (arith, length-set w (at + 2) m)
+
+  -- with the mark behind it
+  held-with : {w₂ : List ℕ} {x : Target} → (targetAt w₂ at ≡ x) × Outside at (at + 2) w₁ w₂ → PickKept w w₂ at x m
+  held-with k = record {
+    target = k .0;
+    mark = k .1 .above (at + 2) (omega arith) ∙ getD-set-same w (at + 2) m 0 (omega arith);
+    stays = stays-on at (at + 3) (stays-set {a = at + 2} {b = at + 3} w (at + 2) m (omega arith) (omega arith)) (k .1) (omega arith) (omega arith) (omega arith) (omega arith);
+  }
+
+  pub held-of : (s p : ℕ) → PickKept w (set (set w₁ at (s + 1)) (at + 1) p) at (Of s (record { 0 = p })) m
+  held-of s p = held-with (kept-of w₁ at s p long)
+
+  pub held-plain : PickKept w (set w₁ at 0) at Plain m
+  held-plain = held-with (kept-plain w₁ at long)
+
 -- ---- the cache has one pick more
 
 -- a target rests on the directory's first words alone
-targeted-on : {dir dir′ : List ℕ} {p : Option Pick} (x : Target) → ((k : ℕ) → k < 195 → getD dir′ k 0 ≡ getD dir k 0) → baseCount dir ≤ 64 → Targeted dir p x → Targeted dir′ p x
+targeted-on : {dir dir′ : List ℕ} {p : Option Prototype} (x : Target) → ((k : ℕ) → k < 195 → getD dir′ k 0 ≡ getD dir k 0) → baseCount dir ≤ 64 → Targeted dir p x → Targeted dir′ p x
 targeted-on Plain same few t = record { is = t .is; valid = tt }
 targeted-on (Of u p) same few t = record { is = rw (same u (omega (arith, t .valid .upto))) (t .is); valid = slot-on same few (t .valid) }
 
-pub small-of : {root library dir : List ℕ} {p : Option Pick} (x : Target) → Directory root library dir → Targeted dir p x → SlotSmall x
+-- and so does a pick
+picked-on : {dir dir′ : List ℕ} {p : Option Pick} (x : Target) {m : ℕ} → ((k : ℕ) → k < 195 → getD dir′ k 0 ≡ getD dir k 0) → baseCount dir ≤ 64 → PickedAs dir p x m → PickedAs dir′ p x m
+picked-on x same few t = record { target = targeted-on x same few (t .target); mark = t .mark }
+
+pub small-of : {root library dir : List ℕ} {p : Option Prototype} (x : Target) → Directory root library dir → Targeted dir p x → SlotSmall x
 small-of Plain d t = tt
 small-of (Of u p) d t = omega (arith, t .valid .upto, d .few)
 
-module _ {root library dir w : List ℕ} (s : Sourced root library dir w) {w₁ w₂ : List ℕ} (i : ℕ) (here : i ≡ cachedOf dir) (fits : cacheOf dir + 2 * i + 2 ≤ endOf dir) (p : Outside 0 (fromOf dir) w w₁) (q : Outside (cacheOf dir + 2 * i) (cacheOf dir + 2 * i + 2) w₁ w₂) where
+module _ {root library dir w : List ℕ} (s : Sourced root library dir w) {w₁ w₂ : List ℕ} (i : ℕ) (here : i ≡ cachedOf dir) (fits : cacheOf dir + 3 * i + 3 ≤ endOf dir) (p : Outside 0 (fromOf dir) w w₁) (q : Outside (cacheOf dir + 3 * i) (cacheOf dir + 3 * i + 3) w₁ w₂) where
   abbrev dir′ : List ℕ
   dir′ = set dir 197 (i + 1)
 
@@ -68,7 +93,7 @@ module _ {root library dir w : List ℕ} (s : Sourced root library dir w) {w₁ 
   cached = getD-set-same dir 197 (i + 1) 0 (omega (arith, s .directory .long))
 
   -- the words of the region before the new pick
-  before : (k : ℕ) → fromOf dir ≤ k → k < cacheOf dir + 2 * i → getD w₂ k 0 ≡ getD w k 0
+  before : (k : ℕ) → fromOf dir ≤ k → k < cacheOf dir + 3 * i → getD w₂ k 0 ≡ getD w k 0
   before k a b = q .below k b ∙ p .above k a
 
   held′ : (u g : ℕ) → g < 3 → Slot dir′ u → HeldAt root library dir′ w₂ (fromOf dir′) (cacheOf dir′) u g
@@ -80,13 +105,13 @@ module _ {root library dir w : List ℕ} (s : Sourced root library dir w) {w₁ 
       (one .above (groupOf u g) (omega arith)) (one .above (groupOf u g + 1) (omega arith))
       (held-on (s .held u g h y) (omega (arith, one .above 198 (omega arith))) (omega (arith, one .below 196 (omega arith))) (λ k a b. before k a (omega arith)))
 
-  is′ : Targeted dir (pickAt (documentOf (rows root)) (filesOf (rows library)) i) (targetAt w₂ (cacheOf dir + 2 * i)) → (j : ℕ) → j < i + 1 → Dec (j ≡ i) → Targeted dir (pickAt (documentOf (rows root)) (filesOf (rows library)) j) (targetAt w₂ (cacheOf dir + 2 * j))
+  is′ : PickedAs dir (pickOf (documentOf (rows root)) (filesOf (rows library)) 0 i) (targetAt w₂ (cacheOf dir + 3 * i)) (getD w₂ (cacheOf dir + 3 * i + 2) 0) → (j : ℕ) → j < i + 1 → Dec (j ≡ i) → PickedAs dir (pickOf (documentOf (rows root)) (filesOf (rows library)) 0 j) (targetAt w₂ (cacheOf dir + 3 * j)) (getD w₂ (cacheOf dir + 3 * j + 2) 0)
   is′ t j h (yes z) = rw z t
   is′ t j h (no z) =
-      rw (before (cacheOf dir + 2 * j) (omega (arith, s .cache .from)) (omega arith), before (cacheOf dir + 2 * j + 1) (omega (arith, s .cache .from)) (omega arith))
+      rw (before (cacheOf dir + 3 * j) (omega (arith, s .cache .from)) (omega arith), before (cacheOf dir + 3 * j + 1) (omega (arith, s .cache .from)) (omega arith), before (cacheOf dir + 3 * j + 2) (omega (arith, s .cache .from)) (omega arith))
       (s .cache .is j (omega arith))
 
-  pub sourced-more : Targeted dir (pickAt (documentOf (rows root)) (filesOf (rows library)) i) (targetAt w₂ (cacheOf dir + 2 * i)) → Sourced root library dir′ w₂
+  pub sourced-more : PickedAs dir (pickOf (documentOf (rows root)) (filesOf (rows library)) 0 i) (targetAt w₂ (cacheOf dir + 3 * i)) (getD w₂ (cacheOf dir + 3 * i + 2) 0) → Sourced root library dir′ w₂
   sourced-more t = record {
     directory = directory-kept (s .directory) outside;
     within = omega (arith, one .above 199 (omega arith), s .within, p .long, q .long);
@@ -95,7 +120,7 @@ module _ {root library dir w : List ℕ} (s : Sourced root library dir w) {w₁ 
     cache = record {
       from = omega (arith, one .above 198 (omega arith), one .below 196 (omega arith), s .cache .from);
       upto = omega (arith, one .above 199 (omega arith), one .below 196 (omega arith), cached);
-      is = λ j h. rw (one .below 196 (omega arith)) (targeted-on (targetAt w₂ (cacheOf dir + 2 * j)) (outside .below) (s .directory .few) (is′ t j (rw cached at h) (ℕ-discrete j i)));
+      is = λ j h. rw (one .below 196 (omega arith)) (picked-on (targetAt w₂ (cacheOf dir + 3 * j)) (outside .below) (s .directory .few) (is′ t j (rw cached at h) (ℕ-discrete j i)));
     };
   }
 
@@ -108,7 +133,7 @@ pub record Adding (root library dir₀ dir w₀ w : List ℕ) (m : Memo) (lo hi 
   pub isFrom : lo ≡ fromOf dir
   pub isEnd : hi ≡ endOf dir
   pub isCached : i ≡ cachedOf dir
-  pub isAt : at ≡ cacheOf dir + 2 * i
+  pub isAt : at ≡ cacheOf dir + 3 * i
   pub memo : MemoSound (rows library) (take lo w) m
 
 -- the first words of the memo's part stay its own
@@ -118,7 +143,7 @@ memo-on {ys = ys} w w′ {lo} k e h same =
     kept-on k (omega (arith, k .within)) (λ j i. let b : j < lo = omega (arith, k .within) in getD-take lo w′ j 0 b ∙ same j b ∙ List·getD-append ys (drop lo w) 0 j (omega arith))
 
 -- the memo's words are lent before the first pick
-pub add-start : {root library dir w : List ℕ} {m : Memo} {lo hi i at : ℕ} (ys : List ℕ) → Sourced root library dir w → MemoSound (rows library) ys m → length ys ≡ lo → lo ≡ fromOf dir → hi ≡ endOf dir → i ≡ cachedOf dir → at ≡ cacheOf dir + 2 * i → Adding root library dir dir (ys ++ drop lo w) (ys ++ drop lo w) m lo hi i at
+pub add-start : {root library dir w : List ℕ} {m : Memo} {lo hi i at : ℕ} (ys : List ℕ) → Sourced root library dir w → MemoSound (rows library) ys m → length ys ≡ lo → lo ≡ fromOf dir → hi ≡ endOf dir → i ≡ cachedOf dir → at ≡ cacheOf dir + 3 * i → Adding root library dir dir (ys ++ drop lo w) (ys ++ drop lo w) m lo hi i at
 add-start {dir = dir} {w} {lo = lo} {hi} ys s k e f g c a =
     let h : lo ≤ length w = omega (arith, s .cache .from, s .cache .upto, s .within) in
     let p = stays-front w ys lo h e in
@@ -144,20 +169,21 @@ module _ {root library dir₀ dir w₀ w : List ℕ} {m : Memo} {lo hi i at : �
   pub add-copy : {t : Table} → Copy dir₀ t → Copy dir t
   add-copy c = copy-on (λ k h. a .dirStays .below k (omega arith)) (omega (arith, a .dirStays .below 194 (omega arith), a .sourced .directory .few)) c
 
-  pub add-more : {x : Target} {m′ : Memo} (ys w₂ : List ℕ) → at + 2 ≤ hi → length ys ≡ lo → MemoSound (rows library) ys m′ → Targeted dir (pickAt (documentOf (rows root)) (filesOf (rows library)) i) x → (targetAt w₂ at ≡ x) × Outside at (at + 2) (ys ++ drop lo w) w₂ → Adding root library dir₀ (set dir 197 (i + 1)) w₀ w₂ m′ lo hi (i + 1) (at + 2)
-  add-more ys w₂ h e n t k =
+  pub add-more : {x : Target} {mark : ℕ} {m′ : Memo} (ys w₂ : List ℕ) → at + 3 ≤ hi → length ys ≡ lo → MemoSound (rows library) ys m′ → PickedAs dir (pickOf (documentOf (rows root)) (filesOf (rows library)) 0 i) x mark → PickKept (ys ++ drop lo w) w₂ at x mark → Adding root library dir₀ (set dir 197 (i + 1)) w₀ w₂ m′ lo hi (i + 1) (at + 3)
+  add-more {x} {mark} ys w₂ h e n t k =
       let p = stays-front w ys lo (add-within .0) e in
       let dir′ = set dir 197 (i + 1) in
       let o : Outside 197 198 dir dir′ = stays-set dir 197 (i + 1) (omega arith) (omega arith) in
+      let y : PickedAs dir (pickOf (documentOf (rows root)) (filesOf (rows library)) 0 i) (targetAt w₂ at) (getD w₂ (at + 2) 0) = rw (k .target, k .mark) t in
       record {
-        sourced = sourced-more (a .sourced) i (a .isCached) (omega (arith, a .isAt, a .isEnd)) (stays-wide 0 (fromOf dir) p (omega arith) (omega (arith, a .isFrom))) (rw (a .isAt) at (k .1)) (rw (sym (rw (a .isAt) at (k .0))) at t);
+        sourced = sourced-more (a .sourced) i (a .isCached) (omega (arith, a .isAt, a .isEnd)) (stays-wide 0 (fromOf dir) p (omega arith) (omega (arith, a .isFrom))) (rw (a .isAt) at (k .stays)) (rw (a .isAt) at y);
         dirStays = stays-on 197 198 (a .dirStays) o (omega arith) (omega arith) (omega arith) (omega arith);
-        workStays = stays-on 0 hi (a .workStays) (stays-on 0 hi p (k .1) (omega arith) (omega arith) (omega (arith, a .isFrom, a .isEnd, a .sourced .cache .from, a .sourced .cache .upto)) h) (omega arith) (omega arith) (omega arith) (omega arith);
+        workStays = stays-on 0 hi (a .workStays) (stays-on 0 hi p (k .stays) (omega arith) (omega arith) (omega (arith, a .isFrom, a .isEnd, a .sourced .cache .from, a .sourced .cache .upto)) h) (omega arith) (omega arith) (omega arith) (omega arith);
         isFrom = a .isFrom ∙ sym (o .above 198 (omega arith));
         isEnd = a .isEnd ∙ sym (o .above 199 (omega arith));
         isCached = sym (getD-set-same dir 197 (i + 1) 0 (omega (arith, a .sourced .directory .long)));
         isAt = omega (arith, a .isAt, o .below 196 (omega arith));
-        memo = memo-on w w₂ n e (omega (arith, p .long, k .1 .long, add-within .0)) (λ j x. k .1 .below j (omega (arith, a .isAt, a .isFrom, a .sourced .cache .from)));
+        memo = memo-on w w₂ n e (omega (arith, p .long, k .stays .long, add-within .0)) (λ j x. k .stays .below j (omega (arith, a .isAt, a .isFrom, a .sourced .cache .from)));
       }
 
   pub added : {w₋ : List ℕ} → Outside 0 lo w₋ w₀ → PicksCached root library dir₀ dir w₋ w

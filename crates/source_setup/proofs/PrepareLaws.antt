@@ -18,8 +18,8 @@ use Rattle.words_lent.proofs.WordLaws.{stays-set, stays-on, stays-front, three-
 use Rattle.source_directory.proofs.DirectoryLaws.{slot-back, directory-kept, stored-directory}
 use Rattle.source_directory.proofs.GroupLaws.{held-on, held-dir}
 
-pub opened : (root library dir w : List ℕ) (t : Table) (stride at len : ℕ) (ys : List ℕ) → Final (rows root) (rows library) t → TableStored (rows library) t dir 64 → length library ≤ 8 * 1048576 → size ≤ length dir → at ≤ length w → length ys ≡ at → DirectoryWritten root library w (ys ++ drop at w) at len (set (set (set dir 195 stride) 198 at) 199 (at + len))
-opened root library dir w t stride at len ys f s small long h e =
+pub opened : (root library dir w : List ℕ) (t : Table) (stride at len : ℕ) (ys : List ℕ) → Final (rows root) (rows library) t → TableStored (rows library) t dir 64 → length library ≤ 8 * 1048576 → length root ≤ 8 * 1048576 → size ≤ length dir → at ≤ length w → length ys ≡ at → DirectoryWritten root library w (ys ++ drop at w) at len (set (set (set dir 195 stride) 198 at) 199 (at + len))
+opened root library dir w t stride at len ys f s small rootSmall long h e =
     let end = at + len in
     let d₁ = set dir 195 stride in
     let d₂ = set d₁ 198 at in
@@ -28,7 +28,7 @@ opened root library dir w t stride at len ys f s small long h e =
     let r : Outside 199 200 d₂ (set d₂ 199 end) = stays-set d₂ 199 end (omega arith) (omega arith) in
     let o = stays-on 195 (length dir) p (stays-on 195 200 q r (omega arith) (omega arith) (omega arith) (omega arith)) (omega arith) (omega arith) (omega arith) (omega arith) in
     record {
-      directory = directory-kept (stored-directory root library dir t f s small long) o;
+      directory = directory-kept (stored-directory root library dir t f s small rootSmall long) o;
       region = record { from = three-second dir 195 stride 198 at 199 end (omega arith) (omega arith) (omega arith); end = three-third dir 195 stride 198 at 199 end (omega arith) (omega arith) (omega arith) };
       stays = stays-front w ys at h e;
     }

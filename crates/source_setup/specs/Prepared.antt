@@ -1,9 +1,12 @@
 -- What preparing asks and gives.
+use mathlib.Core.Path.{_≡_}
 use mathlib.Core.List.{List}
 use Prim.Native.Nat.{ℕ, _+_, _*_, _≤_}
-use lib.ListN.{length}
+use lib.ListN.{length, getD}
 use Rattle.words_lent.specs.Words.{Outside}
 use Rattle.source_directory.specs.Directory.{size, endOf, Directory}
+use Rattle.source_lookup.specs.declared.instance.Target.{Target}
+use Rattle.source_lookup.specs.Instance.{targetAt}
 use Rattle.source_lookup.specs.Sourced.{Sourced, Region}
 
 -- what prepare asks
@@ -19,6 +22,12 @@ pub record DirectoryWritten (root library w₀ w : List ℕ) (at len : ℕ) (dir
   pub directory : Directory root library dir
   pub region : Region dir at len
   pub stays : Outside 0 at w₀ w
+
+-- a pick stands at three words
+pub record PickKept (w₀ w : List ℕ) (at : ℕ) (x : Target) (m : ℕ) : Type 0 where
+  pub target : targetAt w at ≡ x
+  pub mark : getD w (at + 2) 0 ≡ m
+  pub stays : Outside at (at + 3) w₀ w
 
 -- picks have been added to the cache
 pub record PicksCached (root library dir₀ dir w₀ w : List ℕ) : Type 0 where

@@ -5,19 +5,18 @@ use source_directory;
 use source_lookup::instance;
 use source_lookup::instance::Target;
 use words_lent::wide;
-ghost use mathlib.Core.Path.{_≡_};
 ghost use Prim.Native.Nat.{_+_, _<_};
 ghost use lib.ListN.{length};
-ghost use Rattle.words_lent.specs.Words.{Outside};
-ghost use Rattle.source_lookup.specs.Instance.{targetAt, SlotSmall};
+ghost use Rattle.source_lookup.specs.Instance.{SlotSmall};
 ghost use Rattle.source_lookup.specs.Sourced.{Sourced};
-ghost use Rattle.source_setup.specs.Prepared.{PicksCached};
+ghost use Rattle.source_setup.specs.Prepared.{PickKept, PicksCached};
 
-// A target is kept in two words: its slot + 1, or 0 for a plain node, and the PROTO's id.
-fn keep(x: Target, work: &mut [u32], at: usize)
-    requires { ⌜ (at + 1 < length (now work)) × SlotSmall x ⌝ }
-    ensures { λ _. ⌜ (targetAt (now (work .exit)) at ≡ x) × Outside at (at + 2) (now (work .entry)) (now (work .exit)) ⌝ }
+// A pick is kept in three words: its slot + 1, or 0 for a plain node, the PROTO's id, and the mark.
+fn keep(x: Target, mark: u32, work: &mut [u32], at: usize)
+    requires { ⌜ (at + 2 < length (now work)) × SlotSmall x ⌝ }
+    ensures { λ _. ⌜ PickKept (now (work .entry)) (now (work .exit)) at x mark ⌝ }
 {
+    work[at + 2] = mark;
     match x {
         Target::Of { slot, proto } => {
             work[at] = slot + 1;
@@ -36,9 +35,9 @@ pub fn remember<'a>(root: &'a [u32], library: &'a [u32], dir: &mut [u32], work: 
     let from = wide(dir[source_directory::FROM]);
     let end = wide(dir[source_directory::END]);
     let mut i = dir[source_directory::CACHED];
-    let mut at = wide(dir[source_directory::CACHE]) + 2 * wide(i);
+    let mut at = wide(dir[source_directory::CACHE]) + 3 * wide(i);
     let mut memo = pick_memo::fresh(&mut work[..from]);
-    while at + 2 <= end {
+    while at + 3 <= end {
         let Found::At(row) = instance::root_extern(root, library, dir, work, ExternProtoId(i))
         else {
             return;
@@ -46,9 +45,9 @@ pub fn remember<'a>(root: &'a [u32], library: &'a [u32], dir: &mut [u32], work: 
         let aimed = instance::pick_row(root, row, library, dir, table, memo, &mut work[..from]);
         memo = aimed.memo;
         let x = aimed.target;
-        keep(x, work, at);
+        keep(x, aimed.mark, work, at);
         i += 1;
         dir[source_directory::CACHED] = i;
-        at += 2;
+        at += 3;
     }
 }

@@ -1,9 +1,14 @@
 -- The rows of a declared extern, copied from the sheet that declares it.
 use mathlib.Core.Path.{_≡_, refl, sym, ap, subst, _∙_}
 use mathlib.Core.List.{List, [], _∷_, _++_, map, append-nil, append-assoc}
-use Prim.Native.Nat.{ℕ, suc, _+_, _*_, _-_, _<_, _≤_}
+use mathlib.Core.Bool.{Bool}
+use Prim.Native.Nat.{ℕ, zero, suc, _+_, _*_, _-_, _<_, _≤_}
+use native.Mathlib.Numerals.{add-one}
+use native.Mathlib.Decide.{ℕ-discrete}
 use native.Mathlib.Omega.{arith}
 use lib.ListN.{length, getD, drop, length-append}
+use lib.Dec.{eqb}
+use borrow.Author.Tests.{eq-eqb, ne-eqb}
 use Rattle.sheet_rows.specs.declared.row.Row.{Row}
 use Rattle.sheet_rows.specs.declared.part.Part.{Part}
 use Rattle.sheet_rows.specs.declared.part.Part.the-variants.{Interfaces, Urls}
@@ -13,8 +18,9 @@ use Rattle.ast.specs.Lists.{flat}
 use Rattle.sheet_rows.specs.Print.{row, externProtoRows, interfaceRows, urlRow}
 use Rattle.sheet_walks.specs.Walk.{Stands}
 use Rattle.sheet_lookup.specs.Lookup.{sheetOf}
-use Rattle.sheet_walks.proofs.WalkLaws.{each-at, each-none, front-drop, rest-drop}
-use Rattle.expansion_definition.specs.Externs.{noValue}
+use Rattle.sheet_walks.proofs.WalkLaws.{front-drop, rest-drop}
+use Rattle.expansion_definition.specs.Externs.{isUsed, noValue, marked}
+use Rattle.pick_table.specs.Chosen.{urlBy}
 use Rattle.journal_records.specs.Records.{tagExtern, cell}
 use Rattle.ast.specs.Ast.{ExternProtoDecl}
 use Rattle.journal_records.specs.Logs.{logUp}
@@ -23,81 +29,96 @@ use Rattle.journal_reading.specs.Reading.{externRec, externsOf, below}
 use Rattle.journal_lists.specs.Owned.{tagged}
 use Rattle.journal_reading.proofs.Words.{kept-is}
 use Rattle.writer_lists.specs.Writing.{most, RowsFit, Wrote}
-use Rattle.writer_pass.specs.Externs.{declaredRow, declaredRows, externRowsOf}
+use Rattle.writer_pass.specs.Externs.{declaredRow, declaredFrom, declaredRows, externRowsOf}
 use Rattle.writer_lists.proofs.Writing.{wrote-none, wrote-after, forwards, Coming, set-out}
 use Rattle.writer_pass.proofs.Logs.{ofTag}
 use Rattle.writer_lists.proofs.Records.{or-none}
 
 -- ---- a part, element by element
 
-module _ (of : Part) (R : List Row) where
-  -- the rows from a place on
-  abbrev pub left : ℕ → List Row
-  left at = declaredRows of (drop at R)
+module _ (of : Part) (m : ℕ) (R : List Row) where
+  -- the rows from a place on, of which the n-th is the first
+  abbrev pub left : ℕ → ℕ → List Row
+  left n at = declaredFrom of m n (elements of (drop at R))
 
-  left-at : {at q : ℕ} → Stands of R at q → left at ≡ declaredRow of (getD R q blank) ∷ left (q + 1)
-  left-at {q = q} s = each-at (λ x. declaredRow of (front x)) s ∙ rw (front-drop R q)
+  left-at : (n : ℕ) {at q : ℕ} → Stands of R at q → left n at ≡ declaredRow of (eqb (n + 1) m) (getD R q blank) ∷ left (n + 1) (q + 1)
+  unfolding declaredFrom
+  left-at n {q = q} s = ap (declaredFrom of m n) (s .here) ∙ rw (front-drop R q, add-one n, add-one q)
 
-  left-none : (at : ℕ) → elements of (drop at R) ≡ [] → left at ≡ []
-  left-none at e = each-none (λ x. declaredRow of (front x)) of R at e
+  left-none : (n at : ℕ) → elements of (drop at R) ≡ [] → left n at ≡ []
+  unfolding declaredFrom
+  left-none n at e = ap (declaredFrom of m n) e
 
-  left-length : {at q : ℕ} → Stands of R at q → length (left at) ≡ suc (length (left (q + 1)))
-  left-length s = ap length (left-at s)
+  left-length : (n : ℕ) {at q : ℕ} → Stands of R at q → length (left n at) ≡ suc (length (left (n + 1) (q + 1)))
+  left-length n s = ap length (left-at n s)
 
   -- of the rows from `from` on those up to `at` stand from row s up to row p
   pub record Copying (o₀ o : List ℕ) (from at s p : ℕ) : Type 0 where
     pub made : List Row
-    pub whole : left from ≡ made ++ left at
+    pub whole : left 0 from ≡ made ++ left (p - s) at
     pub wrote : Wrote made o₀ o p s
+    pub on : s ≤ p
 
   -- nothing is copied yet
   pub copy-begin : {o : List ℕ} {from s : ℕ} → Copying o o from from s s
-  copy-begin = record { made = []; whole = refl; wrote = wrote-none refl }
+  copy-begin {s = s} = let z : s - s ≡ 0 = omega arith in record { made = []; whole = rw z; wrote = wrote-none refl; on = omega arith }
 
-  module _ {o₀ o : List ℕ} {from at s p : ℕ} (m : RowsFit (left from) o₀ (s + length (left from))) (u : Copying o₀ o from at s p) where
+  module _ {o₀ o : List ℕ} {from at s p : ℕ} (room : RowsFit (left 0 from) o₀ (s + length (left 0 from))) (u : Copying o₀ o from at s p) where
     module _ {q : ℕ} (st : Stands of R at q) where
       -- there is room for one row more
       pub copy-room : (8 * p + 8 ≤ length o) × (p < most)
       copy-room =
-          let z : length (left from) ≡ length (u .made) + length (left at) = ap length (u .whole) ∙ length-append (u .made) (left at) in
-          (omega (arith, m .inside, u .wrote .sum, u .wrote .pasted .long, left-length st), omega (arith, m .few, u .wrote .sum, left-length st))
+          let z : length (left 0 from) ≡ length (u .made) + length (left (p - s) at) = ap length (u .whole) ∙ length-append (u .made) (left (p - s) at) in
+          (omega (arith, room .inside, u .wrote .sum, u .wrote .pasted .long, left-length (p - s) st), omega (arith, room .few, u .wrote .sum, left-length (p - s) st))
 
       -- it is copied
-      pub copy-again : {o1 : List ℕ} {x : Row} → x ≡ declaredRow of (getD R q blank) → Wrote (x ∷ []) o o1 (p + 1) p → Copying o₀ o1 from (q + 1) s (p + 1)
-      copy-again {o1} {x} ex v =
+      pub copy-again : {o1 : List ℕ} {x : Row} {used : Bool} → used ≡ eqb (p - s + 1) m → x ≡ declaredRow of used (getD R q blank) → Wrote (x ∷ []) o o1 (p + 1) p → Copying o₀ o1 from (q + 1) s (p + 1)
+      copy-again {o1} {x} eu ex v =
+          let z : p - s + 1 ≡ p + 1 - s = omega (arith, u .on) in
+          let y : left 0 from ≡ (u .made ++ (x ∷ [])) ++ left (p - s + 1) (q + 1) = u .whole ∙ rw (left-at (p - s) st, ex, eu) (sym (append-assoc (u .made) (declaredRow of (eqb (p - s + 1) m) (getD R q blank) ∷ []) (left (p - s + 1) (q + 1)))) in
           record {
             made = u .made ++ (x ∷ []);
-            whole = u .whole ∙ rw (left-at st, ex) (sym (append-assoc (u .made) (declaredRow of (getD R q blank) ∷ []) (left (q + 1))));
-            wrote = wrote-after (omega (arith, m .inside)) (u .wrote) v;
+            whole = y ∙ ap (λ (n : ℕ). (u .made ++ (x ∷ [])) ++ left n (q + 1)) z;
+            wrote = wrote-after (omega (arith, room .inside)) (u .wrote) v;
+            on = omega (arith, u .on);
           }
 
     -- all are copied
-    pub copy-stop : elements of (drop at R) ≡ [] → Wrote (left from) o₀ o p s
-    copy-stop e = let z : left from ≡ u .made = u .whole ∙ rw (left-none at e) (append-nil (u .made)) in rw z (u .wrote)
+    pub copy-stop : elements of (drop at R) ≡ [] → Wrote (left 0 from) o₀ o p s
+    copy-stop e = let z : left 0 from ≡ u .made = u .whole ∙ rw (left-none (p - s) at e) (append-nil (u .made)) in rw z (u .wrote)
 
 -- ---- a declaration
 
-interfaces-rows : (L : List (List Row)) → flat interfaceRows (map noValue (map interfaceOf L)) ≡ map (λ x. declaredRow Interfaces (front x)) L
-unfolding interfaceOf
-interfaces-rows [] = refl
-interfaces-rows (x ∷ L) = rw (or-none (front x .d), interfaces-rows L)
+interfaces-rows : (L : List (List Row)) (n : ℕ) → flat interfaceRows (map noValue (map interfaceOf L)) ≡ declaredFrom Interfaces 0 n L
+unfolding interfaceOf declaredFrom
+interfaces-rows [] n = refl
+interfaces-rows (x ∷ L) n = rw (or-none (front x .d), interfaces-rows L (suc n))
 
-urls-rows : (L : List (List Row)) → map urlRow (map urlOf L) ≡ map (λ x. declaredRow Urls (front x)) L
-unfolding urlOf
-urls-rows [] = refl
-urls-rows (x ∷ L) = rw (or-none (front x .b), urls-rows L)
+-- the url of index n is marked where its number, from 1, is the mark
+used-is : (m n : ℕ) → isUsed (urlBy m) n ≡ eqb (suc n) m
+used-is zero n = sym (ne-eqb (suc n) 0 (λ z. omega arith))
+used-is (suc k) n = by (ℕ-discrete k n)
+  where
+    by : Dec (k ≡ n) → eqb k n ≡ eqb (suc n) (suc k)
+    by (yes e) = eq-eqb k n e ∙ sym (eq-eqb (suc n) (suc k) (omega arith))
+    by (no e) = ne-eqb k n e ∙ sym (ne-eqb (suc n) (suc k) (λ z. e (omega arith)))
 
-module _ (R : List Row) (at : ℕ) where
+urls-rows : (m n : ℕ) (L : List (List Row)) → map urlRow (marked (urlBy m) n (map urlOf L)) ≡ declaredFrom Urls m n L
+unfolding urlOf marked declaredFrom
+urls-rows m n [] = refl
+urls-rows m n (x ∷ L) = rw (or-none (front x .b), used-is m n, urls-rows m (suc n) L)
+
+module _ (R : List Row) (at m : ℕ) where
   abbrev pub parts : List (List Row)
-  parts = (row 8 (getD R at blank .a) 0 0 0 0 0 0 ∷ []) ∷ declaredRows Interfaces (drop (at + 1) R) ∷ declaredRows Urls (drop (at + 1) R) ∷ []
+  parts = (row 8 (getD R at blank .a) 0 0 0 0 0 0 ∷ []) ∷ declaredRows Interfaces 0 (drop (at + 1) R) ∷ declaredRows Urls m (drop (at + 1) R) ∷ []
 
-  extern-shape : externRowsOf (drop at R) ≡ forwards parts
+  extern-shape : externRowsOf m (drop at R) ≡ forwards parts
   unfolding externProtoOf interfacesOf forwards
-  extern-shape = rw (interfaces-rows (elements Interfaces (rest (drop at R))), urls-rows (elements Urls (rest (drop at R))), rest-drop R at, front-drop R at, append-nil (declaredRows Urls (drop (at + 1) R)))
+  extern-shape = rw (interfaces-rows (elements Interfaces (rest (drop at R))) 0, urls-rows m 0 (elements Urls (rest (drop at R))), rest-drop R at, front-drop R at, append-nil (declaredRows Urls m (drop (at + 1) R)))
 
   -- its blocks, to be written from the first on
-  pub extern-coming : {o : List ℕ} {p : ℕ} → RowsFit (externRowsOf (drop at R)) o (p + length (externRowsOf (drop at R))) → Coming (externRowsOf (drop at R)) parts o o p p
-  extern-coming m = set-out m extern-shape
+  pub extern-coming : {o : List ℕ} {p : ℕ} → RowsFit (externRowsOf m (drop at R)) o (p + length (externRowsOf m (drop at R))) → Coming (externRowsOf m (drop at R)) parts o o p p
+  extern-coming room = set-out room extern-shape
 
 -- ---- the externs of the journal
 
@@ -107,12 +128,12 @@ module _ (root library w : List ℕ) where
   externsAt = ofTag w tagExtern (externRec root library w)
 
   -- its rows are those of its declaration
-  pub extern-at : (r : ℕ) → cell w r 0 ≡ tagExtern → externProtoRows (externRec root library w r) ≡ externRowsOf (drop (cell w r 4) (rows (sheetOf root library (cell w r 1))))
-  extern-at r a = rw (kept-is w r tagExtern 1 (cell w r 1) a (omega arith) refl, kept-is w r tagExtern 4 (cell w r 4) a (omega arith) refl)
+  pub extern-at : (r : ℕ) → cell w r 0 ≡ tagExtern → externProtoRows (externRec root library w r) ≡ externRowsOf (cell w r 6) (drop (cell w r 4) (rows (sheetOf root library (cell w r 1))))
+  extern-at r a = rw (kept-is w r tagExtern 1 (cell w r 1) a (omega arith) refl, kept-is w r tagExtern 4 (cell w r 4) a (omega arith) refl, kept-is w r tagExtern 6 (cell w r 6) a (omega arith) refl)
 
   -- with the same room
   pub extern-room : (r p : ℕ) → cell w r 0 ≡ tagExtern → {o : List ℕ} → RowsFit (externProtoRows (externRec root library w r)) o (p + length (externProtoRows (externRec root library w r)))
-      → RowsFit (externRowsOf (drop (cell w r 4) (rows (sheetOf root library (cell w r 1))))) o (p + length (externRowsOf (drop (cell w r 4) (rows (sheetOf root library (cell w r 1))))))
+      → RowsFit (externRowsOf (cell w r 6) (drop (cell w r 4) (rows (sheetOf root library (cell w r 1))))) o (p + length (externRowsOf (cell w r 6) (drop (cell w r 4) (rows (sheetOf root library (cell w r 1))))))
   extern-room r p a {o} m = subst (λ (R : List Row). RowsFit R o (p + length R)) (extern-at r a) m
 
   -- where there are none, there are no rows

@@ -14,25 +14,40 @@ ghost use Prim.Native.Nat.{_+_, _*_, _≤_};
 ghost use lib.ListN.{length, drop};
 ghost use Rattle.sheet_rows.specs.Rows.{rows};
 ghost use Rattle.ast.specs.Lists.{flat};
-ghost use Rattle.sheet_rows.specs.Print.{externProtoRows};
+ghost use Rattle.sheet_rows.specs.Print.{mark, externProtoRows};
 ghost use Rattle.journal_records.specs.Records.{tagExtern};
 ghost use Rattle.journal_reading.specs.Reading.{externsOf, below};
 ghost use Rattle.writer_lists.specs.Writing.{RowsFit, Wrote};
 ghost use Rattle.writer_pass.specs.Externs.{declaredRow, declaredRows, externRowsOf};
 
-fn declared(of: Part, r: Row) -> Row
-    ensures { λ x. ⌜ x ≡ declaredRow of r ⌝ }
+// The mark of a url.
+fn mark_of(used: bool) -> u32
+    ensures { λ x. ⌜ x ≡ mark used ⌝ }
+{
+    if used { 1 } else { 0 }
+}
+
+fn declared(of: Part, used: bool, r: Row) -> Row
+    ensures { λ x. ⌜ x ≡ declaredRow of used r ⌝ }
 {
     if part::kind_of(of) == 10 {
-        return rows::line(10, r.a, r.b, 0, 0, 0, 0, 0);
+        return rows::line(10, r.a, r.b, mark_of(used), 0, 0, 0, 0);
     }
     rows::line(4, r.a, r.b, r.c, r.d, 0, 0, 0)
 }
 
-// The elements of a part from row `from` on, each a row from row `start` on; the row after.
-fn copy_part(sheet: &[u32], of: Part, from: usize, out: &mut [u32], start: usize) -> usize
-    requires { ⌜ RowsFit (declaredRows of (drop from (rows (now sheet)))) (now out) (start + length (declaredRows of (drop from (rows (now sheet))))) ⌝ }
-    ensures { λ e. ⌜ Wrote (declaredRows of (drop from (rows (now (sheet .entry))))) (now (out .entry)) (now (out .exit)) e start ⌝ }
+// The elements of a part from row `from` on, each a row from row `start` on; the row after. `taken` is the number, from 1, of the
+// url that was taken, 0 where none was.
+fn copy_part(
+    sheet: &[u32],
+    of: Part,
+    from: usize,
+    taken: usize,
+    out: &mut [u32],
+    start: usize,
+) -> usize
+    requires { ⌜ RowsFit (declaredRows of taken (drop from (rows (now sheet)))) (now out) (start + length (declaredRows of taken (drop from (rows (now sheet))))) ⌝ }
+    ensures { λ e. ⌜ Wrote (declaredRows of taken (drop from (rows (now (sheet .entry))))) (now (out .entry)) (now (out .exit)) e start ⌝ }
 {
     let mut at = from;
     let mut p = start;
@@ -40,25 +55,26 @@ fn copy_part(sheet: &[u32], of: Part, from: usize, out: &mut [u32], start: usize
         let Found::At(q) = walk::seek(sheet, of, at) else {
             return p;
         };
-        rows::put(out, p, declared(of, row::row_at(sheet, q)));
+        let n = p - start + 1;
+        rows::put(out, p, declared(of, n == taken, row::row_at(sheet, q)));
         p += 1;
         at = q + 1;
     }
 }
 
 // The extern that stands at a row.
-fn declaration(sheet: &[u32], at: usize, out: &mut [u32], p: usize) -> usize
-    requires { ⌜ RowsFit (externRowsOf (drop at (rows (now sheet)))) (now out) (p + length (externRowsOf (drop at (rows (now sheet))))) ⌝ }
+fn declaration(sheet: &[u32], at: usize, taken: usize, out: &mut [u32], p: usize) -> usize
+    requires { ⌜ RowsFit (externRowsOf taken (drop at (rows (now sheet)))) (now out) (p + length (externRowsOf taken (drop at (rows (now sheet))))) ⌝ }
     requires { ⌜ at ≤ 4294967295 ⌝ }
-    ensures { λ e. ⌜ Wrote (externRowsOf (drop at (rows (now (sheet .entry))))) (now (out .entry)) (now (out .exit)) e p ⌝ }
+    ensures { λ e. ⌜ Wrote (externRowsOf taken (drop at (rows (now (sheet .entry))))) (now (out .entry)) (now (out .exit)) e p ⌝ }
 {
     rows::put(
         out,
         p,
         rows::line(8, row::row_at(sheet, at).a, 0, 0, 0, 0, 0, 0),
     );
-    let a = copy_part(sheet, Part::Interfaces, at + 1, out, p + 1);
-    copy_part(sheet, Part::Urls, at + 1, out, a)
+    let a = copy_part(sheet, Part::Interfaces, at + 1, 0, out, p + 1);
+    copy_part(sheet, Part::Urls, at + 1, taken, out, a)
 }
 
 // The rows of the externs, of which there are `some`: where there is none, no record is looked at.
@@ -86,12 +102,9 @@ pub fn externs<'a>(
         i += 1;
         if journal_records::word(work, r, 0) == 2 {
             let sheet = sheets::select(root, library, journal_records::word(work, r, 1));
-            p = declaration(
-                sheet,
-                words_lent::wide(journal_records::word(work, r, 4)),
-                out,
-                p,
-            );
+            let at = words_lent::wide(journal_records::word(work, r, 4));
+            let taken = words_lent::wide(journal_records::word(work, r, 6));
+            p = declaration(sheet, at, taken, out, p);
         }
     }
     p

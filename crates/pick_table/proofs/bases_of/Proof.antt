@@ -3,10 +3,10 @@ use Rattle.pick_table.proofs.bases_of.Statement.{statement}
 use Rattle.pick_table.proofs.bases_of.Tie as tie
 use Rattle.pick_table.proofs.bases_of.Reads as reads
 use Rattle.pick_table.proofs.bases_of.Lts as lts
-use Rattle.sheet_walks.proofs.walk.seek.Reads as seek-reads
 use Rattle.pick_memo.proofs.fresh.Reads as fresh-reads
 use Rattle.pick_table.proofs.pick_urls.Reads as pick-urls-reads
 use Rattle.pick_table.proofs.table.empty.Reads as empty-reads
+use Rattle.sheet_walks.proofs.walk.seek.Reads as seek-reads
 use mathlib.Core.Path.{_≡_, refl, _∙_}
 use Prim.Native.Nat.{_-_}
 use denote.Ref.{now}

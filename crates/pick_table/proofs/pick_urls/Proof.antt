@@ -3,10 +3,10 @@ use Rattle.pick_table.proofs.pick_urls.Statement.{statement}
 use Rattle.pick_table.proofs.pick_urls.Tie as tie
 use Rattle.pick_table.proofs.pick_urls.Reads as reads
 use Rattle.pick_table.proofs.pick_urls.Lts as lts
-use Rattle.sheet_walks.proofs.walk.seek.Reads as seek-reads
 use Rattle.pick_table.proofs.pick_from.Reads as pick-from-reads
 use Rattle.pick_table.proofs.table.remember.Reads as remember-reads
 use Rattle.sheet_rows.proofs.row.row_at.Reads as row-at-reads
+use Rattle.sheet_walks.proofs.walk.seek.Reads as seek-reads
 use mathlib.Core.Path.{_≡_, refl, _∙_}
 use Prim.Native.Nat.{_-_}
 use denote.Ref.{now}
@@ -21,10 +21,10 @@ use native.Mathlib.Omega.{arith}
 use borrow.Author.Needs.{needs}
 
 abbrev Inv-loop : tie.InvT-loop
-Inv-loop root row library slots₀ table₀ memo₀ at₀ slots table memo at = (length slots ≡ length slots₀) × Trying (rows root) row (rows library) table₀ table at × MemoSound (rows library) slots memo
+Inv-loop root row library slots₀ table₀ memo₀ at₀ url₀ slots table memo at url = (length slots ≡ length slots₀) × Trying (rows root) row (rows library) table₀ table at url × MemoSound (rows library) slots memo
 
 abbrev μ-loop : tie.MeasureT-loop
-μ-loop root row library slots₀ table₀ memo₀ at₀ slots table memo at = length (rows root) - at
+μ-loop root row library slots₀ table₀ memo₀ at₀ url₀ slots table memo at url = length (rows root) - at
 
 add-at : tie.Need-add-at Inv-loop μ-loop
 add-at c = omega (arith, c .before .before .before .pre .1, rows-length (now (c .before .before .before .args .root)))
@@ -71,6 +71,9 @@ returns-2 c = (try-proto (c .before .before .before .before .before .before .bef
 enum-told-3 : tie.Need-enum-told-3 Inv-loop μ-loop
 enum-told-3 c = search needs
 
+add-url : tie.Need-add-url Inv-loop μ-loop
+add-url c = omega (arith, c .before .before .before .before .before .before .before .before .before .before .before .before .before .before .before .loop .inv .1 .few, stands Urls (rows (now (c .before .before .before .before .before .before .before .before .before .before .before .before .before .before .before .before .before .before .before .args .root))) (c .before .before .before .before .before .before .before .before .before .before .before .before .before .before .before .loop .at) (c .before .before .before .before .before .before .before .before .before .before .before .before .before .before .seek .ensures) (c .before .before .before .before .before .before .before .before .before .before .before .before .q .given .1) .from, stands Urls (rows (now (c .before .before .before .before .before .before .before .before .before .before .before .before .before .before .before .before .before .before .before .args .root))) (c .before .before .before .before .before .before .before .before .before .before .before .before .before .before .before .loop .at) (c .before .before .before .before .before .before .before .before .before .before .before .before .before .before .seek .ensures) (c .before .before .before .before .before .before .before .before .before .before .before .before .q .given .1) .below, rows-length (now (c .before .before .before .before .before .before .before .before .before .before .before .before .before .before .before .before .before .before .before .args .root)))
+
 loop-less : tie.Need-loop-less Inv-loop μ-loop
 loop-less c = let s = stands Urls (rows (now (c .before .before .before .before .before .before .before .before .before .before .before .before .before .before .before .before .before .before .before .args .root))) (c .before .before .before .before .before .before .before .before .before .before .before .before .before .before .before .loop .at) (c .before .before .before .before .before .before .before .before .before .before .before .before .before .before .seek .ensures) (c .before .before .before .before .before .before .before .before .before .before .before .before .q .given .1) in omega (arith, s .from, s .below)
 
@@ -98,5 +101,6 @@ pick-urls-spec =
     same-length-2
     returns-2
     enum-told-3
+    add-url
     loop-less
     loop-again)

@@ -56,42 +56,42 @@ name-fits-requires : tie.Need-name-fits-requires
 name-fits-requires c κs = search needs
 
 returns : tie.Need-returns
-returns c = shape-at _ 1 (c .before .match .keys1) (c .zero-from-b .ensures)
+returns c = shape-at _ _ 1 (c .before .match .keys1) (c .zero-from-b .ensures)
 
 returns-2 : tie.Need-returns-2
-returns-2 c = shape-at _ 2 (c .before .match .keys2) (c .node-fits .ensures)
+returns-2 c = shape-at _ _ 2 (c .before .match .keys2) (c .node-fits .ensures)
 
 returns-3 : tie.Need-returns-3
-returns-3 c = shape-at _ 3 (c .before .match .keys3) (c .field-fits .ensures)
+returns-3 c = shape-at _ _ 3 (c .before .match .keys3) (c .field-fits .ensures)
 
 returns-4 : tie.Need-returns-4
-returns-4 c = shape-at _ 4 (c .before .match .keys4) (c .interface-fits .ensures)
+returns-4 c = shape-at _ _ 4 (c .before .match .keys4) (c .interface-fits .ensures)
 
 returns-5 : tie.Need-returns-5
-returns-5 c = shape-at _ 5 (c .before .match .keys5) (c .statement-fits .ensures)
+returns-5 c = shape-at _ _ 5 (c .before .match .keys5) (c .statement-fits .ensures)
 
 returns-6 : tie.Need-returns-6
-returns-6 c = shape-at _ 6 (c .before .match .keys6) (c .order-fits .ensures)
+returns-6 c = shape-at _ _ 6 (c .before .match .keys6) (c .order-fits .ensures)
 
 returns-7 : tie.Need-returns-7
-returns-7 c = shape-at _ 10 (c .before .match .keys8) (c .url-fits .ensures)
+returns-7 c = shape-at _ _ 10 (c .before .match .keys8) (c .url-fits .ensures)
 
 returns-8 : tie.Need-returns-8
-returns-8 c = shape-at _ 11 (c .before .match .keys9) (c .top-fits .ensures)
+returns-8 c = shape-at _ _ 11 (c .before .match .keys9) (c .top-fits .ensures)
 
 returns-9 : tie.Need-returns-9
-returns-9 c = shape-at _ 13 (c .before .match .keys10) (c .instance-fits .ensures)
+returns-9 c = shape-at _ _ 13 (c .before .match .keys10) (c .instance-fits .ensures)
 
 returns-10 : tie.Need-returns-10
-returns-10 c = shape-at _ 14 (c .before .match .keys11) (c .association-fits .ensures)
+returns-10 c = shape-at _ _ 14 (c .before .match .keys11) (c .association-fits .ensures)
 
 returns-11 : tie.Need-returns-11
-returns-11 c = shape-at _ 0 (omega arith) refl
+returns-11 c = shape-at _ _ 0 (omega arith) refl
 
 returns-12 : tie.Need-returns-12
 returns-12 c =
     let n = c .before .before .match .rest in
-    shape-none _ (ten _ (c .if2 .left) (n .0 .0 .0 .1) (n .0 .0 .1) (n .0 .0 .0 .0 .1) (n .0 .1) (n .1))
+    shape-none _ _ (ten _ (c .if2 .left) (n .0 .0 .0 .1) (n .0 .0 .1) (n .0 .0 .0 .0 .1) (n .0 .1) (n .1))
   where
     ten : (k : ℕ) → 10 ≤ k → (k ≡ 10 → ⊥) → (k ≡ 11 → ⊥) → (k ≡ 12 → ⊥) → (k ≡ 13 → ⊥) → (k ≡ 14 → ⊥) → 15 ≤ k
     ten k h a b d e f = omega arith
@@ -99,11 +99,11 @@ returns-12 c =
 returns-13 : tie.Need-returns-13
 returns-13 c =
     c .name-fits .ensures ∙
-    ⊎-elim (λ h. shape-at _ 12 (h .keys7) refl)
+    ⊎-elim (λ h. shape-at _ _ 12 (h .keys7) refl)
     (λ h.
     let n = h .0 .rest .0 .0 .0 .0 .0 in
     let r = c .before .before .args .r in
-    shape-name r (above _ (h .1 .left) (n .0 .0 .0 .0 .0 .1) (n .0 .0 .0 .0 .1) (n .0 .0 .0 .1) (n .0 .0 .1) (n .0 .1) (n .1)) (h .2 .taken))
+    shape-name _ r (above _ (h .1 .left) (n .0 .0 .0 .0 .0 .1) (n .0 .0 .0 .0 .1) (n .0 .0 .0 .1) (n .0 .0 .1) (n .0 .1) (n .1)) (h .2 .taken))
     (c .before .match .came)
   where
     above : (k : ℕ) → 1 ≤ k → (k ≡ 1 → ⊥) → (k ≡ 2 → ⊥) → (k ≡ 3 → ⊥) → (k ≡ 4 → ⊥) → (k ≡ 5 → ⊥) → (k ≡ 6 → ⊥) → 7 ≤ k

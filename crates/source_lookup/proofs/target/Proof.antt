@@ -21,7 +21,7 @@ picked-requires : tie.Need-picked-requires
 picked-requires c κs = c .before .before .before .before .before .before .before .pre .0
 
 returns-2 : tie.Need-returns-2
-returns-2 c = instance-extern (documentOf (rows (now (c .before .before .before .before .before .before .before .before .args .root)))) (filesOf (rows (now (c .before .before .before .before .before .before .before .before .args .library)))) (now (c .before .before .before .before .before .before .before .before .args .dir)) (c .before .before .before .before .before .before .before .before .args .slot) (c .before .before .before .before .before .before .before .before .pre .1) (c .before .before .before .before .before .before .before .before .args .id) (c .before .before .before .before .before .before .before .before .args .origin) (c .picked .result) (c .before .before .if2 .taken) (ap (numberOf (now (c .before .before .before .before .before .before .before .before .args .dir))) (c .before .if3 .taken) ∙ number-root (c .before .before .before .before .before .before .before .before .pre .0)) (c .picked .ensures)
+returns-2 c = instance-extern (documentOf (rows (now (c .before .before .before .before .before .before .before .before .args .root)))) (filesOf (rows (now (c .before .before .before .before .before .before .before .before .args .library)))) (now (c .before .before .before .before .before .before .before .before .args .dir)) (c .before .before .before .before .before .before .before .before .args .slot) (c .before .before .before .before .before .before .before .before .pre .1) (c .before .before .before .before .before .before .before .before .args .id) (c .before .before .before .before .before .before .before .before .args .origin) (c .picked .result .target) (c .before .before .if2 .taken) (ap (numberOf (now (c .before .before .before .before .before .before .before .before .args .dir))) (c .before .if3 .taken) ∙ number-root (c .before .before .before .before .before .before .before .before .pre .0)) (c .picked .ensures .target)
 
 returns-3 : tie.Need-returns-3
 returns-3 c = instance-plain (documentOf (rows (now (c .before .before .before .before .before .before .before .args .root)))) (filesOf (rows (now (c .before .before .before .before .before .before .before .args .library)))) (now (c .before .before .before .before .before .before .before .args .dir)) (c .before .before .before .before .before .before .before .args .slot) (c .before .before .before .before .before .before .before .pre .1) (c .before .before .before .before .before .before .before .args .id) (c .before .before .before .before .before .before .before .args .origin) (c .before .before .if1 .left) (λ z. omega (arith, c .if3 .left))

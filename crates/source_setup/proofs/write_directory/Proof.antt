@@ -60,7 +60,7 @@ same-length-2 c = simp length-set (c .before .before .before .store .ensures .0)
 returns : tie.Need-returns
 returns c =
     let h : (c .before .before .before .before .before .before .before .before .before .before .before .before .before .args .at) ≤ length (now (c .before .before .before .before .before .before .before .before .before .before .before .before .before .args .work)) = omega (arith, c .before .before .before .before .before .before .before .before .before .before .before .before .before .pre .within) in
-    opened (now (c .before .before .before .before .before .before .before .before .before .before .before .before .before .args .root)) (now (c .before .before .before .before .before .before .before .before .before .before .before .before .before .args .library)) (c .before .before .before .store .last .1 .1 .0) (now (c .before .before .before .before .before .before .before .before .before .before .before .before .before .args .work)) (c .before .before .before .before .before .before .before .bases-of .result) (c .stride .result) (c .before .before .before .before .before .before .before .before .before .before .before .before .before .args .at) (c .before .before .before .before .before .before .before .before .before .before .before .before .before .args .len) (c .before .before .before .before .before .before .before .bases-of .last .1 .1 .0) (c .before .before .before .before .before .before .before .bases-of .ensures) (c .before .before .before .store .ensures .1) (c .before .before .before .before .before .before .before .before .before .before .before .before .before .pre .librarySmall) (omega (arith, c .before .before .before .store .ensures .0, c .before .before .before .before .before .before .before .before .before .before .before .before .before .pre .long)) h ((c .before .before .before .before .before .before .before .bases-of .kept .1 .1 .0) ∙ length-take-le (c .before .before .before .before .before .before .before .before .before .before .before .before .before .args .at) (now (c .before .before .before .before .before .before .before .before .before .before .before .before .before .args .work)) h)
+    opened (now (c .before .before .before .before .before .before .before .before .before .before .before .before .before .args .root)) (now (c .before .before .before .before .before .before .before .before .before .before .before .before .before .args .library)) (c .before .before .before .store .last .1 .1 .0) (now (c .before .before .before .before .before .before .before .before .before .before .before .before .before .args .work)) (c .before .before .before .before .before .before .before .bases-of .result) (c .stride .result) (c .before .before .before .before .before .before .before .before .before .before .before .before .before .args .at) (c .before .before .before .before .before .before .before .before .before .before .before .before .before .args .len) (c .before .before .before .before .before .before .before .bases-of .last .1 .1 .0) (c .before .before .before .before .before .before .before .bases-of .ensures) (c .before .before .before .store .ensures .1) (c .before .before .before .before .before .before .before .before .before .before .before .before .before .pre .librarySmall) (c .before .before .before .before .before .before .before .before .before .before .before .before .before .pre .rootSmall) (omega (arith, c .before .before .before .store .ensures .0, c .before .before .before .before .before .before .before .before .before .before .before .before .before .pre .long)) h ((c .before .before .before .before .before .before .before .bases-of .kept .1 .1 .0) ∙ length-take-le (c .before .before .before .before .before .before .before .before .before .before .before .before .before .args .at) (now (c .before .before .before .before .before .before .before .before .before .before .before .before .before .args .work)) h)
 
 pub write-directory-spec : {M : Type 1} → statement M
 write-directory-spec =

@@ -4,12 +4,12 @@ use Rattle.source_lookup.proofs.instance.picked.Statement.{statement}
 use Rattle.source_lookup.proofs.instance.picked.Tie as tie
 use Rattle.source_lookup.proofs.instance.picked.Reads as reads
 use Rattle.source_lookup.proofs.instance.picked.Lts as lts
-use Rattle.pick_memo.proofs.fresh.Reads as fresh-reads
-use Rattle.words_lent.proofs.wide.Reads as wide-reads
 use Rattle.source_directory.proofs.table_of.Reads as table-of-reads
+use Rattle.pick_memo.proofs.fresh.Reads as fresh-reads
 use Rattle.source_lookup.proofs.instance.kept.Reads as kept-reads
 use Rattle.source_lookup.proofs.instance.pick_row.Reads as pick-row-reads
 use Rattle.source_lookup.proofs.instance.root_extern.Reads as root-extern-reads
+use Rattle.words_lent.proofs.wide.Reads as wide-reads
 use mathlib.Core.Path.{subst}
 use denote.Ref.{now}
 use Rattle.sheet_rows.specs.Rows.{rows}
@@ -31,17 +31,26 @@ wide-requires c κs = search needs
 wide-requires-2 : tie.Need-wide-requires-2
 wide-requires-2 c κs = search needs
 
-mul-kept : tie.Need-mul-kept
-mul-kept c = omega (arith, c .wide2 .ensures .small)
+mul-at : tie.Need-mul-at
+mul-at c = omega (arith, c .wide2 .ensures .small)
 
-add-kept : tie.Need-add-kept
-add-kept c = omega (arith, c .before .wide .ensures .small, c .wide2 .ensures .small)
+add-at : tie.Need-add-at
+add-at c = omega (arith, c .before .wide .ensures .small, c .wide2 .ensures .small)
 
 kept-requires : tie.Need-kept-requires
 kept-requires c κs = omega (arith, c .before .wide .ensures .same, c .wide2 .ensures .same, c .before .before .before .before .before .before .before .before .before .pre .cache .upto, c .before .before .before .before .before .before .before .before .before .pre .within)
 
+add-t18 : tie.Need-add-t18
+add-t18 c = search needs
+
+mul-t22 : tie.Need-mul-t22
+mul-t22 c = search needs
+
+shared-slice-read-t20 : tie.Need-shared-slice-read-t20
+shared-slice-read-t20 c = search needs
+
 returns : tie.Need-returns
-returns c = rw (c .kept .ensures, c .before .before .wide .ensures .same, c .before .wide2 .ensures .same) ((c .before .before .before .before .before .before .before .before .before .before .pre .cache .is) (c .before .before .before .before .before .before .before .before .before .before .args .id .0) (c .before .before .before .before .if1 .taken))
+returns c = rw (c .before .kept .ensures, c .before .before .before .wide .ensures .same, c .before .before .wide2 .ensures .same) ((c .before .before .before .before .before .before .before .before .before .before .before .pre .cache .is) (c .before .before .before .before .before .before .before .before .before .before .before .args .id .0) (c .before .before .before .before .before .if1 .taken))
 
 root-extern-requires : tie.Need-root-extern-requires
 root-extern-requires c κs = search needs
@@ -81,9 +90,12 @@ picked-spec =
     shared-slice-read-wide
     wide-requires
     wide-requires-2
-    mul-kept
-    add-kept
+    mul-at
+    add-at
     kept-requires
+    add-t18
+    mul-t22
+    shared-slice-read-t20
     returns
     root-extern-requires
     enum-known-row

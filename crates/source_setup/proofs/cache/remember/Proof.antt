@@ -3,12 +3,12 @@ use Rattle.source_setup.proofs.cache.remember.Statement.{statement}
 use Rattle.source_setup.proofs.cache.remember.Tie as tie
 use Rattle.source_setup.proofs.cache.remember.Reads as reads
 use Rattle.source_setup.proofs.cache.remember.Lts as lts
-use Rattle.pick_memo.proofs.fresh.Reads as fresh-reads
-use Rattle.words_lent.proofs.wide.Reads as wide-reads
 use Rattle.source_directory.proofs.table_of.Reads as table-of-reads
+use Rattle.pick_memo.proofs.fresh.Reads as fresh-reads
 use Rattle.source_setup.proofs.cache.keep.Reads as keep-reads
 use Rattle.source_lookup.proofs.instance.pick_row.Reads as pick-row-reads
 use Rattle.source_lookup.proofs.instance.root_extern.Reads as root-extern-reads
+use Rattle.words_lent.proofs.wide.Reads as wide-reads
 use mathlib.Core.Path.{refl, subst, _∙_}
 use Prim.Native.Nat.{_-_, _≤_}
 use denote.Ref.{now}
@@ -122,7 +122,7 @@ pick-row-requires c κs = (subst (Below (rows (now (c .before .before .before .b
 keep-requires : tie.Need-keep-requires Inv-loop μ-loop
 keep-requires c κs =
     let e = (c .before .before .before .before .pick-row .kept .1 .1 .1 .1 .1 .1 .0) ∙ length-take-le (c .before .before .before .before .before .before .before .before .before .before .before .before .before .before .before .before .before .before .before .before .before .before .before .before .before .wide .result) (c .before .before .before .before .before .before .before .before .before .before .before .before .before .before .loop .work) (add-within (c .before .before .before .before .before .before .before .before .before .before .before .before .before .before .loop .inv) .0) in
-    (omega (arith, c .before .before .before .before .before .before .before .before .before .before .before .before .before .loop-test .taken, add-within (c .before .before .before .before .before .before .before .before .before .before .before .before .before .before .loop .inv) .2, stays-front (c .before .before .before .before .before .before .before .before .before .before .before .before .before .before .loop .work) (c .before .before .before .before .pick-row .last .1 .1 .1 .1 .1 .1 .0) (c .before .before .before .before .before .before .before .before .before .before .before .before .before .before .before .before .before .before .before .before .before .before .before .before .before .wide .result) (add-within (c .before .before .before .before .before .before .before .before .before .before .before .before .before .before .loop .inv) .0) e .long), small-of (c .before .before .before .before .pick-row .result .target) (c .before .before .before .before .before .before .before .before .before .before .before .before .before .before .loop .inv .sourced .directory) ((c .before .before .before .before .pick-row .ensures .0) (c .before .before .before .before .before .before .before .before .before .before .before .before .before .before .loop .i) (subst (Looked externProtoOf (documentAt (rows (now (c .before .before .before .before .before .before .before .before .before .before .before .before .before .before .before .before .before .before .before .before .before .before .before .before .before .before .before .before .before .before .before .before .before .args .root))) 0 .externProtos) (rows (now (c .before .before .before .before .before .before .before .before .before .before .before .before .before .before .before .before .before .before .before .before .before .before .before .before .before .before .before .before .before .before .before .before .before .args .root))) (c .before .before .before .before .before .before .before .before .before .before .before .before .before .before .loop .i)) (c .before .before .before .before .before .before .before .before .row .given .1) (c .before .before .before .before .before .before .before .before .before .before .root-extern .ensures))))
+    (omega (arith, c .before .before .before .before .before .before .before .before .before .before .before .before .before .loop-test .taken, add-within (c .before .before .before .before .before .before .before .before .before .before .before .before .before .before .loop .inv) .2, stays-front (c .before .before .before .before .before .before .before .before .before .before .before .before .before .before .loop .work) (c .before .before .before .before .pick-row .last .1 .1 .1 .1 .1 .1 .0) (c .before .before .before .before .before .before .before .before .before .before .before .before .before .before .before .before .before .before .before .before .before .before .before .before .before .wide .result) (add-within (c .before .before .before .before .before .before .before .before .before .before .before .before .before .before .loop .inv) .0) e .long), small-of (c .before .before .before .before .pick-row .result .target) (c .before .before .before .before .before .before .before .before .before .before .before .before .before .before .loop .inv .sourced .directory) ((c .before .before .before .before .pick-row .ensures .0) (c .before .before .before .before .before .before .before .before .before .before .before .before .before .before .loop .i) (subst (Looked externProtoOf (documentAt (rows (now (c .before .before .before .before .before .before .before .before .before .before .before .before .before .before .before .before .before .before .before .before .before .before .before .before .before .before .before .before .before .before .before .before .before .args .root))) 0 .externProtos) (rows (now (c .before .before .before .before .before .before .before .before .before .before .before .before .before .before .before .before .before .before .before .before .before .before .before .before .before .before .before .before .before .before .before .before .before .args .root))) (c .before .before .before .before .before .before .before .before .before .before .before .before .before .before .loop .i)) (c .before .before .before .before .before .before .before .before .row .given .1) (c .before .before .before .before .before .before .before .before .before .before .root-extern .ensures)) .target))
 
 add-i : tie.Need-add-i Inv-loop μ-loop
 add-i c = omega (arith, c .before .before .before .before .before .before .before .before .before .before .before .before .before .before .before .before .before .loop .inv .isAt, c .before .before .before .before .before .before .before .before .before .before .before .before .before .before .before .before .before .before .before .before .before .before .before .before .before .before .wide2 .ensures .small)
@@ -139,7 +139,7 @@ loop-less c = omega arith
 loop-again : tie.Need-loop-again Inv-loop μ-loop
 loop-again c =
     let e = (c .before .before .before .before .before .before .before .pick-row .kept .1 .1 .1 .1 .1 .1 .0) ∙ length-take-le (c .before .before .before .before .before .before .before .before .before .before .before .before .before .before .before .before .before .before .before .before .before .before .before .before .before .before .before .before .wide .result) (c .before .before .before .before .before .before .before .before .before .before .before .before .before .before .before .before .before .loop .work) (add-within (c .before .before .before .before .before .before .before .before .before .before .before .before .before .before .before .before .before .loop .inv) .0) in
-    add-more (c .before .before .before .before .before .before .before .before .before .before .before .before .before .before .before .before .before .loop .inv) (c .before .before .before .before .before .before .before .pick-row .last .1 .1 .1 .1 .1 .1 .0) (c .before .before .keep .last .1 .0) (c .before .before .before .before .before .before .before .before .before .before .before .before .before .before .before .before .loop-test .taken) e (c .before .before .before .before .before .before .before .pick-row .ensures .1) ((c .before .before .before .before .before .before .before .pick-row .ensures .0) (c .before .before .before .before .before .before .before .before .before .before .before .before .before .before .before .before .before .loop .i) (subst (Looked externProtoOf (documentAt (rows (now (c .before .before .before .before .before .before .before .before .before .before .before .before .before .before .before .before .before .before .before .before .before .before .before .before .before .before .before .before .before .before .before .before .before .before .before .before .args .root))) 0 .externProtos) (rows (now (c .before .before .before .before .before .before .before .before .before .before .before .before .before .before .before .before .before .before .before .before .before .before .before .before .before .before .before .before .before .before .before .before .before .before .before .before .args .root))) (c .before .before .before .before .before .before .before .before .before .before .before .before .before .before .before .before .before .loop .i)) (c .before .before .before .before .before .before .before .before .before .before .before .row .given .1) (c .before .before .before .before .before .before .before .before .before .before .before .before .before .root-extern .ensures))) (c .before .before .keep .ensures)
+    add-more (c .before .before .before .before .before .before .before .before .before .before .before .before .before .before .before .before .before .loop .inv) (c .before .before .before .before .before .before .before .pick-row .last .1 .1 .1 .1 .1 .1 .0) (c .before .before .keep .last .1 .1 .0) (c .before .before .before .before .before .before .before .before .before .before .before .before .before .before .before .before .loop-test .taken) e (c .before .before .before .before .before .before .before .pick-row .ensures .1) ((c .before .before .before .before .before .before .before .pick-row .ensures .0) (c .before .before .before .before .before .before .before .before .before .before .before .before .before .before .before .before .before .loop .i) (subst (Looked externProtoOf (documentAt (rows (now (c .before .before .before .before .before .before .before .before .before .before .before .before .before .before .before .before .before .before .before .before .before .before .before .before .before .before .before .before .before .before .before .before .before .before .before .before .args .root))) 0 .externProtos) (rows (now (c .before .before .before .before .before .before .before .before .before .before .before .before .before .before .before .before .before .before .before .before .before .before .before .before .before .before .before .before .before .before .before .before .before .before .before .before .args .root))) (c .before .before .before .before .before .before .before .before .before .before .before .before .before .before .before .before .before .loop .i)) (c .before .before .before .before .before .before .before .before .before .before .before .row .given .1) (c .before .before .before .before .before .before .before .before .before .before .before .before .before .root-extern .ensures))) (c .before .before .keep .ensures)
 
 same-length-3 : tie.Need-same-length-3 Inv-loop μ-loop
 same-length-3 c = c .before .loop .inv .dirStays .long

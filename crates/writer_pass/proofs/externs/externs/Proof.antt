@@ -50,14 +50,20 @@ word-requires-3 c κs = (omega (arith, c .before .before .before .before .before
 wide-requires : tie.Need-wide-requires Inv-loop μ-loop
 wide-requires c κs = search needs
 
+word-requires-4 : tie.Need-word-requires-4 Inv-loop μ-loop
+word-requires-4 c κs = (omega (arith, c .before .before .before .before .before .before .before .before .before .before .before .before .before .pre .0, c .before .before .before .before .before .before .loop-test .taken), omega arith)
+
+wide-requires-2 : tie.Need-wide-requires-2 Inv-loop μ-loop
+wide-requires-2 c κs = search needs
+
 declaration-requires : tie.Need-declaration-requires Inv-loop μ-loop
-declaration-requires c κs = (rw (c .before .before .before .select .ensures, c .before .before .before .before .word2 .ensures, c .before .wide .ensures .same, c .before .before .word3 .ensures) (extern-room (now (c .before .before .before .before .before .before .before .before .before .before .before .before .before .before .args .root)) (now (c .before .before .before .before .before .before .before .before .before .before .before .before .before .before .args .library)) (now (c .before .before .before .before .before .before .before .before .before .before .before .before .before .before .args .work)) (c .before .before .before .before .before .before .before .before .loop .i) (c .before .before .before .before .before .before .before .before .loop .p) (rw (c .before .before .before .before .before .before .word .ensures) at (c .before .before .before .before .before .if2 .taken)) (log-room externProtoRows (externsAt (now (c .before .before .before .before .before .before .before .before .before .before .before .before .before .before .args .root)) (now (c .before .before .before .before .before .before .before .before .before .before .before .before .before .before .args .library)) (now (c .before .before .before .before .before .before .before .before .before .before .before .before .before .before .args .work))) (c .before .before .before .before .before .before .before .before .loop .inv) (c .before .before .before .before .before .before .before .loop-test .taken) (of-tag (now (c .before .before .before .before .before .before .before .before .before .before .before .before .before .before .args .work)) tagExtern (externRec (now (c .before .before .before .before .before .before .before .before .before .before .before .before .before .before .args .root)) (now (c .before .before .before .before .before .before .before .before .before .before .before .before .before .before .args .library)) (now (c .before .before .before .before .before .before .before .before .before .before .before .before .before .before .args .work))) (c .before .before .before .before .before .before .before .before .loop .i) (rw (c .before .before .before .before .before .before .word .ensures) at (c .before .before .before .before .before .if2 .taken))))), omega (arith, c .before .wide .ensures .small))
+declaration-requires c κs = (rw (c .before .before .before .before .before .select .ensures, c .before .before .before .before .before .before .word2 .ensures, c .before .before .before .wide .ensures .same, c .before .before .before .before .word3 .ensures, c .before .wide2 .ensures .same, c .before .before .word4 .ensures) (extern-room (now (c .before .before .before .before .before .before .before .before .before .before .before .before .before .before .before .before .args .root)) (now (c .before .before .before .before .before .before .before .before .before .before .before .before .before .before .before .before .args .library)) (now (c .before .before .before .before .before .before .before .before .before .before .before .before .before .before .before .before .args .work)) (c .before .before .before .before .before .before .before .before .before .before .loop .i) (c .before .before .before .before .before .before .before .before .before .before .loop .p) (rw (c .before .before .before .before .before .before .before .before .word .ensures) at (c .before .before .before .before .before .before .before .if2 .taken)) (log-room externProtoRows (externsAt (now (c .before .before .before .before .before .before .before .before .before .before .before .before .before .before .before .before .args .root)) (now (c .before .before .before .before .before .before .before .before .before .before .before .before .before .before .before .before .args .library)) (now (c .before .before .before .before .before .before .before .before .before .before .before .before .before .before .before .before .args .work))) (c .before .before .before .before .before .before .before .before .before .before .loop .inv) (c .before .before .before .before .before .before .before .before .before .loop-test .taken) (of-tag (now (c .before .before .before .before .before .before .before .before .before .before .before .before .before .before .before .before .args .work)) tagExtern (externRec (now (c .before .before .before .before .before .before .before .before .before .before .before .before .before .before .before .before .args .root)) (now (c .before .before .before .before .before .before .before .before .before .before .before .before .before .before .before .before .args .library)) (now (c .before .before .before .before .before .before .before .before .before .before .before .before .before .before .before .before .args .work))) (c .before .before .before .before .before .before .before .before .before .before .loop .i) (rw (c .before .before .before .before .before .before .before .before .word .ensures) at (c .before .before .before .before .before .before .before .if2 .taken))))), omega (arith, c .before .before .before .wide .ensures .small))
 
 loop-less : tie.Need-loop-less Inv-loop μ-loop
 loop-less c = omega arith
 
 loop-again : tie.Need-loop-again Inv-loop μ-loop
-loop-again c = log-more externProtoRows (externsAt (now (c .before .before .before .before .before .before .before .before .before .before .before .before .before .before .before .before .before .args .root)) (now (c .before .before .before .before .before .before .before .before .before .before .before .before .before .before .before .before .before .args .library)) (now (c .before .before .before .before .before .before .before .before .before .before .before .before .before .before .before .before .before .args .work))) (c .before .before .before .before .before .before .before .before .before .before .before .loop .inv) (c .before .before .before .before .before .before .before .before .before .before .loop-test .taken) (of-tag (now (c .before .before .before .before .before .before .before .before .before .before .before .before .before .before .before .before .before .args .work)) tagExtern (externRec (now (c .before .before .before .before .before .before .before .before .before .before .before .before .before .before .before .before .before .args .root)) (now (c .before .before .before .before .before .before .before .before .before .before .before .before .before .before .before .before .before .args .library)) (now (c .before .before .before .before .before .before .before .before .before .before .before .before .before .before .before .before .before .args .work))) (c .before .before .before .before .before .before .before .before .before .before .before .loop .i) (rw (c .before .before .before .before .before .before .before .before .before .word .ensures) at (c .before .before .before .before .before .before .before .before .if2 .taken))) (rw (extern-at (now (c .before .before .before .before .before .before .before .before .before .before .before .before .before .before .before .before .before .args .root)) (now (c .before .before .before .before .before .before .before .before .before .before .before .before .before .before .before .before .before .args .library)) (now (c .before .before .before .before .before .before .before .before .before .before .before .before .before .before .before .before .before .args .work)) (c .before .before .before .before .before .before .before .before .before .before .before .loop .i) (rw (c .before .before .before .before .before .before .before .before .before .word .ensures) at (c .before .before .before .before .before .before .before .before .if2 .taken))) (rw (c .before .before .before .before .before .before .select .ensures, c .before .before .before .before .before .before .before .word2 .ensures, c .before .before .before .before .wide .ensures .same, c .before .before .before .before .before .word3 .ensures) at (c .before .before .declaration .ensures)))
+loop-again c = log-more externProtoRows (externsAt (now (c .before .before .before .before .before .before .before .before .before .before .before .before .before .before .before .before .before .before .before .args .root)) (now (c .before .before .before .before .before .before .before .before .before .before .before .before .before .before .before .before .before .before .before .args .library)) (now (c .before .before .before .before .before .before .before .before .before .before .before .before .before .before .before .before .before .before .before .args .work))) (c .before .before .before .before .before .before .before .before .before .before .before .before .before .loop .inv) (c .before .before .before .before .before .before .before .before .before .before .before .before .loop-test .taken) (of-tag (now (c .before .before .before .before .before .before .before .before .before .before .before .before .before .before .before .before .before .before .before .args .work)) tagExtern (externRec (now (c .before .before .before .before .before .before .before .before .before .before .before .before .before .before .before .before .before .before .before .args .root)) (now (c .before .before .before .before .before .before .before .before .before .before .before .before .before .before .before .before .before .before .before .args .library)) (now (c .before .before .before .before .before .before .before .before .before .before .before .before .before .before .before .before .before .before .before .args .work))) (c .before .before .before .before .before .before .before .before .before .before .before .before .before .loop .i) (rw (c .before .before .before .before .before .before .before .before .before .before .before .word .ensures) at (c .before .before .before .before .before .before .before .before .before .before .if2 .taken))) (rw (extern-at (now (c .before .before .before .before .before .before .before .before .before .before .before .before .before .before .before .before .before .before .before .args .root)) (now (c .before .before .before .before .before .before .before .before .before .before .before .before .before .before .before .before .before .before .before .args .library)) (now (c .before .before .before .before .before .before .before .before .before .before .before .before .before .before .before .before .before .before .before .args .work)) (c .before .before .before .before .before .before .before .before .before .before .before .before .before .loop .i) (rw (c .before .before .before .before .before .before .before .before .before .before .before .word .ensures) at (c .before .before .before .before .before .before .before .before .before .before .if2 .taken))) (rw (c .before .before .before .before .before .before .before .before .select .ensures, c .before .before .before .before .before .before .before .before .before .word2 .ensures, c .before .before .before .before .before .before .wide .ensures .same, c .before .before .before .before .before .before .before .word3 .ensures, c .before .before .before .before .wide2 .ensures .same, c .before .before .before .before .before .word4 .ensures) at (c .before .before .declaration .ensures)))
 
 loop-less-2 : tie.Need-loop-less-2 Inv-loop μ-loop
 loop-less-2 c = omega arith
@@ -86,6 +92,8 @@ externs-spec =
     select-requires
     word-requires-3
     wide-requires
+    word-requires-4
+    wide-requires-2
     declaration-requires
     loop-less
     loop-again
