@@ -1,5 +1,5 @@
 -- What is promised of every call that counts (document 02, wish 5). This page states; nothing is proved on it.
--- What is promised of the counts themselves, whatever the documents, is on tally's page: under 2 at most as many as under 1, exactly the reached nodes, the sum over the documents.
+-- What is promised of the counts themselves, whatever the documents, is on count_documents' page: under 2 at most as many as under 1, exactly the reached nodes, the sum over the documents.
 use mathlib.Core.Path.{_≡_}
 use mathlib.Core.Bool.{true}
 use mathlib.Core.List.{List}

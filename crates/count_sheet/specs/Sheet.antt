@@ -1,4 +1,4 @@
--- Count sheet under both protocols (document 02, wish 5): the operation over words. What is counted is in tally's Count.
+-- Count sheet under both protocols (document 02, wish 5): the operation over words. What is counted is in count_documents' Count.
 use mathlib.Core.Bool.{Bool, true, false, not, _&&_, _||_}
 use mathlib.Core.List.{List, [], _∷_, map}
 use Prim.Native.Nat.{ℕ, _*_, _/_}
