@@ -22,11 +22,8 @@ use Rattle.sheet_check.specs.Grammar.{roleOf, openedPart, fits, checked}
 use Rattle.sheet_roundtrip.proofs.Tests.{never}
 use Rattle.sheet_roundtrip.proofs.Accepts.{bare, no-go, Accepts, accepts, accepted}
 use Rattle.sheet_roundtrip.proofs.Cuts.{by-role, made}
+use Rattle.sheet_forms.specs.Several.{joined}
 use Rattle.sheet_forms.proofs.Rows.{starts-here, same-row, kind-passes, has-shape}
-
--- the rows themselves
-abbrev pub joined : List (List Row) → List Row
-joined L = flat (λ x. x) L
 
 -- from a state on: what is left of a document, and the documents after it
 record CutAt (s : State) (R : List Row) : Type 0 where

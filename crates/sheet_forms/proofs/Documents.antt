@@ -18,7 +18,8 @@ use Rattle.sheet_check.specs.Grammar.{checked}
 use Rattle.sheet_roundtrip.specs.Ranges.{InRange}
 use Rattle.sheet_roundtrip.proofs.Parsed.{documents-parsed}
 use Rattle.sheet_roundtrip.proofs.RoundTrip.{expanded-printed-back, expanded-in-range, expanded-fits}
-use Rattle.sheet_forms.proofs.Cut.{joined, cut}
+use Rattle.sheet_forms.specs.Several.{joined}
+use Rattle.sheet_forms.proofs.Cut.{cut}
 use Rattle.sheet_forms.proofs.Joined.{join}
 
 -- ---- the sheets of the documents

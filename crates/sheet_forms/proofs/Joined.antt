@@ -21,7 +21,7 @@ use Rattle.sheet_roundtrip.proofs.Scan.{Among, Heads, passed, pass-over}
 use Rattle.sheet_roundtrip.proofs.Parsed.{partKinds, document-heads}
 use Rattle.sheet_roundtrip.proofs.RoundTrip.{expanded-printed-back}
 use Rattle.sheet_forms.proofs.Rows.{starts-again, same-row}
-use Rattle.sheet_forms.proofs.Cut.{joined}
+use Rattle.sheet_forms.specs.Several.{joined}
 
 -- a sheet that fits begins with a row of kind 1, and has no other
 heads : (x : List Row) → checked Expanded x ≡ Fits → Heads 1 partKinds x

@@ -34,6 +34,7 @@ use Rattle.sheet_roundtrip.proofs.Scan.{Among}
 use Rattle.sheet_roundtrip.proofs.Cuts.{as-kind}
 use Rattle.sheet_roundtrip.proofs.Parsed.{protos-parsed}
 use Rattle.sheet_roundtrip.proofs.RoundTrip.{root-printed-back, root-fits, root-in-range}
+use Rattle.sheet_forms.specs.Several.{Bodiless}
 use Rattle.sheet_forms.proofs.Rows.{none-owed, owes-none, goes}
 
 -- each row is one of a proto without body statements
@@ -161,10 +162,6 @@ default-bare x (some v) = (refl, data-bare (v .«data»))
 interfaces-bare : (l : List InterfaceDecl) → Bare (flat interfaceRows l)
 interfaces-bare [] = tt
 interfaces-bare (x ∷ l) = bare-append (interfaceRows x) (flat interfaceRows l) (default-bare x (x .value)) (interfaces-bare l)
-
--- a proto without body statements
-abbrev pub Bodiless : ProtoDecl → Type 0
-Bodiless x = x .body ≡ []
 
 protos-bare : (P : List ProtoDecl) → Each Bodiless P → Bare (flat protoRows P)
 protos-bare [] h = tt
