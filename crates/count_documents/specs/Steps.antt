@@ -21,6 +21,16 @@ pub data PlaceUpTo (names : List ℕ) (name n r : ℕ) : Type 0 where
 abbrev pub Place : List ℕ → ℕ → ℕ → Type 0
 Place names name r = PlaceUpTo names name (length names) r
 
+-- how many names are remembered
+abbrev pub slots : ℕ
+slots = 128
+
+-- names that were looked for, each with its place
+pub record Remembers (names keys places : List ℕ) : Type 0 where
+  pub keys-long : length keys ≡ slots
+  pub places-long : length places ≡ slots
+  pub each : (s : ℕ) → s < slots → Place names (getD keys s 0) (getD places s 0)
+
 -- no name twice
 abbrev pub Apart : List ℕ → Type 0
 Apart names = (i j : ℕ) → i < length names → j < length names → getD names i 0 ≡ getD names j 0 → i ≡ j
