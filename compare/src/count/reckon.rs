@@ -118,7 +118,7 @@ fn plain_interfaces(list: &[Interface]) -> bool {
 }
 
 /// "An expanded document is a root sheet without kind 7, Proto statements or origin Proto, whose nodes hold only Route and
-/// ExternProto statements and whose interfaces with an IS have class 0."
+/// ExternProto statements and whose interfaces with an IS have class 0." Its urls may be marked (wish 1).
 fn expanded(doc: &Doc) -> bool {
     let node = |n: &Node| {
         !matches!(n.origin, Origin::Proto(_))
@@ -144,7 +144,7 @@ pub fn documents(words: &[u32], mutant: Option<Mutant>) -> Option<Vec<Doc>> {
     begins.push(rows);
     begins
         .windows(2)
-        .map(|span| grammar::root(&words[8 * span[0]..8 * span[1]]).ok())
+        .map(|span| grammar::document(&words[8 * span[0]..8 * span[1]], true).ok())
         .map(|doc| doc.filter(|doc| expanded(doc) || is(mutant, Mutant::RootTaken)))
         .collect()
 }

@@ -1,33 +1,29 @@
 -- A document's reached nodes are counted one after another, and the documents too.
 use mathlib.Core.Path.{_≡_, refl, sym, ap, subst, _∙_}
 use mathlib.Core.Bool.{Bool, true, false}
-use mathlib.Core.List.{List, [], _∷_, _++_}
-use mathlib.Core.Option.{some}
+use mathlib.Core.List.{List, [], _∷_}
 use Prim.Native.Nat.{ℕ, zero, suc, _+_, _-_, _*_, _≤_, _<_}
 use native.Mathlib.Numerals.{add-one}
 use native.Mathlib.Omega.{arith}
 use native.Mathlib.Decide.{ℕ-discrete}
-use lib.ListN.{length, getD, getElem?, set, drop, take, length-set, length-drop, length-append}
-use lib.Seq.{getD-set-same, getD-set-other, take-all, drop-cons}
+use lib.ListN.{length, getD, set, drop, length-set}
+use lib.Seq.{getD-set-same, getD-set-other, drop-cons}
 use lib.Dec.{eqb}
-use borrow.Author.Tests.{eqb-true, eqb-false, eq-eqb, ne-eqb}
-use Rattle.ast.specs.Ast.{Node, Document}
+use borrow.Author.Tests.{eq-eqb, ne-eqb}
+use Rattle.ast.specs.Ast.{Document}
 use Rattle.ast.specs.Choice.{choose}
 use Rattle.ast.specs.Lists.{flat}
 use Rattle.sheet_rows.specs.declared.row.Row.{Row}
 use Rattle.sheet_rows.specs.Rows.{blank}
 use Rattle.sheet_rows.specs.Print.{documentRows}
-use Rattle.graph_definition.specs.Graph.{nodeCount, distinct, reached, mentions}
-use Rattle.graph_definition.proofs.Distinct.{distinct-below, distinct-length}
-use Rattle.graph_definition.proofs.Exact.{reached-distinct}
-use Rattle.graph_walk.specs.Scan.{placesFrom}
-use Rattle.graph_walk.specs.State.{pairAt, occurs, WalkState}
-use Rattle.graph_walk.specs.Steps.{mostNodes, NodeStands, WalkReady, Reach, Reaches}
-use Rattle.graph_walk.proofs.Bounds.{sumOf}
+use Rattle.expansion_steps.specs.Lists.{sumTo}
+use Rattle.graph_definition.specs.Graph.{nodeCount, mentions}
+use Rattle.graph_walk.specs.State.{pairAt, occurs}
+use Rattle.graph_walk.specs.Steps.{mostNodes, NodeStands, Reaches}
 use Rattle.graph_walk.proofs.Printed.{node-at, document-within, after-at}
 use Rattle.count_documents.specs.Count.{isOfType, named, count, totalOf}
-use Rattle.count_documents.specs.Steps.{PlaceUpTo, nowhere, at, Place, Apart, weightAt, added, Addable, CountReady, DocumentCounted, Are, AllReady, AllCounted}
-use Rattle.count_documents.proofs.CountLaws.{weightOf, weights, weights-upto, count-rows, sum-turn}
+use Rattle.count_documents.specs.Steps.{nowhere, at, Place, Apart, weighed, added, Addable, CountReady, DocumentCounted, Are, AllReady, AllCounted}
+use Rattle.count_documents.proofs.CountLaws.{weightOf, weights, weights-upto, count-rows}
 
 -- ---- a number added to a total
 
@@ -80,12 +76,12 @@ module _ (names : List ℕ) (apart : Apart names) (t : List ℕ) (room : length 
         go (nowhere z n) = absurd (omega arith)
         go (at i a b c) = let q : j ≡ i = omega arith in (omega arith, ap (λ k. getD names k 0) q ∙ c)
 
--- ---- the reached nodes of a document
+-- ---- the nodes of a document
 
 module _ (R : List Row) (from p : ℕ) (names t₀ : List ℕ) where
   -- the first k are counted
   pub record Tallying (k : ℕ) (t : List ℕ) : Type 0 where
-    pub tallied : (d : Document) (ds : List Document) → NodeStands R from d ds → (j : ℕ) → j < length names → getD t j 0 ≡ getD t₀ j 0 + sumOf (weightOf d (getD names j 0) p) (take k (reached d))
+    pub tallied : (d : Document) (ds : List Document) → NodeStands R from d ds → (j : ℕ) → j < length names → getD t j 0 ≡ getD t₀ j 0 + sumTo k (weightOf d (getD names j 0) p)
     pub kept : (j : ℕ) → length names ≤ j → getD t j 0 ≡ getD t₀ j 0
     pub long : length t ≡ length t₀
 
@@ -93,77 +89,75 @@ module _ (R : List Row) (from p : ℕ) (names t₀ : List ℕ) where
   tally-start = record { tallied = λ d ds e j h. omega arith; kept = λ j h. refl; long = refl }
 
   module _ {n tail next : ℕ} {w : List ℕ} (r : Reaches R from n tail next w) where
-    pub tally-end : {k : ℕ} {t : List ℕ} → Tallying k t → tail ≤ k → DocumentCounted R from p names t₀ t next
+    pub tally-end : {k : ℕ} {t : List ℕ} → Tallying k t → k ≡ n → DocumentCounted R from p names t₀ t next
     tally-end {k} {t} x h =
         record {
           next = λ d ds e. r d ds e .next;
-          counts = λ d ds e j q. x .tallied d ds e j q ∙ ap (λ l. getD t₀ j 0 + sumOf (weightOf d (getD names j 0) p) l) (take-all k (reached d) (omega (arith, r d ds e .tail))) ∙ ap (λ z. getD t₀ j 0 + z) (weights d (getD names j 0) p);
+          counts = λ d ds e j q. x .tallied d ds e j q ∙ ap (λ z. getD t₀ j 0 + z) (ap (λ z. sumTo z (weightOf d (getD names j 0) p)) (h ∙ r d ds e .nodes) ∙ weights d (getD names j 0) p);
           kept = x .kept;
         }
 
-    module _ {k : ℕ} (h : k < tail) where
+    module _ {k : ℕ} (h : k < n) where
       module _ (d : Document) (ds : List Document) (e : NodeStands R from d ds) where
-        abbrev i : ℕ
-        i = getD (reached d) k 0
-
-        queue-is : getD w (5 * k + 4) 0 ≡ i
-        queue-is = r d ds e .state .queue k h ∙ ap (λ z. getD (distinct z (mentions d)) k 0) (r d ds e .nodes) ∙ ap (λ l. getD l k 0) (sym (reached-distinct d))
-
-        i-below : i < nodeCount d
-        i-below = rw (reached-distinct d) (distinct-below (nodeCount d) (mentions d) k (omega (arith, r d ds e .tail, ap length (reached-distinct d))))
+        below : k < nodeCount d
+        below = omega (arith, r d ds e .nodes)
 
         pub tally-room : 5 * k + 5 ≤ length w
-        tally-room = omega (arith, r d ds e .state .room, r d ds e .nodes, r d ds e .tail, ap length (reached-distinct d), distinct-length (nodeCount d) (mentions d))
+        tally-room = omega (arith, r d ds e .state .room)
 
-        module _ (id : ℕ) (q : id ≡ getD w (5 * k + 4) 0) where
-          id-is : id ≡ i
-          id-is = q ∙ queue-is
+        module _ {times by : ℕ} (q : times ≡ pairAt w (5 * k + 2)) (b : by ≡ weighed p times) where
+          by-is : weighed p (occurs k (mentions d)) ≡ by
+          by-is = sym (b ∙ ap (weighed p) (q ∙ r d ds e .state .mentioned k h))
 
-          pub tally-id : 5 * id + 5 ≤ length w
-          tally-id = omega (arith, id-is, i-below, r d ds e .state .room, r d ds e .nodes)
+          -- a node that counts nothing
+          skip-sum : by ≡ 0 → {t : List ℕ} → Tallying k t → (j : ℕ) → j < length names → getD t j 0 ≡ getD t₀ j 0 + sumTo (k + 1) (weightOf d (getD names j 0) p)
+          skip-sum z x j g =
+              let u = getD names j 0 in
+              omega (arith, x .tallied d ds e j g, ap (λ y. choose (named d u k) y 0) (by-is ∙ z) ∙ nothing (named d u k), ap (λ y. sumTo y (weightOf d u p)) (add-one k))
+            where
+              nothing : (c : Bool) → _≡_ {A = ℕ} (choose c 0 0) 0
+              nothing true = refl
+              nothing false = refl
 
-          module _ (place : ℕ) (pl : place ≡ pairAt w (5 * id)) where
-            place-is : place ≡ getD (placesFrom (from + 1) (drop (from + 1) R)) i 0
-            place-is = pl ∙ ap (λ z. pairAt w (5 * z)) id-is ∙ r d ds e .state .place i (omega (arith, i-below, r d ds e .nodes))
+          module _ {place : ℕ} (pl : place ≡ pairAt w (5 * k)) {name : ℕ} (nm : name ≡ getD R place blank .a) where
+            named-is : (u : ℕ) → named d u k ≡ eqb name u
+            unfolding named
+            named-is u =
+                let x = node-at R from d ds e k below in
+                ap (isOfType u) (x .is) ∙ ap (λ z. eqb z u) (sym (nm ∙ ap (λ z. getD R z blank .a) (pl ∙ r d ds e .state .place k h) ∙ x .typeName))
 
-            module _ (name : ℕ) (nm : name ≡ getD R place blank .a) (by : ℕ) (b : by ≡ weightAt p w id) where
-              named-is : (u : ℕ) → named d u i ≡ eqb name u
-              unfolding named
-              named-is u =
-                  let x = node-at R from d ds e i i-below in
-                  ap (isOfType u) (x .is) ∙ ap (λ z. eqb z u) (sym (nm ∙ ap (λ z. getD R z blank .a) place-is ∙ x .typeName))
+            weighs : (u : ℕ) → weightOf d u p k ≡ choose (eqb name u) by 0
+            weighs u = ap (λ z. choose z (weighed p (occurs k (mentions d))) 0) (named-is u) ∙ ap (λ z. choose (eqb name u) z 0) by-is
 
-              weight-is : choose (eqb p 1) (occurs i (mentions d)) 1 ≡ by
-              weight-is = sym (b ∙ ap (λ z. choose (eqb p 1) (pairAt w (5 * z + 2)) 1) id-is ∙ ap (λ z. choose (eqb p 1) z 1) (r d ds e .state .mentioned i (omega (arith, i-below, r d ds e .nodes))))
+            -- the next total
+            turn-sum : {t : List ℕ} → Tallying k t → (j : ℕ) → j < length names → getD t j 0 + choose (eqb name (getD names j 0)) by 0 ≡ getD t₀ j 0 + sumTo (k + 1) (weightOf d (getD names j 0) p)
+            turn-sum x j g =
+                let u = getD names j 0 in
+                omega (arith, x .tallied d ds e j g, weighs u, ap (λ y. sumTo y (weightOf d u p)) (add-one k))
 
-              weighs : (u : ℕ) → weightOf d u p i ≡ choose (eqb name u) by 0
-              weighs u = ap (λ z. choose z (choose (eqb p 1) (occurs i (mentions d)) 1) 0) (named-is u) ∙ ap (λ z. choose (eqb name u) z 0) weight-is
+            module _ (few : length R < mostNodes) {w₀ : List ℕ} (c : CountReady R from names t₀ w₀) {t : List ℕ} (x : Tallying k t) {s : ℕ} (sp : Place names name s) where
+              pub tally-addable : Addable t s by
+              tally-addable =
+                  record {
+                    within = added-within names (c .apart) t (omega (arith, c .room, x .long)) name s by sp;
+                    fits = λ j z.
+                        let y = added-name names (c .apart) t (omega (arith, c .room, x .long)) name s by sp j z in
+                        omega (arith, turn-sum x j (y .0), ap (λ b. choose b by 0) (eq-eqb name (getD names j 0) (sym (y .1))), weights-upto d (getD names j 0) p (k + 1) (omega (arith, below)), c .below j (y .0), document-within R from d ds e);
+                  }
 
-              -- the next total
-              turn-sum : {t : List ℕ} → Tallying k t → (j : ℕ) → j < length names → getD t j 0 + choose (eqb name (getD names j 0)) by 0 ≡ getD t₀ j 0 + sumOf (weightOf d (getD names j 0) p) (take (k + 1) (reached d))
-              turn-sum {t} x j g =
-                  let lt : k < length (reached d) = omega (arith, r d ds e .tail) in
-                  omega (arith, x .tallied d ds e j g, weighs (getD names j 0), sum-turn (weightOf d (getD names j 0) p) k (reached d) lt, ap (λ z. sumOf (weightOf d (getD names j 0) p) (take z (reached d))) (add-one k))
+      module _ {times by : ℕ} (q : times ≡ pairAt w (5 * k + 2)) (b : by ≡ weighed p times) {t : List ℕ} (x : Tallying k t) where
+        pub tally-skip : by ≡ 0 → Tallying (k + 1) t
+        tally-skip z = record { tallied = λ d ds e j g. skip-sum d ds e q b z x j g; kept = x .kept; long = x .long }
 
-              module _ (few : length R < mostNodes) {w₀ : List ℕ} (c : CountReady R from names t₀ w₀) {t : List ℕ} (x : Tallying k t) {s : ℕ} (sp : Place names name s) where
-                pub tally-addable : Addable t s by
-                tally-addable =
-                    record {
-                      within = added-within names (c .apart) t (omega (arith, c .room, x .long)) name s by sp;
-                      fits = λ j z.
-                          let y = added-name names (c .apart) t (omega (arith, c .room, x .long)) name s by sp j z in
-                          omega (arith, turn-sum x j (y .0), ap (λ b. choose b by 0) (eq-eqb name (getD names j 0) (sym (y .1))), weights-upto d (getD names j 0) p (k + 1), c .below j (y .0), document-within R from d ds e);
-                    }
-
-      pub tally-turn : {w₀ : List ℕ} (c : CountReady R from names t₀ w₀) → {t : List ℕ} → Tallying k t → (id : ℕ) → id ≡ getD w (5 * k + 4) 0 → (place : ℕ) → place ≡ pairAt w (5 * id) → (name : ℕ) → name ≡ getD R place blank .a → (by : ℕ) → by ≡ weightAt p w id → {s : ℕ} → Place names name s → {t′ : List ℕ} → t′ ≡ added t s by → Tallying (k + 1) t′
-      tally-turn c {t} x id q place pl name nm by b {s} sp {t′} e =
-          let room : length names ≤ length t = omega (arith, c .room, x .long) in
-          subst (λ (v : List ℕ). Tallying (k + 1) v) (sym e)
-          (record {
-            tallied = λ d ds st j g. added-at names (c .apart) t room name s by sp j g ∙ turn-sum d ds st id q place pl name nm by b x j g;
-            kept = λ j g. added-kept names (c .apart) t room name s by sp j g ∙ x .kept j g;
-            long = added-long names (c .apart) t room name s by ∙ x .long;
-          })
+        pub tally-turn : {w₀ : List ℕ} (c : CountReady R from names t₀ w₀) → {place : ℕ} → place ≡ pairAt w (5 * k) → {name : ℕ} → name ≡ getD R place blank .a → {s : ℕ} → Place names name s → {t′ : List ℕ} → t′ ≡ added t s by → Tallying (k + 1) t′
+        tally-turn c pl {name} nm {s} sp {t′} e =
+            let room : length names ≤ length t = omega (arith, c .room, x .long) in
+            subst (λ (v : List ℕ). Tallying (k + 1) v) (sym e)
+            (record {
+              tallied = λ d ds st j g. added-at names (c .apart) t room name s by sp j g ∙ turn-sum d ds st q b pl nm x j g;
+              kept = λ j g. added-kept names (c .apart) t room name s by sp j g ∙ x .kept j g;
+              long = added-long names (c .apart) t room name s by ∙ x .long;
+            })
 
 -- ---- documents one after another
 

@@ -9,7 +9,6 @@ use Rattle.ast.specs.Choice.{choose}
 use Rattle.ast.specs.Lists.{flat}
 use Rattle.sheet_rows.specs.declared.row.Row.{Row}
 use Rattle.sheet_rows.specs.Print.{documentRows}
-use Rattle.graph_walk.specs.State.{pairAt}
 use Rattle.graph_walk.specs.Steps.{mostNodes, NodeStands, WalkReady}
 use Rattle.count_documents.specs.Count.{count, totalOf}
 
@@ -21,13 +20,23 @@ pub data PlaceUpTo (names : List ℕ) (name n r : ℕ) : Type 0 where
 abbrev pub Place : List ℕ → ℕ → ℕ → Type 0
 Place names name r = PlaceUpTo names name (length names) r
 
+-- how many names are remembered
+abbrev pub slots : ℕ
+slots = 128
+
+-- names that were looked for, each with its place
+pub record Remembers (names keys places : List ℕ) : Type 0 where
+  pub keys-long : length keys ≡ slots
+  pub places-long : length places ≡ slots
+  pub each : (s : ℕ) → s < slots → Place names (getD keys s 0) (getD places s 0)
+
 -- no name twice
 abbrev pub Apart : List ℕ → Type 0
 Apart names = (i j : ℕ) → i < length names → j < length names → getD names i 0 ≡ getD names j 0 → i ≡ j
 
--- how much a node counts: how often it is mentioned under protocol 1, else once
-abbrev pub weightAt : (protocol : ℕ) → List ℕ → (id : ℕ) → ℕ
-weightAt p w i = choose (eqb p 1) (pairAt w (5 * i + 2)) 1
+-- how much a node counts that is mentioned so often: every mention under protocol 1, else once
+abbrev pub weighed : (protocol times : ℕ) → ℕ
+weighed p x = choose (eqb p 1) x (choose (eqb x 0) 0 1)
 
 -- a number added to the total at a place, from 1
 abbrev pub added : List ℕ → (place by : ℕ) → List ℕ
