@@ -32,7 +32,8 @@ use Rattle.expansion_definition.specs.Copy.{copyNode, mappedOr, copy}
 use Rattle.expansion_definition.specs.Expand.{statement, rootEnv, statements}
 use Rattle.expansion_definition.specs.Reached.{Known, knownEntry, bodyIds, defaultIds, declOf, interfaceIds, plainNexts, gives, isGiven, nameIfValued, bodyNames, bodyScope, defaultScope, kindBy, nodeKind, defaultAction, valueActions, interfaceActions, instanceActions, actionsBy, actionsOf, nodeInScope, graph}
 use Rattle.expansion_definition.specs.Counted.{tops}
-use Rattle.expansion_definition.specs.Expanded.{knownDocument, PlainAt, InstanceAt, Dangling, BodyDone, beforeRoot, fromRoot, Fault, fourOrigin, fourStatement, fourBody, six, seven, eight, ChargedAt, topCharge, nodeCharge, Refusal, atTop, nowhere, tooDeep, atNode}
+use Rattle.expansion_definition.specs.Until.{BodyDone, beforeRoot, fromRoot}
+use Rattle.expansion_definition.specs.Expanded.{knownDocument, PlainAt, InstanceAt, Dangling, Fault, fourOrigin, fourStatement, fourBody, six, seven, eight, ChargedAt, topCharge, nodeCharge, Refusal, atTop, nowhere, tooDeep, atNode}
 use Rattle.expansion_definition.proofs.Outcome.{Outcome, refused, accepted, Any, bindOut, mapOut, thenOut, turnOut, both}
 use Rattle.expansion_definition.proofs.Names.{Shows, known, none-shown, values-shown}
 
