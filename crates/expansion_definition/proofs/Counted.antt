@@ -29,7 +29,7 @@ use Rattle.expansion_definition.specs.Expand.{statement, rootEnv, statem
 use Rattle.expansion_definition.specs.Reached.{Known, bodyIds, defaultIds, declOf, interfaceIds, plainNexts, gives, isGiven, nameIfValued, bodyNames, bodyScope, defaultScope, kindBy, nodeKind, defaultAction, valueActions, interfaceActions, instanceActions, actionsBy, actionsOf, nodeInScope, graph}
 use Rattle.expansion_definition.specs.Outputs.{sumOf, interfaceRowCount, externRowCount}
 use Rattle.expansion_definition.specs.Counted.{ofNode, ofOutput, allButOne, routesIn, bodyRoutes, ofScope, isIn, isSet, associationsIn, valueFor, storedIf, storedFrom, storedBy, bodyValues, ofValue, ofRun, counted, tops, valuesOr, held, CopiesCharged}
-use Rattle.expansion_definition.specs.Until.{idsFirst, plainFirst, givenFirst, defaultEnv, defaultFirst, bodyEnv, BodyPart, bodyFirst, Fit, Named, BodyDone, beforeRoot, fromRoot, ofBody, PartsCharged}
+use Rattle.expansion_definition.specs.Until.{idsFirst, plainFirst, givenFirst, defaultEnv, defaultFirst, bodyEnv, BodyPart, bodyFirst, ofContents, BodyDone, beforeRoot, fromRoot, ofBody}
 use Rattle.expansion_definition.proofs.Marks.{marked-length}
 use Rattle.expansion_definition.proofs.Outcome.{Outcome, refused, accepted, Any, bindOut, mapOut, both, atOk}
 use Rattle.expansion_definition.proofs.Names.{Shows, known, none-shown, values-shown, anything}
@@ -209,9 +209,9 @@ module _ (I : Input) where
 
   -- ---- the world that a run is in
 
-  record Sees (w : Steps.World Known) (v : Bookkeeping) : Type 0 where
-    mapped : w .mapped ≡ map key (v .map)
-    scopes : length (w .scopes) ≡ length (v .scopes)
+  pub record Sees (w : Steps.World Known) (v : Bookkeeping) : Type 0 where
+    pub mapped : w .mapped ≡ map key (v .map)
+    pub scopes : length (w .scopes) ≡ length (v .scopes)
 
   sees-same : {w w′ : Steps.World Known} {v v′ : Bookkeeping} → w ≡ w′ → v′ ≡ v → Sees w v → Sees w′ v′
   sees-same p q s = record { mapped = ap (λ (u : Steps.World Known). u .mapped) (sym p) ∙ s .mapped ∙ ap (λ (u : Bookkeeping). map key (u .map)) (sym q); scopes = ap (λ (u : Steps.World Known). length (u .scopes)) (sym p) ∙ s .scopes ∙ ap (λ (u : Bookkeeping). length (u .scopes)) (sym q) }
@@ -908,10 +908,7 @@ module _ (I : Input) where
       go none t = refl
       go (some vs) t = refl
 
-  fit : {w : Steps.World Known} {st : State} → Fit w st → Sees w (st .world)
-  fit h = record { mapped = h .mapped; scopes = h .scopes }
-
-  row-is : (env : Env) (i : ℕ) (st : State) → Out (λ new st′. (st′ .charges ≡ st .charges + 2) × (held I st′ ≡ held I st + 2)) (reserve I env i st)
+  pub row-is : (env : Env) (i : ℕ) (st : State) → Out (λ new st′. (st′ .charges ≡ st .charges + 2) × (held I st′ ≡ held I st + 2)) (reserve I env i st)
   unfolding reserve reserveIf
   row-is env i st = go (ltb (length (st .nodes)) (I .limits .maxNodes))
     where
@@ -926,28 +923,28 @@ module _ (I : Input) where
     hc : (x i : ℕ) → Pays ds (one (env .scope) (known env names) i) x (copy I left env i) (λ o. x)
     hc x i = copy-pays left env names ds hn (sized env) x i
 
-    plain-first : (i : ℕ) (node : Node) (fs : List Field) (is : List InterfaceDecl) (ss : List Statement) (ids : List ℕ) (st : State) (w w′ : Steps.World Known) → Sees w (st .world)
+    pub plain-first : (i : ℕ) (node : Node) (fs : List Field) (is : List InterfaceDecl) (ss : List Statement) (ids : List ℕ) (st : State) (w w′ : Steps.World Known) → Sees w (st .world)
         → (r : Run (graph I) (all (env .scope) (known env names) (map copyId (flat (λ f. bindingIds (f .binding)) fs ++ (flat (λ d. interfaceIds (d .is) (d .value)) is ++ ids)))) (addPlain (env .scope) i w) w′)
-        → Out (λ x st′. st′ .charges + held I st + 2 ≡ st .charges + held I st′ + ofNode x + sumOf (λ f. isIn (f .binding)) fs + sumOf (λ d. isSet (d .is)) is + length ids + ofRun I ds r) (plainFirst I (copy I left env) env i node fs is ss ids st)
+        → Out (λ x st′. st′ .charges + held I st ≡ st .charges + held I st′ + (ofContents x + sumOf (λ f. isIn (f .binding)) fs + sumOf (λ d. isSet (d .is)) is + length ids) + ofRun I ds r) (plainFirst I (copy I left env) env i node fs is ss ids st)
     unfolding plainFirst
     plain-first i node fs is ss ids st w w′ s r =
         bindOut (reserved (copy I left env) hc env i st) (λ new s1 y. mapOut (pays-after {vs = ds} {n = env .scope} {e = known env names} (copyOrigin-pays 2 env (node .origin)) (λ og. pays-copies (flat (λ f. bindingIds (f .binding)) fs) (flat (λ d. interfaceIds (d .is) (d .value)) is ++ ids) (mapM-pays (λ f. bindingIds (f .binding)) (λ f. isIn (f .binding)) optionField _ (copyField-pays (copy I left env) hc env new) 2 fs)
         (λ fs′. pays-copies (flat (λ d. interfaceIds (d .is) (d .value)) is) ids (mapM-pays (λ d. interfaceIds (d .is) (d .value)) (λ d. isSet (d .is)) interfaceRowCount _ (copyInterface-pays (copy I left env) hc env new) _ is)
-        (λ is′. pays-after (mapM-still optionRow _ (copyStatement-pays env) _ ss) (λ ss′. pays-then (map copyId ids) (ids-first (copy I left env) hc _ ids) (λ os. pays-ret {m = λ x. ofNode x + sumOf (λ f. isIn (f .binding)) fs + sumOf (λ d. isSet (d .is)) is + length ids} _ (omega (arith, somes-fields fs′, somes-rows ss′)))))))
+        (λ is′. pays-after (mapM-still optionRow _ (copyStatement-pays env) _ ss) (λ ss′. pays-then (map copyId ids) (ids-first (copy I left env) hc _ ids) (λ os. pays-ret {m = λ x. 2 + ofContents x + sumOf (λ f. isIn (f .binding)) fs + sumOf (λ d. isSet (d .is)) is + length ids} _ (omega (arith, somes-fields fs′, somes-rows ss′)))))))
         (addPlain (env .scope) i w) w′ (ofRun I ds r) (record { run = r; is = refl }) s1 (y .sees w s)) (λ x s2 z. omega (arith, y .paid′, z .spent .paid′)))
 
     module _ (p : Prototype) (decl : ProtoDecl) (ep : declOf I p ≡ some decl) (fields : List Field) (is behind : List InterfaceDecl) (eq : decl .interface ≡ is ++ behind) where
       values-first : Pays ds (all (env .scope) (known env names) (interfaceActions names p fields 0 is)) 0 (values I (copy I left) env p fields 0 is []) (λ vs. size vs + 0)
       values-first = values-pays (copy I left) (copy-pays left) env names ds hn (sized env) p fields decl ep behind 0 is [] 0 [] (sym eq) refl
 
-      given-first : (ids : List ℕ) (st : State) (w w′ : Steps.World Known) → Sees w (st .world) → (r : Run (graph I) (all (env .scope) (known env names) (interfaceActions names p fields 0 is ++ map copyId ids)) w w′)
-          → Out (λ vs st′. st′ .charges + held I st ≡ st .charges + held I st′ + size vs + length ids + ofRun I ds r) (givenFirst I (copy I left) env p fields is ids st)
+      pub given-first : (ids : List ℕ) (st : State) (w w′ : Steps.World Known) → Sees w (st .world) → (r : Run (graph I) (all (env .scope) (known env names) (interfaceActions names p fields 0 is ++ map copyId ids)) w w′)
+          → Out (λ vs st′. st′ .charges + held I st ≡ st .charges + held I st′ + (size vs + length ids) + ofRun I ds r) (givenFirst I (copy I left) env p fields is ids st)
       unfolding givenFirst
       given-first ids st w w′ s r = mapOut (pays-bind (interfaceActions names p fields 0 is) (map copyId ids) values-first (λ vs. pays-then (map copyId ids) (ids-first (copy I left env) hc (size vs + 0) ids) (λ os. pays-ret {m = λ vs. length ids + (size vs + 0)} vs refl)) w w′ (ofRun I ds r) (record { run = r; is = refl }) st s) (λ vs st′ z. omega (arith, z .spent .paid′))
 
-      default-first : (ids : List ℕ) (st : State) (w w1 w′ : Steps.World Known) → Sees w (st .world) → (r : Run (graph I) (all (env .scope) (known env names) (interfaceActions names p fields 0 is)) w w1)
+      pub default-first : (ids : List ℕ) (st : State) (w w1 w′ : Steps.World Known) → Sees w (st .world) → (r : Run (graph I) (all (env .scope) (known env names) (interfaceActions names p fields 0 is)) w w1)
           → (q : Run (graph I) (all (count w1) (defaultScope p (length is) (env .scope)) (map copyId ids)) (addDefault (defaultScope p (length is) (env .scope)) w1) w′)
-          → Out (λ x st′. st′ .charges + held I st ≡ st .charges + held I st′ + size (x .1) + length ids + ofRun I ds r + ofRun I [] q) (defaultFirst I (copy I left) env p fields is ids st)
+          → Out (λ x st′. st′ .charges + held I st ≡ st .charges + held I st′ + (size (x .1) + length ids + ofRun I ds r) + ofRun I [] q) (defaultFirst I (copy I left) env p fields is ids st)
       unfolding defaultFirst
       default-first ids st w w1 w′ s r q = bindOut (values-first w w1 (ofRun I ds r) (record { run = r; is = refl }) st s) (λ vs s1 a. bindOut (open-is b s1)
           (λ m s2 o. bindOut (ids-first {vs = []} {n = m} {e = e} (copy I left (defaultEnv env p (length is) m)) (copy-pays left (defaultEnv env p (length is) m) [] [] none-shown none-sized) 0 ids (addDefault e w1) w′ (ofRun I [] q) (subst (λ (j : ℕ). Costs [] (all j e (map copyId ids)) (addDefault e w1) w′ (ofRun I [] q)) (a .sees .scopes ∙ sym (o .number)) (record { run = q; is = refl })) s2 (open-sees b s1 s2 m w1 (addDefault e w1) e o refl refl (a .sees)))
@@ -959,16 +956,16 @@ module _ (I : Input) where
           e : Known
           e = defaultScope p (length is) (env .scope)
 
-    body-part : (i : ℕ) (node : Node) (p : Prototype) (decl : ProtoDecl) → declOf I p ≡ some decl → (ss : List Statement) (st : State)
+    pub body-part : (i : ℕ) (node : Node) (p : Prototype) (decl : ProtoDecl) → declOf I p ≡ some decl → (ss : List Statement) (st : State)
         → Out (λ x st′. (inside : List ℕ) → Shows (bodyEnv env p (x .number) (x .values)) inside → (w v : Steps.World Known) → Sees w (st .world) → (r : Run (graph I) (all (env .scope) (known env names) (interfaceActions names p (node .fields) 0 (decl .interface))) w v) → (l : List ℕ) → flat statementIds ss ≡ l
-          → (b : BodyDone I (env .scope) i (bodyScope p inside (env .scope)) v l) → st′ .charges + held I st + ofScope I (Scope.Body p (env .scope)) ≡ st .charges + held I st′ + size (x .values) + 1 + length l + routesIn ss + ofRun I ds r + ofBody I (x .values) b) (bodyFirst I (copy I left) env i node p decl ss st)
+          → (b : BodyDone I (env .scope) i (bodyScope p inside (env .scope)) v l) → st′ .charges + held I st + ofScope I (Scope.Body p (env .scope)) ≡ st .charges + held I st′ + 1 + size (x .values) + length l + routesIn ss + ofRun I ds r + ofBody (x .values) b) (bodyFirst I (copy I left) env i node p decl ss st)
     unfolding bodyFirst
     body-part i node p decl ep ss st = bindAt (values I (copy I left) env p (node .fields) 0 (decl .interface) [] st) (λ vs s1 e1. bindAt (openScope I (Scope.Body p (env .scope)) s1) (λ m s2 e2. bindAt (foldM (bodyStatement I (copy I left) env i (bodyEnv env p m vs)) (record { root = none; extraRoots = []; routes = [] }) ss s2)
         (λ y s3 e3. accepted (λ inside hi w v s r. whole vs s1 m s2 y s3 inside hi w v r (atOk (values-first p decl ep (node .fields) (decl .interface) [] (sym (append-nil (decl .interface))) w v (ofRun I ds r) (record { run = r; is = refl }) st s) e1) (atOk (open-is (Scope.Body p (env .scope)) s1) e2) e3))))
       where
         whole : (vs : Values) (s1 : State) (m : ℕ) (s2 : State) (y : Body) (s3 : State) (inside : List ℕ) → Shows (bodyEnv env p m vs) inside → (w v : Steps.World Known) (r : Run (graph I) (all (env .scope) (known env names) (interfaceActions names p (node .fields) 0 (decl .interface))) w v)
             → After v 0 st (ofRun I ds r) (size vs + 0) s1 → Opened (Scope.Body p (env .scope)) s1 m s2 → foldM (bodyStatement I (copy I left) env i (bodyEnv env p m vs)) (record { root = none; extraRoots = []; routes = [] }) ss s2 ≡ ok y s3
-            → (l : List ℕ) → flat statementIds ss ≡ l → (b : BodyDone I (env .scope) i (bodyScope p inside (env .scope)) v l) → s3 .charges + held I st + ofScope I (Scope.Body p (env .scope)) ≡ st .charges + held I s3 + size vs + 1 + length l + routesIn ss + ofRun I ds r + ofBody I vs b
+            → (l : List ℕ) → flat statementIds ss ≡ l → (b : BodyDone I (env .scope) i (bodyScope p inside (env .scope)) v l) → s3 .charges + held I st + ofScope I (Scope.Body p (env .scope)) ≡ st .charges + held I s3 + 1 + size vs + length l + routesIn ss + ofRun I ds r + ofBody vs b
         whole vs s1 m s2 y s3 inside hi w v r a o e3 = go
           where
             known′ : Known
@@ -983,20 +980,10 @@ module _ (I : Input) where
             number : count v ≡ m
             number = a .sees .scopes ∙ sym (o .number)
 
-            go : (l : List ℕ) → flat statementIds ss ≡ l → (b : BodyDone I (env .scope) i known′ v l) → s3 .charges + held I st + ofScope I (Scope.Body p (env .scope)) ≡ st .charges + held I s3 + size vs + 1 + length l + routesIn ss + ofRun I ds r + ofBody I vs b
+            go : (l : List ℕ) → flat statementIds ss ≡ l → (b : BodyDone I (env .scope) i known′ v l) → s3 .charges + held I st + ofScope I (Scope.Body p (env .scope)) ≡ st .charges + held I s3 + 1 + size vs + length l + routesIn ss + ofRun I ds r + ofBody vs b
             go l q beforeRoot = omega (arith, a .spent .paid′, opened .paid′, atOk (body-none (copy I left) (copy-pays left) env i (bodyEnv env p m vs) inside vs hi (sized (bodyEnv env p m vs)) ss (record { root = none; extraRoots = []; routes = [] }) refl q 0 (addBody (env .scope) i known′ v) s2 seen) e3 .spent .paid′)
             go l q (fromRoot n ns v1 v2 x z) = omega (arith, a .spent .paid′, opened .paid′, atOk (body-first (copy I left) (copy-pays left) env i (bodyEnv env p m vs) inside vs hi (sized (bodyEnv env p m vs)) ss (record { root = none; extraRoots = []; routes = [] }) refl n ns q (addBody (env .scope) i known′ v) v1 v2 (ofRun I vs x) (ofRun I vs z)
                 (subst (λ (j : ℕ). Costs vs (one j known′ n) (addBody (env .scope) i known′ v) v1 (ofRun I vs x)) number (record { run = x; is = refl })) (subst (λ (j : ℕ). Costs vs (all j known′ (map copyId ns)) (addMapped (env .scope) i v1) v2 (ofRun I vs z)) number (record { run = z; is = refl })) 0 s2 seen) e3 .spent .paid′)
-
-  -- What the first parts of a node are charged.
-  pub parts-charged : PartsCharged I
-  parts-charged = record {
-    row = λ env i new st st′ e. atOk (row-is env i st) e;
-    contents = λ left env names hn i node fs is ss ids x st st′ e w w′ h r. atOk (plain-first left env names hn i node fs is ss ids st w w′ (fit h) r) e;
-    given = λ left env names hn p decl ep fields is behind q ids vs st st′ e w w′ h r. atOk (given-first left env names hn p decl ep fields is behind q ids st w w′ (fit h) r) e;
-    default = λ left env names hn p decl ep fields is behind q ids n vs st st′ e w w1 w′ h r z. atOk (default-first left env names hn p decl ep fields is behind q ids st w w1 w′ (fit h) r z) e;
-    body = λ left env names hn i node p decl ep ss x st st′ e inside hi w v h r b. atOk (body-part left env names hn i node p decl ep ss st) e inside hi w v (fit h) r _ refl b;
-  }
 
   -- ---- the whole
 

@@ -19,8 +19,9 @@ use Rattle.expansion_definition.specs.Expand.{statement, rootEnv, statem
 use Rattle.expansion_definition.specs.Counted.{tops}
 use Rattle.expansion_definition.specs.Expanded.{TopsDone, Stopped, atStart, atStatement}
 use Rattle.expansion_definition.proofs.Outcome.{atOk}
-use Rattle.expansion_definition.proofs.Walk.{tops-ran}
-use Rattle.expansion_definition.proofs.Counted.{tops-counted, copies-charged, parts-charged}
+use Rattle.expansion_definition.proofs.Walk.{see, tops-ran}
+use Rattle.expansion_definition.proofs.Counted.{tops-counted, copies-charged}
+use Rattle.expansion_definition.proofs.Parts.{fit, parts-charged}
 
 -- an element of a list is refused, and those in front of it are done
 record Stops {A B : Type 0} (g : A → Comp B) (l : List A) (st : State) (c d i : ℕ) : Type 0 where
@@ -124,8 +125,9 @@ module _ (I : Input) where
     kept = kept;
     state = state;
     done = done;
-    world = atOk (tops-ran I before) done .0;
-    run = atOk (tops-ran I before) done .1;
+    world = see (atOk (tops-ran I before) done .after) (state .world);
+    run = atOk (tops-ran I before) done .run;
+    fits = fit I (atOk (tops-ran I before) done .fits);
     charges = λ w r. atOk (tops-counted I before w r) done;
     copies = copies-charged I;
     parts = parts-charged I;

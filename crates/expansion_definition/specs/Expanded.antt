@@ -25,7 +25,7 @@ use Rattle.expansion_definition.specs.Expand.{statement, rootEnv, Ledger
 use Rattle.expansion_definition.specs.Reached.{Known, knownEntry, declOf, gives, isGiven, nodeInScope, graph}
 use Rattle.expansion_definition.specs.Outputs.{outputIds, rowCount}
 use Rattle.expansion_definition.specs.Counted.{counted, tops, CopiesCharged}
-use Rattle.expansion_definition.specs.Until.{BodyDone, PartsCharged, OpenTop}
+use Rattle.expansion_definition.specs.Until.{Fit, BodyDone, PartsCharged, OpenTop}
 
 -- "A PROTO is left in an output by a kind 7 row or a Proto statement, an instance by a node of origin Proto ..": none is.
 pub record NoProto (d : Document) : Type 0 where
@@ -186,6 +186,7 @@ pub record TopsDone (I : Input) : Type 0 where
   pub done : tops I before startState ≡ ok kept state
   pub world : World Known
   pub run : Run (graph I) (all 0 (graph I .root) (map copyId (flat statementIds before))) (firstWorld (graph I .root)) world
+  pub fits : Fit I world state
   -- The charges made until then are the items of document 01's list, counted from what is there then and a run of those Nodes, whichever it is.
   pub charges : (w : World Known) (r : Run (graph I) (all 0 (graph I .root) (map copyId (flat statementIds before))) (firstWorld (graph I .root)) w) → state .charges ≡ counted I (expansion I kept state) r
   -- And so it is with each copy that comes to its end, there or in `next`; and with the first parts of one that doesn't.

@@ -9,20 +9,21 @@ use Rattle.ast.specs.Choice.{andThen}
 use Rattle.ast.specs.Lists.{flat}
 use Rattle.ast.specs.Lookups.{nodeAt, protoAt, externProtoAt}
 use Rattle.pick_table.specs.Picks.{Prototype, member}
-use Rattle.expansion_steps.specs.Steps.{World, addMapped, addPlain, addDefault, addBody, count, copyId, one, all, Run}
+use Rattle.expansion_steps.specs.Steps.{World, addMapped, addPlain, addDefault, addBody, count, copyId, Task, one, all, Run}
 use Rattle.expansion_definition.specs.Input.{Input, docs, protoOfOrigin, lastField}
 use Rattle.expansion_definition.specs.Scopes.{Scope}
 use Rattle.expansion_definition.specs.Ids.{bindingIds, statementIds}
 use Rattle.expansion_definition.specs.State.{State, ok, Comp, _>>=_, _>>_, ret, mapM, foldM, lookup}
 use Rattle.expansion_definition.specs.Charges.{paid}
 use Rattle.expansion_definition.specs.Values.{Values, valueNamed, Env, src, Copier}
+use Rattle.expansion_definition.specs.Externs.{lookupExtern}
 use Rattle.expansion_definition.specs.PlainCopy.{reserve, copyOrigin, copyField, copyInterface, copyStatement, somes}
 use Rattle.expansion_definition.specs.Instances.{openScope, values, Body, bodyStatement}
 use Rattle.expansion_definition.specs.Copy.{copy}
 use Rattle.expansion_definition.specs.Expand.{rootEnv}
-use Rattle.expansion_definition.specs.Reached.{Known, interfaceIds, isGiven, bodyScope, defaultScope, interfaceActions, graph}
-use Rattle.expansion_definition.specs.Outputs.{sumOf}
-use Rattle.expansion_definition.specs.Counted.{ofNode, routesIn, ofScope, isIn, isSet, ofValue, ofRun, held, valuesOr}
+use Rattle.expansion_definition.specs.Reached.{Known, knownEntry, interfaceIds, isGiven, bodyNames, defaultScope, interfaceActions, graph}
+use Rattle.expansion_definition.specs.Outputs.{sumOf, fieldRowCount, interfaceRowCount}
+use Rattle.expansion_definition.specs.Counted.{routesIn, ofScope, isIn, isSet, ofValue, ofRun, held, valuesOr}
 
 -- ---- the first parts of a node
 
@@ -78,46 +79,80 @@ bodyFirst I f env i node p decl ss = do
 
 -- ---- what they are charged
 
--- a world of the steps where the definition is in the state st
-pub record Fit (w : World Known) (st : State) : Type 0 where
+-- The steps are in the world w where the definition is in the state st: as many ids are mapped, as many nodes listed, the same scopes open. Each node is listed, N is kept, and the externs declared are there.
+pub record Fit (I : Input) (w : World Known) (st : State) : Type 0 where
   pub mapped : w .mapped ≡ map (λ e. (e .scope, e .id)) (st .world .map)
-  pub scopes : length (w .scopes) ≡ length (st .world .scopes)
+  pub ledger : w .ledger ≡ st .world .ledger
+  pub scopes : map knownEntry (w .scopes) ≡ st .world .scopes
+  pub listed : length (st .nodes) ≡ length (st .world .ledger)
+  pub room : length (st .nodes) ≤ I .limits .maxNodes
+  pub externs : (d x n : ℕ) → lookupExtern (st .externMap) d x ≡ some n → externProtoAt (docs I) d x ≡ none → ⊥
 
 -- the names are those that have a value in the scope
 abbrev pub Named : Env → List ℕ → Type 0
 Named env names = (t : ℕ) → member t names ≡ isGiven (andThen (env .isValues) (valueNamed t))
+
+abbrev pub scopeOf : Env → List ℕ → Known
+scopeOf env names = record { entry = env .entry; names = names }
+
+-- From the state st to st′ the steps run the task, from the world w on; the charges made are what the state holds more of, what the run counts, and these items.
+pub record Charged (I : Input) (vs : Values) (t : Task Known) (w : World Known) (st st′ : State) (items : ℕ) : Type 0 where
+  pub after : World Known
+  pub run : Run (graph I) t w after
+  pub fits : Fit I after st′
+  pub charges : st′ .charges + held I st ≡ st .charges + held I st′ + items + ofRun I vs run
+
+-- of what is made of a node: "a kept field, interface, statement", with the ids of their values. Its row and map entry are held.
+abbrev pub ofContents : Node → ℕ
+ofContents x = sumOf fieldRowCount (x .fields) + sumOf interfaceRowCount (x .interface) + length (x .statements)
+
+-- The values of the first interfaces are run, and then a default's ids in its scope b.
+pub record DefaultCharged (I : Input) (vs : Values) (t : Task Known) (b : Known) (ids : List ℕ) (w : World Known) (st st′ : State) (items : ℕ) : Type 0 where
+  pub before : World Known
+  pub values : Run (graph I) t w before
+  pub inside : Charged I [] (all (count before) b (map copyId ids)) (addDefault b before) st st′ (items + ofRun I vs values)
 
 -- Of the body of instance i of scope number n these Nodes are done, its scope b opened in the world v: the first is the root, then the instance is mapped, then come the others.
 pub data BodyDone (I : Input) (n i : ℕ) (b : Known) (v : World Known) : List ℕ → Type 0 where
   beforeRoot : BodyDone I n i b v []
   fromRoot : (r : ℕ) (rs : List ℕ) (v1 v2 : World Known) → Run (graph I) (one (count v) b r) (addBody n i b v) v1 → Run (graph I) (all (count v) b (map copyId rs)) (addMapped n i v1) v2 → BodyDone I n i b v (r ∷ rs)
 
-abbrev pub ofBody : (I : Input) → Values → {n i : ℕ} {b : Known} {v : World Known} {l : List ℕ} → BodyDone I n i b v l → ℕ
-ofBody I vs beforeRoot = 0
-ofBody I vs (fromRoot r rs v1 v2 a b) = ofRun I vs a + ofRun I vs b
+-- the world then, and what its runs count
+abbrev pub bodyWorld : {I : Input} {n i : ℕ} {b : Known} {v : World Known} {l : List ℕ} → BodyDone I n i b v l → World Known
+bodyWorld {n = n} {i = i} {b = b} {v = v} beforeRoot = addBody n i b v
+bodyWorld (fromRoot r rs v1 v2 x y) = v2
 
--- What the first parts are charged, in whatever state st they begin and whatever comes after them: what the state holds more of, what a run of the steps counts, whichever it is, and the items named here.
--- In a scope env, where names have a value.
+abbrev pub ofBody : {I : Input} {n i : ℕ} {b : Known} {v : World Known} {l : List ℕ} → Values → BodyDone I n i b v l → ℕ
+ofBody vs beforeRoot = 0
+ofBody {I} vs (fromRoot r rs v1 v2 x y) = ofRun I vs x + ofRun I vs y
+
+-- All values are run, and then the first statements ss of the body, whose scope is inner and where names have a value. The state holds that scope with all that its body will be charged.
+pub record BodyCharged (I : Input) (env : Env) (t : Task Known) (i : ℕ) (inner : Env) (names : List ℕ) (ss : List Statement) (w : World Known) (st st′ : State) : Type 0 where
+  pub named : Named inner names
+  pub before : World Known
+  pub values : Run (graph I) t w before
+  pub done : BodyDone I (env .scope) i (scopeOf inner names) before (flat statementIds ss)
+  pub fits : Fit I (bodyWorld done) st′
+  -- "a scope", "a stored interface value" and its ids, "an instance's map entry" or "an extra root" for each Node, "a body route" for each route
+  pub charges : st′ .charges + held I st + ofScope I (inner .entry) ≡ st .charges + held I st′ + 1 + sumOf ofValue (valuesOr (inner .isValues)) + length (flat statementIds ss) + routesIn ss + ofRun I (valuesOr (env .isValues)) values + ofBody (valuesOr (inner .isValues)) done
+
+-- What the first parts are charged, in whatever state they begin and whatever comes after them. In a scope env, where names have a value.
 pub record PartsCharged (I : Input) : Type 0 where
-  -- "a plain copy two (row, map entry)", which the state holds
+  -- "a plain copy two (row, map entry)"
   pub row : (env : Env) (i new : ℕ) (st st′ : State) → reserve I env i st ≡ ok new st′ → (st′ .charges ≡ st .charges + 2) × (held I st′ ≡ held I st + 2)
-  -- of its contents what is kept, "an association, written or not", and "an id of a class 2 value copied"
-  pub contents : (left : ℕ) (env : Env) (names : List ℕ) → Named env names → (i : ℕ) (node : Node) (fs : List Field) (is : List InterfaceDecl) (ss : List Statement) (ids : List ℕ) (x : Node) (st st′ : State) → plainFirst I (copy I left env) env i node fs is ss ids st ≡ ok x st′
-      → (w w′ : World Known) → Fit w st → (r : Run (graph I) (all (env .scope) (record { entry = env .entry; names = names }) (map copyId (flat (λ f. bindingIds (f .binding)) fs ++ (flat (λ d. interfaceIds (d .is) (d .value)) is ++ ids)))) (addPlain (env .scope) i w) w′)
-      → st′ .charges + held I st + 2 ≡ st .charges + held I st′ + ofNode x + sumOf (λ f. isIn (f .binding)) fs + sumOf (λ d. isSet (d .is)) is + length ids + ofRun I (valuesOr (env .isValues)) r
-  -- "a stored interface value", and its ids; the ids of the next
+  -- what is kept, "an association, written or not", and "an id of a class 2 value copied" of the next value
+  pub plain : (left : ℕ) (env : Env) (names : List ℕ) → Named env names → (i : ℕ) (node : Node) (fs : List Field) (is : List InterfaceDecl) (ss : List Statement) (ids : List ℕ) (x : Node) (st st′ : State) → plainFirst I (copy I left env) env i node fs is ss ids st ≡ ok x st′ → (w : World Known) → Fit I w st
+      → Charged I (valuesOr (env .isValues)) (all (env .scope) (scopeOf env names) (map copyId (flat (λ f. bindingIds (f .binding)) fs ++ (flat (λ d. interfaceIds (d .is) (d .value)) is ++ ids)))) (addPlain (env .scope) i w) st st′
+        (ofContents x + sumOf (λ f. isIn (f .binding)) fs + sumOf (λ d. isSet (d .is)) is + length ids)
+  -- "a stored interface value" and its ids, then the ids of the next value,
   pub given : (left : ℕ) (env : Env) (names : List ℕ) → Named env names → (p : Prototype) (decl : ProtoDecl) → protoAt (docs I) (p .document) (p .proto) ≡ some decl → (fields : List Field) (is behind : List InterfaceDecl) → decl .interface ≡ is ++ behind → (ids : List ℕ) (vs : Values) (st st′ : State)
-      → givenFirst I (copy I left) env p fields is ids st ≡ ok vs st′ → (w w′ : World Known) → Fit w st → (r : Run (graph I) (all (env .scope) (record { entry = env .entry; names = names }) (interfaceActions names p fields 0 is ++ map copyId ids)) w w′)
-      → st′ .charges + held I st ≡ st .charges + held I st′ + sumOf ofValue vs + length ids + ofRun I (valuesOr (env .isValues)) r
-  -- "a scope" of the next, which the state holds
+      → givenFirst I (copy I left) env p fields is ids st ≡ ok vs st′ → (w : World Known) → Fit I w st → Charged I (valuesOr (env .isValues)) (all (env .scope) (scopeOf env names) (interfaceActions names p fields 0 is ++ map copyId ids)) w st st′ (sumOf ofValue vs + length ids)
+  -- or of a default, whose "scope" the state holds
   pub default : (left : ℕ) (env : Env) (names : List ℕ) → Named env names → (p : Prototype) (decl : ProtoDecl) → protoAt (docs I) (p .document) (p .proto) ≡ some decl → (fields : List Field) (is behind : List InterfaceDecl) → decl .interface ≡ is ++ behind → (ids : List ℕ) (n : ℕ) (vs : Values) (st st′ : State)
-      → defaultFirst I (copy I left) env p fields is ids st ≡ ok (n, vs) st′ → (w w1 w′ : World Known) → Fit w st → (r : Run (graph I) (all (env .scope) (record { entry = env .entry; names = names }) (interfaceActions names p fields 0 is)) w w1)
-      → (q : Run (graph I) (all (count w1) (defaultScope p (length is) (env .scope)) (map copyId ids)) (addDefault (defaultScope p (length is) (env .scope)) w1) w′) → st′ .charges + held I st ≡ st .charges + held I st′ + sumOf ofValue vs + length ids + ofRun I (valuesOr (env .isValues)) r + ofRun I [] q
-  -- all values, "a scope", and for each Node of the body "an instance's map entry" or "an extra root", "a body route" for each route; the state holds the scope with all that its body is charged
-  pub body : (left : ℕ) (env : Env) (names : List ℕ) → Named env names → (i : ℕ) (node : Node) (p : Prototype) (decl : ProtoDecl) → protoAt (docs I) (p .document) (p .proto) ≡ some decl → (ss : List Statement) (x : BodyPart) (st st′ : State) → bodyFirst I (copy I left) env i node p decl ss st ≡ ok x st′
-      → (inside : List ℕ) → Named (bodyEnv env p (x .number) (x .values)) inside → (w v : World Known) → Fit w st → (r : Run (graph I) (all (env .scope) (record { entry = env .entry; names = names }) (interfaceActions names p (node .fields) 0 (decl .interface))) w v)
-      → (b : BodyDone I (env .scope) i (bodyScope p inside (env .scope)) v (flat statementIds ss))
-      → st′ .charges + held I st + ofScope I (Scope.Body p (env .scope)) ≡ st .charges + held I st′ + sumOf ofValue (x .values) + 1 + length (flat statementIds ss) + routesIn ss + ofRun I (valuesOr (env .isValues)) r + ofBody I (x .values) b
+      → defaultFirst I (copy I left) env p fields is ids st ≡ ok (n, vs) st′ → (w : World Known) → Fit I w st → DefaultCharged I (valuesOr (env .isValues)) (all (env .scope) (scopeOf env names) (interfaceActions names p fields 0 is)) (defaultScope p (length is) (env .scope)) ids w st st′ (sumOf ofValue vs + length ids)
+  -- all values, and the body
+  pub body : (left : ℕ) (env : Env) (names : List ℕ) → Named env names → (i : ℕ) (node : Node) (p : Prototype) (decl : ProtoDecl) → protoAt (docs I) (p .document) (p .proto) ≡ some decl → (ss : List Statement) (x : BodyPart) (st st′ : State) → bodyFirst I (copy I left) env i node p decl ss st ≡ ok x st′ → (w : World Known) → Fit I w st
+      → BodyCharged I env (all (env .scope) (scopeOf env names) (interfaceActions names p (node .fields) 0 (decl .interface))) i (bodyEnv env p (x .number) (x .values)) (bodyNames names (node .fields) (some decl)) ss w st st′
 
 -- ---- the way to the place
 
