@@ -958,7 +958,7 @@ module _ (I : Input) where
 
     pub body-part : (i : ℕ) (node : Node) (p : Prototype) (decl : ProtoDecl) → declOf I p ≡ some decl → (ss : List Statement) (st : State)
         → Out (λ x st′. (inside : List ℕ) → Shows (bodyEnv env p (x .number) (x .values)) inside → (w v : Steps.World Known) → Sees w (st .world) → (r : Run (graph I) (all (env .scope) (known env names) (interfaceActions names p (node .fields) 0 (decl .interface))) w v) → (l : List ℕ) → flat statementIds ss ≡ l
-          → (b : BodyDone I (env .scope) i (bodyScope p inside (env .scope)) v l) → st′ .charges + held I st + ofScope I (Scope.Body p (env .scope)) ≡ st .charges + held I st′ + 1 + size (x .values) + length l + routesIn ss + ofRun I ds r + ofBody (x .values) b) (bodyFirst I (copy I left) env i node p decl ss st)
+        → (b : BodyDone I (env .scope) i (bodyScope p inside (env .scope)) v l) → st′ .charges + held I st + ofScope I (Scope.Body p (env .scope)) ≡ st .charges + held I st′ + 1 + size (x .values) + length l + routesIn ss + ofRun I ds r + ofBody (x .values) b) (bodyFirst I (copy I left) env i node p decl ss st)
     unfolding bodyFirst
     body-part i node p decl ep ss st = bindAt (values I (copy I left) env p (node .fields) 0 (decl .interface) [] st) (λ vs s1 e1. bindAt (openScope I (Scope.Body p (env .scope)) s1) (λ m s2 e2. bindAt (foldM (bodyStatement I (copy I left) env i (bodyEnv env p m vs)) (record { root = none; extraRoots = []; routes = [] }) ss s2)
         (λ y s3 e3. accepted (λ inside hi w v s r. whole vs s1 m s2 y s3 inside hi w v r (atOk (values-first p decl ep (node .fields) (decl .interface) [] (sym (append-nil (decl .interface))) w v (ofRun I ds r) (record { run = r; is = refl }) st s) e1) (atOk (open-is (Scope.Body p (env .scope)) s1) e2) e3))))
@@ -982,8 +982,13 @@ module _ (I : Input) where
 
             go : (l : List ℕ) → flat statementIds ss ≡ l → (b : BodyDone I (env .scope) i known′ v l) → s3 .charges + held I st + ofScope I (Scope.Body p (env .scope)) ≡ st .charges + held I s3 + 1 + size vs + length l + routesIn ss + ofRun I ds r + ofBody vs b
             go l q beforeRoot = omega (arith, a .spent .paid′, opened .paid′, atOk (body-none (copy I left) (copy-pays left) env i (bodyEnv env p m vs) inside vs hi (sized (bodyEnv env p m vs)) ss (record { root = none; extraRoots = []; routes = [] }) refl q 0 (addBody (env .scope) i known′ v) s2 seen) e3 .spent .paid′)
-            go l q (fromRoot n ns v1 v2 x z) = omega (arith, a .spent .paid′, opened .paid′, atOk (body-first (copy I left) (copy-pays left) env i (bodyEnv env p m vs) inside vs hi (sized (bodyEnv env p m vs)) ss (record { root = none; extraRoots = []; routes = [] }) refl n ns q (addBody (env .scope) i known′ v) v1 v2 (ofRun I vs x) (ofRun I vs z)
-                (subst (λ (j : ℕ). Costs vs (one j known′ n) (addBody (env .scope) i known′ v) v1 (ofRun I vs x)) number (record { run = x; is = refl })) (subst (λ (j : ℕ). Costs vs (all j known′ (map copyId ns)) (addMapped (env .scope) i v1) v2 (ofRun I vs z)) number (record { run = z; is = refl })) 0 s2 seen) e3 .spent .paid′)
+            go l q (fromRoot n ns v1 v2 x z) = omega (
+              arith,
+              a .spent .paid′,
+              opened .paid′,
+              atOk (body-first (copy I left) (copy-pays left) env i (bodyEnv env p m vs) inside vs hi (sized (bodyEnv env p m vs)) ss (record { root = none; extraRoots = []; routes = [] }) refl n ns q (addBody (env .scope) i known′ v) v1 v2 (ofRun I vs x) (ofRun I vs z)
+                  (subst (λ (j : ℕ). Costs vs (one j known′ n) (addBody (env .scope) i known′ v) v1 (ofRun I vs x)) number (record { run = x; is = refl })) (subst (λ (j : ℕ). Costs vs (all j known′ (map copyId ns)) (addMapped (env .scope) i v1) v2 (ofRun I vs z)) number (record { run = z; is = refl })) 0 s2 seen) e3 .spent .paid′,
+            )
 
   -- ---- the whole
 

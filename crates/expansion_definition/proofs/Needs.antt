@@ -309,7 +309,7 @@ module _ (I : Input) where
     -- j: the index of the first interface
     values-at : (f : ℕ → Env → Copier) (env : Env) (p : Prototype) (fields : List Field) (j : ℕ) (l : List InterfaceDecl) (vs : Values) (st : State) → Inv st
         → ((front : List InterfaceDecl) (a : InterfaceDecl) (behind : List InterfaceDecl) → l ≡ front ++ (a ∷ behind) → (n : ℕ) → length front + j ≡ n → (ws : Values) (s : State) → Got (st .charges) (λ k. values (J k) (f k) env p fields j front vs st) ws s
-          → Threshold E (s .charges) (λ k. interfaceValue (J k) (f k) env (Scope.Default p n (env .scope)) (a .value) (lastField (a .name) fields) s)) → Threshold E (st .charges) (λ k. values (J k) (f k) env p fields j l vs st)
+        → Threshold E (s .charges) (λ k. interfaceValue (J k) (f k) env (Scope.Default p n (env .scope)) (a .value) (lastField (a .name) fields) s)) → Threshold E (st .charges) (λ k. values (J k) (f k) env p fields j l vs st)
     unfolding values
     values-at f env p fields j [] vs st inv h = count-ret vs st inv
     values-at f env p fields j (a ∷ l) vs st inv h = threshold-bind (h [] a l refl j (omega arith) vs st (record { inv = inv; more = le-refl _; made = λ k q. refl }))
@@ -369,18 +369,19 @@ module _ (I : Input) where
       plain-at : Threshold E (st .charges) (λ k. copyPlain (J k) (c k) env i node st)
       unfolding copyPlain contents plainFirst mapM idsFirst bindR
       plain-at = threshold-bind reserve-at (λ new s1 g1. threshold-bind
-        (threshold-bind (origin-at env (node .origin) s1 (g1 .inv) (λ x q e k l. fourOrigin (is none ep k) (g1 .made k l) q e))
-        (λ og s2 g2. threshold-bind (mapM-at (node .fields) s2 (g2 .inv)
+          (threshold-bind (origin-at env (node .origin) s1 (g1 .inv) (λ x q e k l. fourOrigin (is none ep k) (g1 .made k l) q e))
+          (λ og s2 g2. threshold-bind (mapM-at (node .fields) s2 (g2 .inv)
           (λ front f behind q fs s3 g3. field-at c env new f s3 (g3 .inv) (λ v b ids j y os s g4. told (λ t n d x l w k h. inPlain {fs = front} {is = []} {ids = ids} (is none ep k) (inField f behind q b y)
-            (step _ (g1 .made k (omega (arith, g2 .more, g3 .more, g4 .more))) (step _ (g2 .made k (omega (arith, g3 .more, g4 .more))) (step _ (g3 .made k (omega (arith, g4 .more))) (step _ (g4 .made k (le-trans l h)) refl)))) (w k h)) (hf env j s (g4 .inv)))))
-        (λ fs s3 g3. threshold-bind (mapM-at (node .interface) s3 (g3 .inv)
+          (step _ (g1 .made k (omega (arith, g2 .more, g3 .more, g4 .more))) (step _ (g2 .made k (omega (arith, g3 .more, g4 .more))) (step _ (g3 .made k (omega (arith, g4 .more))) (step _ (g4 .made k (le-trans l h)) refl)))) (w k h)) (hf env j s (g4 .inv)))))
+          (λ fs s3 g3. threshold-bind (mapM-at (node .interface) s3 (g3 .inv)
           (λ front a behind q ds s4 g4. interface-at c env new a s4 (g4 .inv) (λ v b b2 ids j y os s g5. told (λ t n d x l w k h. inPlain {fs = node .fields} {is = front} {ids = ids} (is none ep k) (inInterface a behind q b b2 y)
-            (step _ (g1 .made k (omega (arith, g2 .more, g3 .more, g4 .more, g5 .more))) (step _ (g2 .made k (omega (arith, g3 .more, g4 .more, g5 .more))) (step _ (g3 .made k (omega (arith, g4 .more, g5 .more))) (step _ (g4 .made k (omega (arith, g5 .more))) (step _ (g5 .made k (le-trans l h)) refl))))) (w k h)) (hf env j s (g5 .inv)))))
-        (λ ds s4 g4. threshold-bind (mapM-at (node .statements) s4 (g4 .inv)
+          (step _ (g1 .made k (omega (arith, g2 .more, g3 .more, g4 .more, g5 .more))) (step _ (g2 .made k (omega (arith, g3 .more, g4 .more, g5 .more))) (step _ (g3 .made k (omega (arith, g4 .more, g5 .more))) (step _ (g4 .made k (omega (arith, g5 .more))) (step _ (g5 .made k (le-trans l h)) refl))))) (w k h)) (hf env j s (g5 .inv)))))
+          (λ ds s4 g4. threshold-bind (mapM-at (node .statements) s4 (g4 .inv)
           (λ front y behind q ss s5 g5. statement-at env y s5 (g5 .inv) (λ x a e k l. fourStatement front behind (is none ep k) (q ∙ ap (λ (z : Statement). front ++ (z ∷ behind)) a)
-            (step _ (g1 .made k (omega (arith, g2 .more, g3 .more, g4 .more, g5 .more))) (step _ (g2 .made k (omega (arith, g3 .more, g4 .more, g5 .more))) (step _ (g3 .made k (omega (arith, g4 .more, g5 .more))) (step _ (g4 .made k (omega (arith, g5 .more))) (step _ (g5 .made k l) refl))))) e)))
-        (λ ss s5 g5. count-bind (count-each (keptOrder fs ss (node .bodyOrder))) (λ u. count-ret _) s5 (g5 .inv))))))
-        (λ x s g. free (s .charges) new _ refl (g .inv)))
+          (step _ (g1 .made k (omega (arith, g2 .more, g3 .more, g4 .more, g5 .more))) (step _ (g2 .made k (omega (arith, g3 .more, g4 .more, g5 .more))) (step _ (g3 .made k (omega (arith, g4 .more, g5 .more))) (step _ (g4 .made k (omega (arith, g5 .more))) (step _ (g5 .made k l) refl))))) e)))
+          (λ ss s5 g5. count-bind (count-each (keptOrder fs ss (node .bodyOrder))) (λ u. count-ret _) s5 (g5 .inv))))))
+          (λ x s g. free (s .charges) new _ refl (g .inv)))
+
     -- ---- an instance
 
     module _ (p : Prototype) (ep : protoOfOrigin I (src env) (node .origin) ≡ some p) where
@@ -395,9 +396,9 @@ module _ (I : Input) where
           go none ed = count-fail 6 (p .document) (p .proto) (λ z. omega arith) st (λ k l. six (is (some p) ep k) ed)
           go (some decl) ed = threshold-bind (values-at f env p (node .fields) 0 (decl .interface) [] st inv in-values)
               (λ vs s1 g1. threshold-bind (count-openScope (Scope.Body p (env .scope)) s1 (g1 .inv)) (λ m s2 g2. threshold-bind (foldM-at _ (decl .body) s2 (g2 .inv)
-                (λ front y behind q b s3 g3. bodyStatement-at f env i (bodyEnv env p m vs) b y s3 (g3 .inv)
-                  (λ j a. told (λ t n d x l w k h. inBody front behind (is (some p) ep k) ed (q ∙ ap (λ (z : Statement). front ++ (z ∷ behind)) a) (step _ (g1 .made k (omega (arith, g2 .more, g3 .more))) (step _ (g2 .made k (omega (arith, g3 .more))) (step _ (g3 .made k (le-trans l h)) refl))) (w k h)) (hf (bodyEnv env p m vs) j s3 (g3 .inv)))
-                  (λ x a e k l. fourBody front behind (is (some p) ep k) ed (q ∙ ap (λ (z : Statement). front ++ (z ∷ behind)) a) (step _ (g1 .made k (omega (arith, g2 .more, g3 .more))) (step _ (g2 .made k (omega (arith, g3 .more))) (step _ (g3 .made k l) refl))) e)))
+              (λ front y behind q b s3 g3. bodyStatement-at f env i (bodyEnv env p m vs) b y s3 (g3 .inv)
+              (λ j a. told (λ t n d x l w k h. inBody front behind (is (some p) ep k) ed (q ∙ ap (λ (z : Statement). front ++ (z ∷ behind)) a) (step _ (g1 .made k (omega (arith, g2 .more, g3 .more))) (step _ (g2 .made k (omega (arith, g3 .more))) (step _ (g3 .made k (le-trans l h)) refl))) (w k h)) (hf (bodyEnv env p m vs) j s3 (g3 .inv)))
+              (λ x a e k l. fourBody front behind (is (some p) ep k) ed (q ∙ ap (λ (z : Statement). front ++ (z ∷ behind)) a) (step _ (g1 .made k (omega (arith, g2 .more, g3 .more))) (step _ (g2 .made k (omega (arith, g3 .more))) (step _ (g3 .made k l) refl))) e)))
               (λ b s3 g3. threshold-bind (root-at p (b .root) s3 (g3 .inv) (λ e k l. seven (is (some p) ep k) ed (step _ (g1 .made k (omega (arith, g2 .more, g3 .more))) (step _ (g2 .made k (omega (arith, g3 .more))) (step _ (g3 .made k l) refl))) e))
               (λ o s4 g4. count-bind count-charge (λ u. count-record (decl .name) (node .defName) m b o) s4 (g4 .inv)))))
             where
@@ -447,12 +448,12 @@ module _ (I : Input) where
   statements-at : Threshold Told 0 (λ k. statements (J k) startState)
   unfolding statements tops bindR
   statements-at = threshold-bind (count-charge startState (omega arith)) (λ u s1 g1. threshold-bind (count-charge s1 (g1 .inv)) (λ v s2 g2. threshold-bind (count-openScope Scope.Root s2 (g2 .inv)) (λ n s3 g3. threshold-bind (mapM-at (I .root .statements) s3 (g3 .inv)
-    (λ front y behind q os s4 g4. told (λ t n d x l w k h. record {
-      tops = tops-done (J k) front y behind q (somes os) s4 (step _ (g1 .made k (omega (arith, g2 .more, g3 .more, g4 .more))) (step _ (g2 .made k (omega (arith, g3 .more, g4 .more))) (step _ (g3 .made k (omega (arith, g4 .more))) (step _ (g4 .made k (le-trans l h)) refl))));
-      state = t;
-      way = w k h;
-      made = refl;
-    }) (top-at y s4 (g4 .inv)))) (λ l s g. count-ret (somes l) s (g .inv)))))
+      (λ front y behind q os s4 g4. told (λ t n d x l w k h. record {
+        tops = tops-done (J k) front y behind q (somes os) s4 (step _ (g1 .made k (omega (arith, g2 .more, g3 .more, g4 .more))) (step _ (g2 .made k (omega (arith, g3 .more, g4 .more))) (step _ (g3 .made k (omega (arith, g4 .more))) (step _ (g4 .made k (le-trans l h)) refl))));
+        state = t;
+        way = w k h;
+        made = refl;
+      }) (top-at y s4 (g4 .inv)))) (λ l s g. count-ret (somes l) s (g .inv)))))
 
   -- ---- the answer
 

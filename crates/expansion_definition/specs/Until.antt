@@ -143,7 +143,7 @@ pub record PartsCharged (I : Input) : Type 0 where
   -- what is kept, "an association, written or not", and "an id of a class 2 value copied" of the next value
   pub plain : (left : ℕ) (env : Env) (names : List ℕ) → Named env names → (i : ℕ) (node : Node) (fs : List Field) (is : List InterfaceDecl) (ss : List Statement) (ids : List ℕ) (x : Node) (st st′ : State) → plainFirst I (copy I left env) env i node fs is ss ids st ≡ ok x st′ → (w : World Known) → Fit I w st
       → Charged I (valuesOr (env .isValues)) (all (env .scope) (scopeOf env names) (map copyId (flat (λ f. bindingIds (f .binding)) fs ++ (flat (λ d. interfaceIds (d .is) (d .value)) is ++ ids)))) (addPlain (env .scope) i w) st st′
-        (ofContents x + sumOf (λ f. isIn (f .binding)) fs + sumOf (λ d. isSet (d .is)) is + length ids)
+      (ofContents x + sumOf (λ f. isIn (f .binding)) fs + sumOf (λ d. isSet (d .is)) is + length ids)
   -- "a stored interface value" and its ids, then the ids of the next value,
   pub given : (left : ℕ) (env : Env) (names : List ℕ) → Named env names → (p : Prototype) (decl : ProtoDecl) → protoAt (docs I) (p .document) (p .proto) ≡ some decl → (fields : List Field) (is behind : List InterfaceDecl) → decl .interface ≡ is ++ behind → (ids : List ℕ) (vs : Values) (st st′ : State)
       → givenFirst I (copy I left) env p fields is ids st ≡ ok vs st′ → (w : World Known) → Fit I w st → Charged I (valuesOr (env .isValues)) (all (env .scope) (scopeOf env names) (interfaceActions names p fields 0 is ++ map copyId ids)) w st st′ (sumOf ofValue vs + length ids)
