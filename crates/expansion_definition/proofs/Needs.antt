@@ -445,15 +445,14 @@ module _ (I : Input) where
   abbrev Told : Telling
   Told = λ t c d x. (k : ℕ) → t .charges ≤ k → Until (J k) (t .charges) c d x
 
+  -- The top statements in front are done, and the next is refused.
+  until-at : (k : ℕ) (front : List Statement) (y : Statement) (behind : List Statement) → I .root .statements ≡ front ++ (y ∷ behind) → (kept : List Statement) (s t : State) → tops (J k) front startState ≡ ok kept s → (c d x : ℕ) → OpenTop (J k) y s t c d x → Until (J k) (t .charges) c d x
+  until-at k front y behind q kept s t e c d x w = record { tops = tops-done (J k) front y behind q kept s e; state = t; way = w; made = refl }
+
   statements-at : Threshold Told 0 (λ k. statements (J k) startState)
   unfolding statements tops bindR
   statements-at = threshold-bind (count-charge startState (omega arith)) (λ u s1 g1. threshold-bind (count-charge s1 (g1 .inv)) (λ v s2 g2. threshold-bind (count-openScope Scope.Root s2 (g2 .inv)) (λ n s3 g3. threshold-bind (mapM-at (I .root .statements) s3 (g3 .inv)
-      (λ front y behind q os s4 g4. told (λ t n d x l w k h. record {
-        tops = tops-done (J k) front y behind q (somes os) s4 (step _ (g1 .made k (omega (arith, g2 .more, g3 .more, g4 .more))) (step _ (g2 .made k (omega (arith, g3 .more, g4 .more))) (step _ (g3 .made k (omega (arith, g4 .more))) (step _ (g4 .made k (le-trans l h)) refl))));
-        state = t;
-        way = w k h;
-        made = refl;
-      }) (top-at y s4 (g4 .inv)))) (λ l s g. count-ret (somes l) s (g .inv)))))
+      (λ front y behind q os s4 g4. told (λ t n d x l w k h. until-at k front y behind q (somes os) s4 t (step _ (g1 .made k (omega (arith, g2 .more, g3 .more, g4 .more))) (step _ (g2 .made k (omega (arith, g3 .more, g4 .more))) (step _ (g3 .made k (omega (arith, g4 .more))) (step _ (g4 .made k (le-trans l h)) refl)))) n d x (w k h)) (top-at y s4 (g4 .inv)))) (λ l s g. count-ret (somes l) s (g .inv)))))
 
   -- ---- the answer
 
