@@ -18,7 +18,7 @@ use Rattle.expansion_steps.specs.Steps
 use Rattle.expansion_definition.specs.Input.{Input, docs, usedUrl, protoOfOrigin, lastField}
 use Rattle.expansion_definition.specs.Scopes.{Scope}
 use Rattle.expansion_definition.specs.Ids.{dataIds, optionIds, bindingIds, statementIds}
-use Rattle.expansion_definition.specs.State.{Bookkeeping, State, Result, Comp, bindR, _>>=_, _>>_, ret, mapM, foldM, lookup, startState, withWorld, withNodes}
+use Rattle.expansion_definition.specs.State.{Bookkeeping, State, Result, refusal, ok, Comp, bindR, _>>=_, _>>_, ret, mapM, foldM, lookup, startState, withWorld, withNodes}
 use Rattle.expansion_definition.specs.Charges.{oneMore, chargeIf, charge, chargeEach, paid}
 use Rattle.expansion_definition.specs.Values.{Values, valueNamed, Env, src, Copier, copyData, value, clone}
 use Rattle.expansion_definition.specs.Externs.{lookupExtern, declared, pushExtern, declare, externProto}
@@ -28,7 +28,8 @@ use Rattle.expansion_definition.specs.Copy.{copyNode, mappedOr, copy}
 use Rattle.expansion_definition.specs.Expand.{statement, rootEnv, statements, output, expansion}
 use Rattle.expansion_definition.specs.Reached.{Known, bodyIds, defaultIds, declOf, interfaceIds, plainNexts, gives, isGiven, nameIfValued, bodyNames, bodyScope, defaultScope, kindBy, nodeKind, defaultAction, valueActions, interfaceActions, instanceActions, actionsBy, actionsOf, nodeInScope, graph}
 use Rattle.expansion_definition.specs.Outputs.{sumOf, interfaceRowCount, externRowCount}
-use Rattle.expansion_definition.specs.Counted.{ofNode, ofOutput, allButOne, routesIn, bodyRoutes, ofScope, isIn, isSet, associationsIn, valueFor, storedIf, storedFrom, storedBy, bodyValues, ofValue, ofRun, counted, tops, valuesOr, CopiesCharged}
+use Rattle.expansion_definition.specs.Counted.{ofNode, ofOutput, allButOne, routesIn, bodyRoutes, ofScope, isIn, isSet, associationsIn, valueFor, storedIf, storedFrom, storedBy, bodyValues, ofValue, ofRun, counted, tops, valuesOr, held, CopiesCharged}
+use Rattle.expansion_definition.specs.Until.{idsFirst, plainFirst, givenFirst, defaultEnv, defaultFirst, bodyEnv, BodyPart, bodyFirst, ofContents, BodyDone, beforeRoot, fromRoot, ofBody}
 use Rattle.expansion_definition.proofs.Marks.{marked-length}
 use Rattle.expansion_definition.proofs.Outcome.{Outcome, refused, accepted, Any, bindOut, mapOut, both, atOk}
 use Rattle.expansion_definition.proofs.Names.{Shows, known, none-shown, values-shown, anything}
@@ -66,6 +67,20 @@ routes-cons (Statement.Proto p) l = omega arith
 routes-cons (Statement.ExternProto x) l = omega arith
 routes-cons (Statement.Route r) l = omega arith
 routes-cons (Statement.Other p) l = omega arith
+
+none-left : (l k : List ℕ) → l ++ k ≡ [] → l ≡ []
+none-left [] k e = refl
+none-left (x ∷ l) k e = absurd (let z : _≡_ {A = ℕ} 0 1 = cc in omega arith)
+
+none-right : (l k : List ℕ) → l ++ k ≡ [] → k ≡ []
+none-right [] k e = e
+none-right (x ∷ l) k e = absurd (let z : _≡_ {A = ℕ} 0 1 = cc in omega arith)
+
+-- An answer's step tells that answer.
+bindAt : {A B : Type 0} {P : B → State → Type 0} (m : Result A) {k : A → Comp B} → ((a : A) (s : State) → m ≡ ok a s → Out P (k a s)) → Out P (bindR m k)
+unfolding bindR
+bindAt (refusal c d i) h = refused tt
+bindAt (ok a s) h = h a s refl
 
 -- ---- values: a copy has as many ids
 
@@ -194,9 +209,9 @@ module _ (I : Input) where
 
   -- ---- the world that a run is in
 
-  record Sees (w : Steps.World Known) (v : Bookkeeping) : Type 0 where
-    mapped : w .mapped ≡ map key (v .map)
-    scopes : length (w .scopes) ≡ length (v .scopes)
+  pub record Sees (w : Steps.World Known) (v : Bookkeeping) : Type 0 where
+    pub mapped : w .mapped ≡ map key (v .map)
+    pub scopes : length (w .scopes) ≡ length (v .scopes)
 
   sees-same : {w w′ : Steps.World Known} {v v′ : Bookkeeping} → w ≡ w′ → v′ ≡ v → Sees w v → Sees w′ v′
   sees-same p q s = record { mapped = ap (λ (u : Steps.World Known). u .mapped) (sym p) ∙ s .mapped ∙ ap (λ (u : Bookkeeping). map key (u .map)) (sym q); scopes = ap (λ (u : Steps.World Known). length (u .scopes)) (sym p) ∙ s .scopes ∙ ap (λ (u : Bookkeeping). length (u .scopes)) (sym q) }
@@ -481,6 +496,11 @@ module _ (I : Input) where
       ids-pay x [] = pays-ret [] (omega arith)
       ids-pay x (i ∷ l) = pays-one (one-paid x i) (λ o. pays-then (map copyId l) (ids-pay (suc x) l) (λ os. pays-ret (o ∷ os) (omega arith)))
 
+      ids-first : (x : ℕ) (l : List ℕ) → P vs n e (map copyId l) x (idsFirst I c l) (λ os. length l + x)
+      unfolding idsFirst mapM
+      ids-first x [] = pays-ret [] (omega arith)
+      ids-first x (i ∷ l) = pays-one (one-paid x i) (λ o. pays-then (map copyId l) (ids-first (suc x) l) (λ os. pays-ret (o ∷ os) (omega arith)))
+
       copyData-pays : (x : ℕ) (d : FieldData) → P vs n e (map copyId (dataIds d)) x (copyData I c d) (λ d′. length (dataIds d′) + x)
       unfolding copyData
       copyData-pays x (FieldData.Payload p) = pays-ret _ (omega arith)
@@ -619,17 +639,17 @@ module _ (I : Input) where
           is (some v) = pays-after (clone-pays x v) (λ v′. pays-ret _ refl)
       interfaceValue-pays x p k default eb none = takeDefault-pays x p k default eb
 
-      -- pre: the interfaces before these
-      values-pays : (p : Prototype) (fields : List Field) (decl : ProtoDecl) → declOf I p ≡ some decl → (x : ℕ) (l pre : List InterfaceDecl) (k : ℕ) (vs : Values) → pre ++ l ≡ decl .interface → length pre ≡ k
+      -- pre, post: the interfaces before and behind these
+      values-pays : (p : Prototype) (fields : List Field) (decl : ProtoDecl) → declOf I p ≡ some decl → (post : List InterfaceDecl) (x : ℕ) (l pre : List InterfaceDecl) (k : ℕ) (vs : Values) → pre ++ (l ++ post) ≡ decl .interface → length pre ≡ k
           → Here (interfaceActions names p fields k l) (size vs + x) (values I f env p fields k l vs) (λ new. size new + x)
       unfolding values
-      values-pays p fields decl ep x [] pre k vs el ek = pays-ret vs refl
-      values-pays p fields decl ep x (d ∷ l) pre k vs el ek =
+      values-pays p fields decl ep post x [] pre k vs el ek = pays-ret vs refl
+      values-pays p fields decl ep post x (d ∷ l) pre k vs el ek =
           pays-bind (valueActions (gives names (lastField (d .name) fields)) (defaultScope p k) (d .value) (lastField (d .name) fields)) (interfaceActions names p fields (suc k) l) (interfaceValue-pays (size vs + x) p k (d .value) ids (lastField (d .name) fields))
-          (λ v. pays-after (store-pays x (d .name) vs v) (λ vs′. values-pays p fields decl ep x l (pre ++ (d ∷ [])) (suc k) vs′ (append-assoc pre (d ∷ []) l ∙ el) (omega (arith, length-append pre (d ∷ [])))))
+          (λ v. pays-after (store-pays x (d .name) vs v) (λ vs′. values-pays p fields decl ep post x l (pre ++ (d ∷ [])) (suc k) vs′ (append-assoc pre (d ∷ []) (l ++ post) ∙ el) (omega (arith, length-append pre (d ∷ [])))))
         where
           this : getElem? (decl .interface) k ≡ some d
-          this = rw (← el, ← ek) (at-length I pre d l)
+          this = rw (← el, ← ek) (at-length I pre d (l ++ post))
 
           ids : defaultIds k (declOf I p) ≡ optionIds (d .value)
           ids = ap (defaultIds k) ep ∙ ap (λ (y : Option InterfaceDecl). optionIds (andThen y (λ z. z .value))) this
@@ -722,6 +742,12 @@ module _ (I : Input) where
       before : (x : ℕ) (b : Body) → b .root ≡ none → (s : Statement) → statementIds s ≡ [] → (w : Steps.World Known) (st : State) → Sees w (st .world) → Out (λ c st′. Before x w st c st′ (routesIn (s ∷ []) + x)) (bodyStatement I f env i inner b s st)
       before x b q s h w st t = mapOut (both _ (still-pays x b s h w w 0 no-costs st t) (still-root b s h st)) (λ c s1 r. record { root = r .1 ∙ q; sees = r .0 .sees; spent = spent-as x (routesIn (s ∷ []) + x) (omega arith) (r .0 .spent) })
 
+      body-none : (l : List Statement) (b : Body) → b .root ≡ none → flat statementIds l ≡ [] → (x : ℕ) (w : Steps.World Known) (st : State) → Sees w (st .world) → Out (λ c st′. Before x w st c st′ (routesIn l + x)) (foldM (bodyStatement I f env i inner) b l st)
+      unfolding foldM
+      body-none [] b q e x w st s = accepted (record { root = q; sees = s; spent = spent-still {x = x} {y = 0 + x} st st refl (omega arith) })
+      body-none (y ∷ l) b q e x w st s = bindOut (before x b q y (none-left (statementIds y) (flat statementIds l) e) w st s)
+          (λ c s1 h. mapOut (body-none l c (h .root) (none-right (statementIds y) (flat statementIds l) e) (routesIn (y ∷ []) + x) w s1 (h .sees)) (λ c′ s2 z. record { root = z .root; sees = z .sees; spent = spent-then (h .spent) (spent-as (routesIn (y ∷ []) + x) (routesIn (y ∷ l) + x) (omega (arith, routes-cons y l)) (z .spent)) }))
+
       body-first : (l : List Statement) (b : Body) → b .root ≡ none → (r : ℕ) (rs : List ℕ) → flat statementIds l ≡ r ∷ rs → (w w2 w3 : Steps.World Known) (k2 k3 : ℕ) → Costs ds (one (inner .scope) (known inner names) r) w w2 k2 → Costs ds (all (inner .scope) (known inner names) (map copyId rs)) (addMapped (env .scope) i w2) w3 k3
           → (x : ℕ) (st : State) → Sees w (st .world) → Out (λ c st′. After w3 x st (k2 + k3) (1 + length rs + routesIn l + x) st′) (foldM (bodyStatement I f env i inner) b l st)
       unfolding foldM
@@ -768,7 +794,7 @@ module _ (I : Input) where
           → InstanceCosts ds (env .scope) (known env names) i (bodyScope p (flat (nameIfValued names (node .fields)) (decl .interface))) w w′ k → (st : State) → Sees w (st .world) → Out (λ o st′. After w′ x st k x st′) (instantiate I f env i node p (some decl) st)
       unfolding instantiate
       instantiate-pays p decl ep acts w w′ k c st s =
-          bindOut (both _ (values-pays env names ds hn hs p (node .fields) decl ep x (decl .interface) [] 0 [] refl refl w (c .w1) (c .k1) (rw acts at (c .values′)) st s) (both _ (values-shown I f env names hn p (node .fields) (decl .interface) st) (values-alike f env ds hs p (node .fields) 0 (decl .interface) [] [] refl st)))
+          bindOut (both _ (values-pays env names ds hn hs p (node .fields) decl ep [] x (decl .interface) [] 0 [] (append-nil (decl .interface)) refl w (c .w1) (c .k1) (rw acts at (c .values′)) st s) (both _ (values-shown I f env names hn p (node .fields) (decl .interface) st) (values-alike f env ds hs p (node .fields) 0 (decl .interface) [] [] refl st)))
           (λ vs s1 a. bindOut (open-is (Scope.Body p (env .scope)) s1)
           (λ m s2 o. bindOut (body-first env i (inner m vs) ns ds′ (a .1 .0) (alike-sized vs ds′ (a .1 .1)) (decl .body) (record { root = none; extraRoots = []; routes = [] }) refl (c .r) (c .rs) starts (addBody (env .scope) i b (c .w1)) (c .w2) w′ (c .k2) (c .k3) (first m s1 (a .0 .sees) (o .number)) (others m s1 (a .0 .sees) (o .number)) 0 s2 (open-sees (Scope.Body p (env .scope)) s1 s2 m (c .w1) (addBody (env .scope) i b (c .w1)) b o refl refl (a .0 .sees)))
           (λ y s3 z. mapOut (close p (decl .name) (node .defName) m y (y .root) s3) (λ o′ s4 t. record { sees = sees-same refl (t .0) (z .sees); spent = whole vs (a .1 .1) s1 s2 s3 s4 m (a .0 .spent) o (z .spent) (t .1) }))))
@@ -871,6 +897,98 @@ module _ (I : Input) where
       sized : (vs : Option Values) (t : ℕ) → mapO idCount (andThen vs (valueNamed t)) ≡ mapO idCount (valueNamed t (valuesOr vs))
       sized none t = refl
       sized (some vs) t = refl
+
+  -- ---- the first parts of a node
+
+  sized : (env : Env) → Sized env (valuesOr (env .isValues))
+  unfolding valueNamed
+  sized env = go (env .isValues)
+    where
+      go : (vs : Option Values) (t : ℕ) → mapO idCount (andThen vs (valueNamed t)) ≡ mapO idCount (valueNamed t (valuesOr vs))
+      go none t = refl
+      go (some vs) t = refl
+
+  pub row-is : (env : Env) (i : ℕ) (st : State) → Out (λ new st′. (st′ .charges ≡ st .charges + 2) × (held I st′ ≡ held I st + 2)) (reserve I env i st)
+  unfolding reserve reserveIf
+  row-is env i st = go (ltb (length (st .nodes)) (I .limits .maxNodes))
+    where
+      go : (b : Bool) → Out (λ new st′. (st′ .charges ≡ st .charges + 2) × (held I st′ ≡ held I st + 2)) (reserveIf b I env i st)
+      go false = refused tt
+      go true = bindOut (charge-is st) (λ u s1 q1. bindOut (charge-is s1) (λ u2 s2 q2. accepted (subst (λ (s : State). (s .charges ≡ st .charges + 2) × (held I (addNode (env .scope) i s) ≡ held I st + 2)) (sym (q2 ∙ ap oneMore q1)) (omega arith, omega (arith, sum-append ofNode (st .nodes) (blankNode ∷ []))))))
+
+  module _ (left : ℕ) (env : Env) (names : List ℕ) (hn : Shows env names) where
+    abbrev ds : Values
+    ds = valuesOr (env .isValues)
+
+    hc : (x i : ℕ) → Pays ds (one (env .scope) (known env names) i) x (copy I left env i) (λ o. x)
+    hc x i = copy-pays left env names ds hn (sized env) x i
+
+    pub plain-first : (i : ℕ) (node : Node) (fs : List Field) (is : List InterfaceDecl) (ss : List Statement) (ids : List ℕ) (st : State) (w w′ : Steps.World Known) → Sees w (st .world)
+        → (r : Run (graph I) (all (env .scope) (known env names) (map copyId (flat (λ f. bindingIds (f .binding)) fs ++ (flat (λ d. interfaceIds (d .is) (d .value)) is ++ ids)))) (addPlain (env .scope) i w) w′)
+        → Out (λ x st′. st′ .charges + held I st ≡ st .charges + held I st′ + (ofContents x + sumOf (λ f. isIn (f .binding)) fs + sumOf (λ d. isSet (d .is)) is + length ids) + ofRun I ds r) (plainFirst I (copy I left env) env i node fs is ss ids st)
+    unfolding plainFirst
+    plain-first i node fs is ss ids st w w′ s r =
+        bindOut (reserved (copy I left env) hc env i st) (λ new s1 y. mapOut (pays-after {vs = ds} {n = env .scope} {e = known env names} (copyOrigin-pays 2 env (node .origin)) (λ og. pays-copies (flat (λ f. bindingIds (f .binding)) fs) (flat (λ d. interfaceIds (d .is) (d .value)) is ++ ids) (mapM-pays (λ f. bindingIds (f .binding)) (λ f. isIn (f .binding)) optionField _ (copyField-pays (copy I left env) hc env new) 2 fs)
+        (λ fs′. pays-copies (flat (λ d. interfaceIds (d .is) (d .value)) is) ids (mapM-pays (λ d. interfaceIds (d .is) (d .value)) (λ d. isSet (d .is)) interfaceRowCount _ (copyInterface-pays (copy I left env) hc env new) _ is)
+        (λ is′. pays-after (mapM-still optionRow _ (copyStatement-pays env) _ ss) (λ ss′. pays-then (map copyId ids) (ids-first (copy I left env) hc _ ids) (λ os. pays-ret {m = λ x. 2 + ofContents x + sumOf (λ f. isIn (f .binding)) fs + sumOf (λ d. isSet (d .is)) is + length ids} _ (omega (arith, somes-fields fs′, somes-rows ss′)))))))
+        (addPlain (env .scope) i w) w′ (ofRun I ds r) (record { run = r; is = refl }) s1 (y .sees w s)) (λ x s2 z. omega (arith, y .paid′, z .spent .paid′)))
+
+    module _ (p : Prototype) (decl : ProtoDecl) (ep : declOf I p ≡ some decl) (fields : List Field) (is behind : List InterfaceDecl) (eq : decl .interface ≡ is ++ behind) where
+      values-first : Pays ds (all (env .scope) (known env names) (interfaceActions names p fields 0 is)) 0 (values I (copy I left) env p fields 0 is []) (λ vs. size vs + 0)
+      values-first = values-pays (copy I left) (copy-pays left) env names ds hn (sized env) p fields decl ep behind 0 is [] 0 [] (sym eq) refl
+
+      pub given-first : (ids : List ℕ) (st : State) (w w′ : Steps.World Known) → Sees w (st .world) → (r : Run (graph I) (all (env .scope) (known env names) (interfaceActions names p fields 0 is ++ map copyId ids)) w w′)
+          → Out (λ vs st′. st′ .charges + held I st ≡ st .charges + held I st′ + (size vs + length ids) + ofRun I ds r) (givenFirst I (copy I left) env p fields is ids st)
+      unfolding givenFirst
+      given-first ids st w w′ s r = mapOut (pays-bind (interfaceActions names p fields 0 is) (map copyId ids) values-first (λ vs. pays-then (map copyId ids) (ids-first (copy I left env) hc (size vs + 0) ids) (λ os. pays-ret {m = λ vs. length ids + (size vs + 0)} vs refl)) w w′ (ofRun I ds r) (record { run = r; is = refl }) st s) (λ vs st′ z. omega (arith, z .spent .paid′))
+
+      pub default-first : (ids : List ℕ) (st : State) (w w1 w′ : Steps.World Known) → Sees w (st .world) → (r : Run (graph I) (all (env .scope) (known env names) (interfaceActions names p fields 0 is)) w w1)
+          → (q : Run (graph I) (all (count w1) (defaultScope p (length is) (env .scope)) (map copyId ids)) (addDefault (defaultScope p (length is) (env .scope)) w1) w′)
+          → Out (λ x st′. st′ .charges + held I st ≡ st .charges + held I st′ + (size (x .1) + length ids + ofRun I ds r) + ofRun I [] q) (defaultFirst I (copy I left) env p fields is ids st)
+      unfolding defaultFirst
+      default-first ids st w w1 w′ s r q = bindOut (values-first w w1 (ofRun I ds r) (record { run = r; is = refl }) st s) (λ vs s1 a. bindOut (open-is b s1)
+          (λ m s2 o. bindOut (ids-first {vs = []} {n = m} {e = e} (copy I left (defaultEnv env p (length is) m)) (copy-pays left (defaultEnv env p (length is) m) [] [] none-shown none-sized) 0 ids (addDefault e w1) w′ (ofRun I [] q) (subst (λ (j : ℕ). Costs [] (all j e (map copyId ids)) (addDefault e w1) w′ (ofRun I [] q)) (a .sees .scopes ∙ sym (o .number)) (record { run = q; is = refl })) s2 (open-sees b s1 s2 m w1 (addDefault e w1) e o refl refl (a .sees)))
+          (λ os s3 z. accepted (omega (arith, a .spent .paid′, open-spent b s1 s2 m 0 0 o refl .paid′, z .spent .paid′)))))
+        where
+          b : Scope
+          b = Scope.Default p (length is) (env .scope)
+
+          e : Known
+          e = defaultScope p (length is) (env .scope)
+
+    pub body-part : (i : ℕ) (node : Node) (p : Prototype) (decl : ProtoDecl) → declOf I p ≡ some decl → (ss : List Statement) (st : State)
+        → Out (λ x st′. (inside : List ℕ) → Shows (bodyEnv env p (x .number) (x .values)) inside → (w v : Steps.World Known) → Sees w (st .world) → (r : Run (graph I) (all (env .scope) (known env names) (interfaceActions names p (node .fields) 0 (decl .interface))) w v) → (l : List ℕ) → flat statementIds ss ≡ l
+        → (b : BodyDone I (env .scope) i (bodyScope p inside (env .scope)) v l) → st′ .charges + held I st + ofScope I (Scope.Body p (env .scope)) ≡ st .charges + held I st′ + 1 + size (x .values) + length l + routesIn ss + ofRun I ds r + ofBody (x .values) b) (bodyFirst I (copy I left) env i node p decl ss st)
+    unfolding bodyFirst
+    body-part i node p decl ep ss st = bindAt (values I (copy I left) env p (node .fields) 0 (decl .interface) [] st) (λ vs s1 e1. bindAt (openScope I (Scope.Body p (env .scope)) s1) (λ m s2 e2. bindAt (foldM (bodyStatement I (copy I left) env i (bodyEnv env p m vs)) (record { root = none; extraRoots = []; routes = [] }) ss s2)
+        (λ y s3 e3. accepted (λ inside hi w v s r. whole vs s1 m s2 y s3 inside hi w v r (atOk (values-first p decl ep (node .fields) (decl .interface) [] (sym (append-nil (decl .interface))) w v (ofRun I ds r) (record { run = r; is = refl }) st s) e1) (atOk (open-is (Scope.Body p (env .scope)) s1) e2) e3))))
+      where
+        whole : (vs : Values) (s1 : State) (m : ℕ) (s2 : State) (y : Body) (s3 : State) (inside : List ℕ) → Shows (bodyEnv env p m vs) inside → (w v : Steps.World Known) (r : Run (graph I) (all (env .scope) (known env names) (interfaceActions names p (node .fields) 0 (decl .interface))) w v)
+            → After v 0 st (ofRun I ds r) (size vs + 0) s1 → Opened (Scope.Body p (env .scope)) s1 m s2 → foldM (bodyStatement I (copy I left) env i (bodyEnv env p m vs)) (record { root = none; extraRoots = []; routes = [] }) ss s2 ≡ ok y s3
+            → (l : List ℕ) → flat statementIds ss ≡ l → (b : BodyDone I (env .scope) i (bodyScope p inside (env .scope)) v l) → s3 .charges + held I st + ofScope I (Scope.Body p (env .scope)) ≡ st .charges + held I s3 + 1 + size vs + length l + routesIn ss + ofRun I ds r + ofBody vs b
+        whole vs s1 m s2 y s3 inside hi w v r a o e3 = go
+          where
+            known′ : Known
+            known′ = bodyScope p inside (env .scope)
+
+            opened : Spent (ofScope I (Scope.Body p (env .scope))) s1 s2 1
+            opened = open-spent (Scope.Body p (env .scope)) s1 s2 m (ofScope I (Scope.Body p (env .scope))) 1 o (omega arith)
+
+            seen : Sees (addBody (env .scope) i known′ v) (s2 .world)
+            seen = open-sees (Scope.Body p (env .scope)) s1 s2 m v (addBody (env .scope) i known′ v) known′ o refl refl (a .sees)
+
+            number : count v ≡ m
+            number = a .sees .scopes ∙ sym (o .number)
+
+            go : (l : List ℕ) → flat statementIds ss ≡ l → (b : BodyDone I (env .scope) i known′ v l) → s3 .charges + held I st + ofScope I (Scope.Body p (env .scope)) ≡ st .charges + held I s3 + 1 + size vs + length l + routesIn ss + ofRun I ds r + ofBody vs b
+            go l q beforeRoot = omega (arith, a .spent .paid′, opened .paid′, atOk (body-none (copy I left) (copy-pays left) env i (bodyEnv env p m vs) inside vs hi (sized (bodyEnv env p m vs)) ss (record { root = none; extraRoots = []; routes = [] }) refl q 0 (addBody (env .scope) i known′ v) s2 seen) e3 .spent .paid′)
+            go l q (fromRoot n ns v1 v2 x z) = omega (
+              arith,
+              a .spent .paid′,
+              opened .paid′,
+              atOk (body-first (copy I left) (copy-pays left) env i (bodyEnv env p m vs) inside vs hi (sized (bodyEnv env p m vs)) ss (record { root = none; extraRoots = []; routes = [] }) refl n ns q (addBody (env .scope) i known′ v) v1 v2 (ofRun I vs x) (ofRun I vs z)
+                  (subst (λ (j : ℕ). Costs vs (one j known′ n) (addBody (env .scope) i known′ v) v1 (ofRun I vs x)) number (record { run = x; is = refl })) (subst (λ (j : ℕ). Costs vs (all j known′ (map copyId ns)) (addMapped (env .scope) i v1) v2 (ofRun I vs z)) number (record { run = z; is = refl })) 0 s2 seen) e3 .spent .paid′,
+            )
 
   -- ---- the whole
 

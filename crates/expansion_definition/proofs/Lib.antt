@@ -12,6 +12,7 @@ pub mod Books
 pub mod Rows
 pub mod Types
 pub mod Counted
+pub mod Parts
 pub mod Stopped
 pub mod Needs
 pub mod Demand

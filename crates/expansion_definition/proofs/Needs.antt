@@ -27,11 +27,12 @@ use Rattle.expansion_definition.specs.Instances.{pushScope, openScope, t
 use Rattle.expansion_definition.specs.Copy.{copyNode, mappedOr, copy}
 use Rattle.expansion_definition.specs.Expand.{statement, rootEnv, statements, Expansion, Answer, expansion, answer, expand}
 use Rattle.expansion_definition.specs.Reached.{Known, graph}
-use Rattle.expansion_definition.specs.Counted.{counted}
-use Rattle.expansion_definition.specs.Expanded.{withRows, Needs}
+use Rattle.expansion_definition.specs.Counted.{counted, tops}
+use Rattle.expansion_definition.specs.Expanded.{withRows, Until, Needs}
+use Rattle.expansion_definition.specs.Until.{idsFirst, plainFirst, givenFirst, defaultEnv, defaultFirst, bodyEnv, BodyPart, bodyFirst, NoneGiven, Copied, IdIn, PlainPlace, inField, inInterface, Open, five, nine, eight, fourOrigin, inPlain, fourStatement, six, inGiven, inDefault, inBody, fourBody, seven, OpenTop, inNode, fourTop}
 use Rattle.expansion_definition.proofs.Outcome.{atOk}
 use Rattle.expansion_definition.proofs.Counted.{charges-counted}
-use Rattle.expansion_definition.proofs.Stopped.{stopped}
+use Rattle.expansion_definition.proofs.Stopped.{tops-done}
 
 -- ---- a result for each limit
 
@@ -39,31 +40,49 @@ use Rattle.expansion_definition.proofs.Stopped.{stopped}
 abbrev Inv : State → Type 0
 Inv st = length (st .world .scopes) ≤ st .charges
 
+-- what is told of a refusal: the state in which it is given, its number and places
+abbrev Telling : Type 1
+Telling = State → ℕ → ℕ → ℕ → Type 0
+
 -- an end that is no 10, where so many charges are made
-data Ends {A : Type 0} : ℕ → Result A → Type 0 where
-  byOther : {need n d i : ℕ} → (n ≡ 10 → ⊥) → Ends need (refusal n d i)
-  done : {a : A} {s : State} → Inv s → Ends (s .charges) (ok a s)
+data Ends {A : Type 0} (E : Telling) : ℕ → Result A → Type 0 where
+  byOther : {n d i : ℕ} {s : State} → (n ≡ 10 → ⊥) → E s n d i → Ends E (s .charges) (refusal n d i)
+  done : {a : A} {s : State} → Inv s → Ends E (s .charges) (ok a s)
 
 -- From c charges on: with need or more charges allowed the same end, with fewer 10.
-record Threshold {A : Type 0} (c : ℕ) (m : ℕ → Result A) : Type 0 where
+record Threshold {A : Type 0} (E : Telling) (c : ℕ) (m : ℕ → Result A) : Type 0 where
   need : ℕ
   end : Result A
-  ends : Ends need end
+  ends : Ends E need end
   least : c ≤ need
   enough : (k : ℕ) → need ≤ k → m k ≡ end
   short : (k : ℕ) → c ≤ k → k < need → m k ≡ refusal 10 0 0
 
+-- an answer, with room for the charges made until then
+record Got {A : Type 0} (c : ℕ) (m : ℕ → Result A) (a : A) (s : State) : Type 0 where
+  inv : Inv s
+  more : c ≤ s .charges
+  made : (k : ℕ) → s .charges ≤ k → m k ≡ ok a s
+
 -- The same of equal results.
-retold : {A : Type 0} {c : ℕ} {m m′ : ℕ → Result A} → ((k : ℕ) → m k ≡ m′ k) → Threshold c m′ → Threshold c m
+retold : {A : Type 0} {E : Telling} {c : ℕ} {m m′ : ℕ → Result A} → ((k : ℕ) → m k ≡ m′ k) → Threshold E c m′ → Threshold E c m
 retold q t = record { need = t .need; end = t .end; ends = t .ends; least = t .least; enough = λ k h. q k ∙ t .enough k h; short = λ k h l. q k ∙ t .short k h l }
 
--- One step, then the next.
-threshold-bind : {A B : Type 0} {c : ℕ} {m : ℕ → Result A} {f : ℕ → A → Comp B} → Threshold c m → ((a : A) (s : State) → Inv s → Threshold (s .charges) (λ k. f k a s)) → Threshold c (λ k. bindR (m k) (f k))
-unfolding bindR
-threshold-bind {A} {B} {c} {m} {f} t g = go (t .need) (t .end) (t .ends) (t .least) (t .enough) (t .short)
+-- The same told in other words.
+told : {A : Type 0} {E F : Telling} {c : ℕ} {m : ℕ → Result A} → ((s : State) (n d i : ℕ) → c ≤ s .charges → E s n d i → F s n d i) → Threshold E c m → Threshold F c m
+told {A} {E} {F} {c} q t = record { need = t .need; end = t .end; ends = go (t .ends) (t .least); least = t .least; enough = t .enough; short = t .short }
   where
-    go : (need : ℕ) (end : Result A) → Ends need end → c ≤ need → ((k : ℕ) → need ≤ k → m k ≡ end) → ((k : ℕ) → c ≤ k → k < need → m k ≡ refusal 10 0 0) → Threshold c (λ k. bindR (m k) (f k))
-    go need (refusal n d i) (byOther h) le e s = record { need = need; end = refusal n d i; ends = byOther h; least = le; enough = λ k q. ap (λ (r : Result A). bindR r (f k)) (e k q); short = λ k q l. ap (λ (r : Result A). bindR r (f k)) (s k q l) }
+    go : {n : ℕ} {r : Result A} → Ends E n r → c ≤ n → Ends F n r
+    go (byOther {s = s} h e) l = byOther {s = s} h (q s _ _ _ l e)
+    go (done {s = s} h) l = done {s = s} h
+
+-- One step, then the next.
+threshold-bind : {A B : Type 0} {E : Telling} {c : ℕ} {m : ℕ → Result A} {f : ℕ → A → Comp B} → Threshold E c m → ((a : A) (s : State) → Got c m a s → Threshold E (s .charges) (λ k. f k a s)) → Threshold E c (λ k. bindR (m k) (f k))
+unfolding bindR
+threshold-bind {A} {B} {E} {c} {m} {f} t g = go (t .need) (t .end) (t .ends) (t .least) (t .enough) (t .short)
+  where
+    go : (need : ℕ) (end : Result A) → Ends E need end → c ≤ need → ((k : ℕ) → need ≤ k → m k ≡ end) → ((k : ℕ) → c ≤ k → k < need → m k ≡ refusal 10 0 0) → Threshold E c (λ k. bindR (m k) (f k))
+    go need (refusal n d i) (byOther {s = st} h y) le e s = record { need = st .charges; end = refusal n d i; ends = byOther {s = st} h y; least = le; enough = λ k q. ap (λ (r : Result A). bindR r (f k)) (e k q); short = λ k q l. ap (λ (r : Result A). bindR r (f k)) (s k q l) }
     go need (ok a st) (done h) le e s = record {
       need = u .need;
       end = u .end;
@@ -73,278 +92,367 @@ threshold-bind {A} {B} {c} {m} {f} t g = go (t .need) (t .end) (t .ends) (t .lea
       short = λ k q l. by k q l (decLt k (st .charges));
     }
       where
-        u : Threshold (st .charges) (λ k. f k a st)
-        u = g a st h
+        u : Threshold E (st .charges) (λ k. f k a st)
+        u = g a st (record { inv = h; more = le; made = e })
 
         by : (k : ℕ) → c ≤ k → k < u .need → Dec (k < st .charges) → bindR (m k) (f k) ≡ refusal 10 0 0
         by k q l (yes y) = ap (λ (r : Result A). bindR r (f k)) (s k q y)
         by k q l (no y) = let le′ : st .charges ≤ k = omega arith in ap (λ (r : Result A). bindR r (f k)) (e k le′) ∙ u .short k le′ l
 
+-- A step that gives an answer, then the next.
+step : {A B : Type 0} {m : Result A} (f : A → Comp B) {a : A} {s : State} {r : Result B} → m ≡ ok a s → f a s ≡ r → bindR m f ≡ r
+unfolding bindR
+step {A} f e q = ap (λ (x : Result A). bindR x f) e ∙ q
+
 -- a step for each limit
-abbrev Counted : {A : Type 0} → (ℕ → Comp A) → Type 0
-Counted m = (st : State) → Inv st → Threshold (st .charges) (λ k. m k st)
+abbrev Counted : {A : Type 0} → Telling → (ℕ → Comp A) → Type 0
+Counted E m = (st : State) → Inv st → Threshold E (st .charges) (λ k. m k st)
 
 -- A step that is the same for each limit, and charges nothing.
-free : {A : Type 0} (c : ℕ) (a : A) (s : State) → s .charges ≡ c → Inv s → Threshold c (λ k. ok a s)
+free : {A : Type 0} {E : Telling} (c : ℕ) (a : A) (s : State) → s .charges ≡ c → Inv s → Threshold E c (λ k. ok a s)
 free c a s q h = record { need = s .charges; end = ok a s; ends = done h; least = omega arith; enough = λ k l. refl; short = λ k l r. absurd (omega arith) }
 
-count-ret : {A : Type 0} (a : A) → Counted (λ k. ret a)
+count-ret : {A : Type 0} {E : Telling} (a : A) → Counted E (λ k. ret a)
 count-ret a st h = free (st .charges) a st refl h
 
 -- A refusal that is no 10.
-count-fail : {A : Type 0} (n d i : ℕ) → (n ≡ 10 → ⊥) → Counted (λ k. fail {A = A} n d i)
-count-fail n d i q st h = record { need = st .charges; end = refusal n d i; ends = byOther q; least = le-refl _; enough = λ k l. refl; short = λ k l r. absurd (omega arith) }
+count-fail : {A : Type 0} {E : Telling} (n d i : ℕ) → (n ≡ 10 → ⊥) → (st : State) → E st n d i → Threshold E (st .charges) (λ k. fail {A = A} n d i st)
+count-fail n d i q st e = record { need = st .charges; end = refusal n d i; ends = byOther {s = st} q e; least = le-refl _; enough = λ k l. refl; short = λ k l r. absurd (omega arith) }
 
-count-bind : {A B : Type 0} {m : ℕ → Comp A} {f : ℕ → A → Comp B} → Counted m → ((a : A) → Counted (λ k. f k a)) → Counted (λ k. m k >>= f k)
-count-bind h g st inv = threshold-bind (h st inv) (λ a s i. g a s i)
+count-bind : {A B : Type 0} {E : Telling} {m : ℕ → Comp A} {f : ℕ → A → Comp B} → Counted E m → ((a : A) → Counted E (λ k. f k a)) → Counted E (λ k. m k >>= f k)
+count-bind h g st inv = threshold-bind (h st inv) (λ a s i. g a s (i .inv))
 
 module _ (I : Input) where
   abbrev J : ℕ → Input
   J k = withRows k I
 
-  count-charge : Counted (λ k. charge (J k))
-  unfolding charge chargeIf
-  count-charge st h = record { need = suc (st .charges); end = ok tt (oneMore st); ends = done {s = oneMore st} (omega arith); least = omega arith; enough = λ k l. enough k (ltb (st .charges) k) (lt→ltb (st .charges) k l); short = λ k l r. short k r (ltb (st .charges) k) (ltb→lt (st .charges) k) }
-    where
-      enough : (k : ℕ) (b : Bool) → T b → chargeIf b st ≡ ok tt (oneMore st)
-      enough k true l = refl
-      enough k false l = absurd l
+  -- what is told where an id of v is refused, those in front of it copied
+  abbrev InValue : Telling → (ℕ → Copier) → FieldValue → State → Type 0
+  InValue E c v st = (ids : List ℕ) (j : ℕ) → IdIn v ids j → (os : List ℕ) (s : State) → Got (st .charges) (λ k. idsFirst (J k) (c k) ids st) os s → Threshold E (s .charges) (λ k. c k j s)
 
-      short : (k : ℕ) → k < suc (st .charges) → (b : Bool) → (T b → st .charges < k) → chargeIf b st ≡ refusal 10 0 0
-      short k r true l = absurd (omega (arith, l tt))
-      short k r false l = refl
+  -- ---- steps that 10 alone refuses
 
-  count-each : {A : Type 0} (l : List A) → Counted (λ k. chargeEach (J k) l)
-  unfolding chargeEach
-  count-each [] = count-ret tt
-  count-each (x ∷ l) = count-bind count-charge (λ u. count-each l)
-
-  count-paid : {A : Type 0} {m : ℕ → Comp A} → Counted m → Counted (λ k. paid (J k) (m k))
-  unfolding paid
-  count-paid h = count-bind h (λ a. count-bind count-charge (λ u. count-ret a))
-
-  count-mapM : {A B : Type 0} {g : ℕ → A → Comp B} → ((a : A) → Counted (λ k. g k a)) → (l : List A) → Counted (λ k. mapM (g k) l)
-  unfolding mapM
-  count-mapM h [] = count-ret []
-  count-mapM h (a ∷ l) = count-bind (h a) (λ b. count-bind (count-mapM h l) (λ bs. count-ret (b ∷ bs)))
-
-  count-foldM : {A B : Type 0} {g : ℕ → B → A → Comp B} → ((b : B) (a : A) → Counted (λ k. g k b a)) → (b : B) (l : List A) → Counted (λ k. foldM (g k) b l)
-  unfolding foldM
-  count-foldM h b [] = count-ret b
-  count-foldM h b (a ∷ l) = count-bind (h b a) (λ c. count-foldM h c l)
-
-  -- ---- values, externs, IS
-
-  count-clone : (v : FieldValue) → Counted (λ k. clone (J k) v)
-  unfolding clone
-  count-clone v = count-bind (count-each (dataIds (v .«data»))) (λ u. count-ret v)
-
-  count-associate : (env : Env) (a : Association) → Counted (λ k. associate (J k) env a)
-  unfolding associate
-  count-associate env a = count-bind count-charge (λ u st h. free (st .charges) tt _ refl h)
-
-  count-extern : (env : Env) (x : ℕ) → Counted (λ k. externProto (J k) env x)
-  unfolding externProto declare
-  count-extern env x st = go (lookupExtern (st .externMap) (src env) x) (externProtoAt (docs I) (src env) x) st
-    where
-      go : (o : Option ℕ) (decl : Option ExternProtoDecl) → Counted (λ k. declare (J k) (src env) x o decl)
-      go (some n) decl = count-ret n
-      go none none = count-fail 4 (src env) x (λ q. omega arith)
-      go none (some decl) = count-bind count-charge (λ a. count-bind (count-each (decl .interface)) (λ b. count-bind (count-each (decl .urls)) (λ c s h. free (s .charges) (length (s .externProtos)) _ refl h)))
-
-  count-origin : (env : Env) (o : NodeOrigin) → Counted (λ k. copyOrigin (J k) env o)
-  unfolding copyOrigin
-  count-origin env NodeOrigin.Builtin = count-ret _
-  count-origin env (NodeOrigin.Proto p) = count-ret _
-  count-origin env (NodeOrigin.ExternProto x) = count-bind (count-extern env x) (λ n. count-ret _)
-  count-origin env NodeOrigin.Unknown = count-ret _
-
-  count-isField : (f : Field) (o : Option (Option FieldValue)) → Counted (λ k. isField (J k) f o)
-  unfolding isField
-  count-isField f none = count-paid (count-ret _)
-  count-isField f (some none) = count-ret none
-  count-isField f (some (some v)) = count-bind (count-paid (count-clone v)) (λ a. count-ret _)
-
-  count-isInterface : (d : InterfaceDecl) (target : ℕ) (o : Option (Option FieldValue)) → Counted (λ k. isInterface (J k) d target o)
-  unfolding isInterface
-  count-isInterface d target none = count-ret _
-  count-isInterface d target (some none) = count-ret _
-  count-isInterface d target (some (some v)) = count-bind (count-clone v) (λ a. count-ret _)
-
-  count-copyExtern : (env : Env) (x : ℕ) → Counted (λ k. copyExtern (J k) env x)
-  unfolding copyExtern
-  count-copyExtern env x = count-bind (count-paid (count-extern env x)) (λ n. count-ret _)
-
-  count-route : (env : Env) (r : Route) → Counted (λ k. copyRoute (J k) env r)
-  unfolding copyRoute
-  count-route env r = count-paid (λ st h. free (st .charges) _ st refl h)
-
-  count-copyStatement : (env : Env) (s : Statement) → Counted (λ k. copyStatement (J k) env s)
-  unfolding copyStatement
-  count-copyStatement env (Statement.Node i) = count-ret none
-  count-copyStatement env (Statement.Proto p) = count-ret none
-  count-copyStatement env (Statement.ExternProto x) = count-copyExtern env x
-  count-copyStatement env (Statement.Route r) = count-route env r
-  count-copyStatement env (Statement.Other p) = count-ret none
-
-  -- ---- a plain copy
-
-  module _ {c : ℕ → Copier} (hc : (i : ℕ) → Counted (λ k. c k i)) where
-    count-data : (d : FieldData) → Counted (λ k. copyData (J k) (c k) d)
-    unfolding copyData
-    count-data (FieldData.Payload p) = count-ret _
-    count-data (FieldData.Nodes ids) = count-bind (count-mapM (λ i. count-paid (hc i)) ids) (λ os. count-ret _)
-
-    count-value : (v : FieldValue) → Counted (λ k. value (J k) (c k) v)
-    unfolding value
-    count-value v = count-bind (count-data (v .«data»)) (λ d. count-ret _)
-
-    count-field : (env : Env) (new : ℕ) (f : Field) → Counted (λ k. copyField (J k) (c k) env new f)
-    unfolding copyField copyBinding
-    count-field env new f = go (f .binding)
+  module _ {E : Telling} where
+    count-charge : Counted E (λ k. charge (J k))
+    unfolding charge chargeIf
+    count-charge st h = record { need = suc (st .charges); end = ok tt (oneMore st); ends = done {s = oneMore st} (omega arith); least = omega arith; enough = λ k l. enough k (ltb (st .charges) k) (lt→ltb (st .charges) k l); short = λ k l r. short k r (ltb (st .charges) k) (ltb→lt (st .charges) k) }
       where
-        go : (b : FieldBinding) → Counted (λ k. copyBinding (J k) (c k) env new f b)
-        go (FieldBinding.Value v) = count-bind (count-paid (count-value v)) (λ v′. count-ret _)
-        go (FieldBinding.Is target) = count-bind (count-associate env _) (λ u. count-isField f (isValue env target))
+        enough : (k : ℕ) (b : Bool) → T b → chargeIf b st ≡ ok tt (oneMore st)
+        enough k true l = refl
+        enough k false l = absurd l
 
-    count-interface : (env : Env) (new : ℕ) (d : InterfaceDecl) → Counted (λ k. copyInterface (J k) (c k) env new d)
-    unfolding copyInterface copyTarget
-    count-interface env new d = count-paid (go (d .is) (d .value))
+        short : (k : ℕ) → k < suc (st .charges) → (b : Bool) → (T b → st .charges < k) → chargeIf b st ≡ refusal 10 0 0
+        short k r true l = absurd (omega (arith, l tt))
+        short k r false l = refl
+
+    count-each : {A : Type 0} (l : List A) → Counted E (λ k. chargeEach (J k) l)
+    unfolding chargeEach
+    count-each [] = count-ret tt
+    count-each (x ∷ l) = count-bind count-charge (λ u. count-each l)
+
+    -- a step that is charged, in a state
+    paid-at : {A : Type 0} (m : ℕ → Comp A) (st : State) → Threshold E (st .charges) (λ k. m k st) → Threshold E (st .charges) (λ k. paid (J k) (m k) st)
+    unfolding paid
+    paid-at m st h = threshold-bind h (λ a s q. count-bind count-charge (λ u. count-ret a) s (q .inv))
+
+    count-paid : {A : Type 0} {m : ℕ → Comp A} → Counted E m → Counted E (λ k. paid (J k) (m k))
+    count-paid h st inv = paid-at _ st (h st inv)
+
+    count-clone : (v : FieldValue) → Counted E (λ k. clone (J k) v)
+    unfolding clone
+    count-clone v = count-bind (count-each (dataIds (v .«data»))) (λ u. count-ret v)
+
+    count-associate : (env : Env) (a : Association) → Counted E (λ k. associate (J k) env a)
+    unfolding associate
+    count-associate env a = count-bind count-charge (λ u st h. free (st .charges) tt _ refl h)
+
+    count-isField : (f : Field) (o : Option (Option FieldValue)) → Counted E (λ k. isField (J k) f o)
+    unfolding isField
+    count-isField f none = count-paid (count-ret _)
+    count-isField f (some none) = count-ret none
+    count-isField f (some (some v)) = count-bind (count-paid (count-clone v)) (λ a. count-ret _)
+
+    count-isInterface : (d : InterfaceDecl) (target : ℕ) (o : Option (Option FieldValue)) → Counted E (λ k. isInterface (J k) d target o)
+    unfolding isInterface
+    count-isInterface d target none = count-ret _
+    count-isInterface d target (some none) = count-ret _
+    count-isInterface d target (some (some v)) = count-bind (count-clone v) (λ a. count-ret _)
+
+    count-route : (env : Env) (r : Route) → Counted E (λ k. copyRoute (J k) env r)
+    unfolding copyRoute
+    count-route env r = count-paid (λ st h. free (st .charges) _ st refl h)
+
+    -- A scope has a charge of its own.
+    count-openScope : (e : Scope) → Counted E (λ k. openScope (J k) e)
+    unfolding openScope pushScope bindR count-charge
+    count-openScope e st h = record {
+      need = suc (st .charges);
+      end = ok (length (st .world .scopes)) after;
+      ends = done {s = after} (omega (arith, length-append (st .world .scopes) (e ∷ [])));
+      least = omega arith;
+      enough = λ k l. ap (λ (r : Result (Unit {0})). bindR r (λ u. pushScope e)) (t .enough k l);
+      short = λ k q l. ap (λ (r : Result (Unit {0})). bindR r (λ u. pushScope e)) (t .short k q l);
+    }
       where
-        go : (target : Option ℕ) (v : Option FieldValue) → Counted (λ k. copyTarget (J k) (c k) env new d target v)
-        go (some target) v = count-bind (count-associate env _) (λ u. count-isInterface d target (isValue env target))
-        go none none = count-ret _
-        go none (some v) = count-bind (count-value v) (λ v′. count-ret _)
+        t : Threshold E (st .charges) (λ k. charge (J k) st)
+        t = count-charge st h
 
-    count-contents : (env : Env) (new : ℕ) (node : Node) → Counted (λ k. contents (J k) (c k) env new node)
-    unfolding contents
-    count-contents env new node =
-        count-bind (count-origin env (node .origin)) (λ origin. count-bind (count-mapM (count-field env new) (node .fields)) (λ fields. count-bind (count-mapM (count-interface env new) (node .interface))
-        (λ interface. count-bind (count-mapM (count-copyStatement env) (node .statements)) (λ statements. count-bind (count-each (keptOrder fields statements (node .bodyOrder))) (λ u. count-ret _)))))
+        after : State
+        after = withWorld (record { map = st .world .map; ledger = st .world .ledger; scopes = st .world .scopes ++ (e ∷ []) }) (oneMore st)
 
-    count-reserve : (env : Env) (i : ℕ) → Counted (λ k. reserve (J k) env i)
-    unfolding reserve reserveIf
-    count-reserve env i st = go (ltb (length (st .nodes)) (I .limits .maxNodes)) st
-      where
-        go : (b : Bool) → Counted (λ k. reserveIf b (J k) env i)
-        go false = count-fail 8 0 0 (λ q. omega arith)
-        go true = count-bind count-charge (λ u. count-bind count-charge (λ v s h. free (s .charges) (length (s .nodes)) _ refl h))
-
-    count-plain : (env : Env) (i : ℕ) (node : Node) → Counted (λ k. copyPlain (J k) (c k) env i node)
-    unfolding copyPlain
-    count-plain env i node = count-bind (count-reserve env i) (λ new. count-bind (count-contents env new node) (λ x s h. free (s .charges) new _ refl h))
-
-    count-statement : (env : Env) (s : Statement) → Counted (λ k. statement (J k) (c k) env s)
-    unfolding statement
-    count-statement env (Statement.Node i) = count-bind (count-paid (hc i)) (λ o. count-ret _)
-    count-statement env (Statement.Proto p) = count-ret none
-    count-statement env (Statement.ExternProto x) = count-copyExtern env x
-    count-statement env (Statement.Route r) = count-route env r
-    count-statement env (Statement.Other p) = count-paid (count-ret _)
-
-  -- ---- an instance
-
-  -- A scope has a charge of its own.
-  count-openScope : (e : Scope) → Counted (λ k. openScope (J k) e)
-  unfolding openScope pushScope bindR count-charge
-  count-openScope e st h = record {
-    need = suc (st .charges);
-    end = ok (length (st .world .scopes)) after;
-    ends = done {s = after} (omega (arith, length-append (st .world .scopes) (e ∷ [])));
-    least = omega arith;
-    enough = λ k l. ap (λ (r : Result (Unit {0})). bindR r (λ u. pushScope e)) (t .enough k l);
-    short = λ k q l. ap (λ (r : Result (Unit {0})). bindR r (λ u. pushScope e)) (t .short k q l);
-  }
-    where
-      t : Threshold (st .charges) (λ k. charge (J k) st)
-      t = count-charge st h
-
-      after : State
-      after = withWorld (record { map = st .world .map; ledger = st .world .ledger; scopes = st .world .scopes ++ (e ∷ []) }) (oneMore st)
-
-  module _ {f : ℕ → Env → Copier} (hf : (env : Env) (i : ℕ) → Counted (λ k. f k env i)) where
-    count-default : (e : Scope) (v : Option FieldValue) → Counted (λ k. takeDefault (J k) (f k) e v)
-    unfolding takeDefault
-    count-default e none = count-ret none
-    count-default e (some v) = count-bind (count-openScope e) (λ n. count-bind (count-value (hf (record { scope = n; entry = e; isValues = none })) v) (λ v′. count-ret _))
-
-    count-interfaceValue : (env : Env) (e : Scope) (default : Option FieldValue) (given : Option FieldBinding) → Counted (λ k. interfaceValue (J k) (f k) env e default given)
-    unfolding interfaceValue cloneOr
-    count-interfaceValue env e default (some (FieldBinding.Value v)) = count-bind (count-value (hf env) v) (λ v′. count-ret _)
-    count-interfaceValue env e default (some (FieldBinding.Is target)) = is (andThen (env .isValues) (valueNamed target))
-      where
-        is : (o : Option FieldValue) → Counted (λ k. cloneOr (J k) (takeDefault (J k) (f k) e default) o)
-        is none = count-default e default
-        is (some v) = count-bind (count-clone v) (λ v′. count-ret _)
-    count-interfaceValue env e default none = count-default e default
-
-    count-store : (name : ℕ) (vs : Values) (v : Option FieldValue) → Counted (λ k. store (J k) name vs v)
+    count-store : (name : ℕ) (vs : Values) (v : Option FieldValue) → Counted E (λ k. store (J k) name vs v)
     unfolding store
     count-store name vs none = count-ret vs
     count-store name vs (some v) = count-paid (count-ret _)
 
-    count-values : (env : Env) (p : Prototype) (fields : List Field) (j : ℕ) (l : List InterfaceDecl) (vs : Values) → Counted (λ k. values (J k) (f k) env p fields j l vs)
-    unfolding values
-    count-values env p fields j [] vs = count-ret vs
-    count-values env p fields j (d ∷ l) vs = count-bind (count-interfaceValue env (Scope.Default p j (env .scope)) (d .value) (lastField (d .name) fields)) (λ v. count-bind (count-store (d .name) vs v) (λ vs′. count-values env p fields (suc j) l vs′))
-
-    count-place : (env : Env) (i o : ℕ) (b : Body) (root : Option ℕ) → Counted (λ k. place (J k) env i o b root)
+    count-place : (env : Env) (i o : ℕ) (b : Body) (root : Option ℕ) → Counted E (λ k. place (J k) env i o b root)
     unfolding place
     count-place env i o b none = count-bind count-charge (λ u st h. free (st .charges) _ _ refl h)
     count-place env i o b (some root) = count-paid (count-ret _)
 
-    count-body : (env : Env) (i : ℕ) (inner : Env) (b : Body) (s : Statement) → Counted (λ k. bodyStatement (J k) (f k) env i inner b s)
-    unfolding bodyStatement
-    count-body env i inner b (Statement.Node j) = count-bind (hf inner j) (λ o. count-place env i o b (b .root))
-    count-body env i inner b (Statement.Proto p) = count-ret b
-    count-body env i inner b (Statement.ExternProto x) = count-bind (count-extern inner x) (λ n. count-ret b)
-    count-body env i inner b (Statement.Route r) = count-paid (count-ret _)
-    count-body env i inner b (Statement.Other p) = count-ret b
-
-    count-root : (p : Prototype) (o : Option ℕ) → Counted (λ k. rootOf p o)
-    unfolding rootOf
-    count-root p none = count-fail 7 (p .document) (p .proto) (λ q. omega arith)
-    count-root p (some o) = count-ret o
-
-    count-record : (name : ℕ) (defName : Option ℕ) (n : ℕ) (b : Body) (o : ℕ) → Counted (λ k. recordInstance name defName n b o)
+    count-record : (name : ℕ) (defName : Option ℕ) (n : ℕ) (b : Body) (o : ℕ) → Counted E (λ k. recordInstance name defName n b o)
     unfolding recordInstance
     count-record name defName n b o st h = free (st .charges) o _ refl h
 
-    count-instance : (env : Env) (i : ℕ) (node : Node) (p : Prototype) (decl : Option ProtoDecl) → Counted (λ k. instantiate (J k) (f k) env i node p decl)
-    unfolding instantiate
-    count-instance env i node p none = count-fail 6 (p .document) (p .proto) (λ q. omega arith)
-    count-instance env i node p (some decl) =
-        count-bind (count-values env p (node .fields) 0 (decl .interface) []) (λ vs. count-bind (count-openScope (Scope.Body p (env .scope))) (λ n. count-bind (count-foldM (count-body env i (record { scope = n; entry = Scope.Body p (env .scope); isValues = some vs })) _ (decl .body))
-        (λ b. count-bind (count-root p (b .root)) (λ o. count-bind count-charge (λ u. count-record (decl .name) (node .defName) n b o)))))
+    -- ---- lists: what is told of an element is told with those in front of it done
 
-    -- ---- the copier
+    mapM-at : {A B : Type 0} {g : ℕ → A → Comp B} (l : List A) (st : State) → Inv st
+        → ((front : List A) (a : A) (behind : List A) → l ≡ front ++ (a ∷ behind) → (bs : List B) (s : State) → Got (st .charges) (λ k. mapM (g k) front st) bs s → Threshold E (s .charges) (λ k. g k a s)) → Threshold E (st .charges) (λ k. mapM (g k) l st)
+    unfolding mapM
+    mapM-at [] st inv h = count-ret [] st inv
+    mapM-at {A} {B} {g} (a ∷ l) st inv h = threshold-bind (h [] a l refl [] st (record { inv = inv; more = le-refl _; made = λ k q. refl }))
+        (λ b s y. threshold-bind (mapM-at l s (y .inv) (λ front x behind e bs t z. h (a ∷ front) x behind (ap (λ (r : List A). a ∷ r) e) (b ∷ bs) t (record { inv = z .inv; more = le-trans (y .more) (z .more); made = λ k q. step _ (y .made k (le-trans (z .more) q)) (step _ (z .made k q) refl) }))) (λ bs t z. count-ret (b ∷ bs) t (z .inv)))
 
-    -- The PROTO of a node is no matter of the limits.
-    proto-same : (k d : ℕ) (o : NodeOrigin) → protoOfOrigin (J k) d o ≡ protoOfOrigin I d o
-    proto-same k d o = refl
+    foldM-at : {A B : Type 0} {g : ℕ → B → A → Comp B} (b : B) (l : List A) (st : State) → Inv st
+        → ((front : List A) (a : A) (behind : List A) → l ≡ front ++ (a ∷ behind) → (c : B) (s : State) → Got (st .charges) (λ k. foldM (g k) b front st) c s → Threshold E (s .charges) (λ k. g k c a s)) → Threshold E (st .charges) (λ k. foldM (g k) b l st)
+    unfolding foldM
+    foldM-at b [] st inv h = count-ret b st inv
+    foldM-at {A} {B} {g} b (a ∷ l) st inv h = threshold-bind (h [] a l refl b st (record { inv = inv; more = le-refl _; made = λ k q. refl }))
+        (λ c s y. foldM-at c l s (y .inv) (λ front x behind e d t z. h (a ∷ front) x behind (ap (λ (r : List A). a ∷ r) e) d t (record { inv = z .inv; more = le-trans (y .more) (z .more); made = λ k q. step _ (y .made k (le-trans (z .more) q)) (z .made k q) })))
 
-    count-node : (env : Env) (i : ℕ) (node : Node) → Counted (λ k. copyNode (J k) (f k) env i node (protoOfOrigin (J k) (src env) (node .origin)))
-    unfolding copyNode
-    count-node env i node st h = retold (λ k. ap (λ (p : Option Prototype). copyNode (J k) (f k) env i node p st) (proto-same k (src env) (node .origin))) (go (protoOfOrigin I (src env) (node .origin)) st h)
+    -- ---- externs: 4
+
+    extern-at : (env : Env) (x : ℕ) (st : State) → Inv st → (externProtoAt (docs I) (src env) x ≡ none → E st 4 (src env) x) → Threshold E (st .charges) (λ k. externProto (J k) env x st)
+    unfolding externProto declare
+    extern-at env x st inv h = go (lookupExtern (st .externMap) (src env) x) (externProtoAt (docs I) (src env) x) refl
       where
-        go : (p : Option Prototype) → Counted (λ k. copyNode (J k) (f k) env i node p)
-        go none = count-plain (hf env) env i node
-        go (some p) = count-instance env i node p (protoAt (docs I) (p .document) (p .proto))
+        go : (o : Option ℕ) (decl : Option ExternProtoDecl) → externProtoAt (docs I) (src env) x ≡ decl → Threshold E (st .charges) (λ k. declare (J k) (src env) x o decl st)
+        go (some n) decl e = count-ret n st inv
+        go none none e = count-fail 4 (src env) x (λ q. omega arith) st (h e)
+        go none (some decl) e = count-bind count-charge (λ a. count-bind (count-each (decl .interface)) (λ b. count-bind (count-each (decl .urls)) (λ c s h. free (s .charges) (length (s .externProtos)) _ refl h))) st inv
 
-  count-mapped : (env : Env) (i : ℕ) (next : ℕ → Node → Comp ℕ) → ((node : Node) → Counted (λ k. next k node)) → (o : Option ℕ) (node : Option Node) → Counted (λ k. mappedOr env i (next k) o node)
-  unfolding mappedOr
-  count-mapped env i next h (some o) node = count-ret o
-  count-mapped env i next h none none = count-fail 5 (src env) i (λ q. omega arith)
-  count-mapped env i next h none (some node) = h node
+    origin-at : (env : Env) (o : NodeOrigin) (st : State) → Inv st → ((x : ℕ) → o ≡ NodeOrigin.ExternProto x → externProtoAt (docs I) (src env) x ≡ none → E st 4 (src env) x) → Threshold E (st .charges) (λ k. copyOrigin (J k) env o st)
+    unfolding copyOrigin
+    origin-at env NodeOrigin.Builtin st inv h = count-ret _ st inv
+    origin-at env (NodeOrigin.Proto p) st inv h = count-ret _ st inv
+    origin-at env (NodeOrigin.ExternProto x) st inv h = threshold-bind (extern-at env x st inv (h x refl)) (λ n s q. count-ret _ s (q .inv))
+    origin-at env NodeOrigin.Unknown st inv h = count-ret _ st inv
 
-  count-copy : (left : ℕ) (env : Env) (i : ℕ) → Counted (λ k. copy (J k) left env i)
+    copyExtern-at : (env : Env) (x : ℕ) (st : State) → Inv st → (externProtoAt (docs I) (src env) x ≡ none → E st 4 (src env) x) → Threshold E (st .charges) (λ k. copyExtern (J k) env x st)
+    unfolding copyExtern
+    copyExtern-at env x st inv h = threshold-bind (paid-at _ st (extern-at env x st inv h)) (λ n s q. count-ret _ s (q .inv))
+
+    statement-at : (env : Env) (s : Statement) (st : State) → Inv st → ((x : ℕ) → s ≡ Statement.ExternProto x → externProtoAt (docs I) (src env) x ≡ none → E st 4 (src env) x) → Threshold E (st .charges) (λ k. copyStatement (J k) env s st)
+    unfolding copyStatement
+    statement-at env (Statement.Node i) st inv h = count-ret none st inv
+    statement-at env (Statement.Proto p) st inv h = count-ret none st inv
+    statement-at env (Statement.ExternProto x) st inv h = copyExtern-at env x st inv (h x refl)
+    statement-at env (Statement.Route r) st inv h = count-route env r st inv
+    statement-at env (Statement.Other p) st inv h = count-ret none st inv
+
+    -- ---- values: an id that is refused, with those in front of it done
+
+    module _ (c : ℕ → Copier) where
+      value-at : (v : FieldValue) (st : State) → Inv st → InValue E c v st → Threshold E (st .charges) (λ k. value (J k) (c k) v st)
+      unfolding value copyData idsFirst
+      value-at v st inv h = threshold-bind (go (v .«data») refl) (λ d s q. count-ret _ s (q .inv))
+        where
+          go : (d : FieldData) → v .«data» ≡ d → Threshold E (st .charges) (λ k. copyData (J k) (c k) d st)
+          go (FieldData.Payload p) e = count-ret _ st inv
+          go (FieldData.Nodes ids) e = threshold-bind (mapM-at ids st inv (λ front j behind q os s y. paid-at _ s (h front j (record { behind = behind; place = e ∙ ap FieldData.Nodes q }) os s y))) (λ os s q. count-ret _ s (q .inv))
+
+      field-at : (env : Env) (new : ℕ) (f : Field) (st : State) → Inv st → ((v : FieldValue) → f .binding ≡ FieldBinding.Value v → InValue E c v st) → Threshold E (st .charges) (λ k. copyField (J k) (c k) env new f st)
+      unfolding copyField copyBinding
+      field-at env new f st inv h = go (f .binding) refl
+        where
+          go : (b : FieldBinding) → f .binding ≡ b → Threshold E (st .charges) (λ k. copyBinding (J k) (c k) env new f b st)
+          go (FieldBinding.Value v) e = threshold-bind (paid-at _ st (value-at v st inv (h v e))) (λ v′ s q. count-ret _ s (q .inv))
+          go (FieldBinding.Is target) e = count-bind (count-associate env _) (λ u. count-isField f (isValue env target)) st inv
+
+      interface-at : (env : Env) (new : ℕ) (d : InterfaceDecl) (st : State) → Inv st → ((v : FieldValue) → d .is ≡ none → d .value ≡ some v → InValue E c v st) → Threshold E (st .charges) (λ k. copyInterface (J k) (c k) env new d st)
+      unfolding copyInterface copyTarget
+      interface-at env new d st inv h = paid-at _ st (go (d .is) (d .value) refl refl)
+        where
+          go : (target : Option ℕ) (v : Option FieldValue) → d .is ≡ target → d .value ≡ v → Threshold E (st .charges) (λ k. copyTarget (J k) (c k) env new d target v st)
+          go (some target) v e q = count-bind (count-associate env _) (λ u. count-isInterface d target (isValue env target)) st inv
+          go none none e q = count-ret _ st inv
+          go none (some v) e q = threshold-bind (value-at v st inv (h v e q)) (λ v′ s y. count-ret _ s (y .inv))
+
+    -- ---- the parts of an instance
+
+    default-at : (f : ℕ → Env → Copier) (e : Scope) (v : Option FieldValue) (st : State) → Inv st → ((w : FieldValue) → v ≡ some w → (n : ℕ) (s : State) → Got (st .charges) (λ k. openScope (J k) e st) n s → InValue E (λ k. f k (record { scope = n; entry = e; isValues = none })) w s) → Threshold E (st .charges) (λ k. takeDefault (J k) (f k) e v st)
+    unfolding takeDefault
+    default-at f e none st inv h = count-ret none st inv
+    default-at f e (some v) st inv h = threshold-bind (count-openScope e st inv) (λ n s g. threshold-bind (value-at (λ k. f k (record { scope = n; entry = e; isValues = none })) v s (g .inv) (h v refl n s g)) (λ v′ t q. count-ret _ t (q .inv)))
+
+    interfaceValue-at : (f : ℕ → Env → Copier) (env : Env) (e : Scope) (default : Option FieldValue) (given : Option FieldBinding) (st : State) → Inv st → ((v : FieldValue) → given ≡ some (FieldBinding.Value v) → InValue E (λ k. f k env) v st)
+        → (NoneGiven env given → (w : FieldValue) → default ≡ some w → (n : ℕ) (s : State) → Got (st .charges) (λ k. openScope (J k) e st) n s → InValue E (λ k. f k (record { scope = n; entry = e; isValues = none })) w s) → Threshold E (st .charges) (λ k. interfaceValue (J k) (f k) env e default given st)
+    unfolding interfaceValue cloneOr
+    interfaceValue-at f env e default (some (FieldBinding.Value v)) st inv h g = threshold-bind (value-at (λ k. f k env) v st inv (h v refl)) (λ v′ s q. count-ret _ s (q .inv))
+    interfaceValue-at f env e default (some (FieldBinding.Is target)) st inv h g = go (andThen (env .isValues) (valueNamed target)) refl
+      where
+        go : (o : Option FieldValue) → andThen (env .isValues) (valueNamed target) ≡ o → Threshold E (st .charges) (λ k. cloneOr (J k) (takeDefault (J k) (f k) e default) o st)
+        go none q = default-at f e default st inv (g q)
+        go (some v) q = count-bind (count-clone v) (λ v′. count-ret _) st inv
+    interfaceValue-at f env e default none st inv h g = default-at f e default st inv (g tt)
+
+    -- j: the index of the first interface
+    values-at : (f : ℕ → Env → Copier) (env : Env) (p : Prototype) (fields : List Field) (j : ℕ) (l : List InterfaceDecl) (vs : Values) (st : State) → Inv st
+        → ((front : List InterfaceDecl) (a : InterfaceDecl) (behind : List InterfaceDecl) → l ≡ front ++ (a ∷ behind) → (n : ℕ) → length front + j ≡ n → (ws : Values) (s : State) → Got (st .charges) (λ k. values (J k) (f k) env p fields j front vs st) ws s
+        → Threshold E (s .charges) (λ k. interfaceValue (J k) (f k) env (Scope.Default p n (env .scope)) (a .value) (lastField (a .name) fields) s)) → Threshold E (st .charges) (λ k. values (J k) (f k) env p fields j l vs st)
+    unfolding values
+    values-at f env p fields j [] vs st inv h = count-ret vs st inv
+    values-at f env p fields j (a ∷ l) vs st inv h = threshold-bind (h [] a l refl j (omega arith) vs st (record { inv = inv; more = le-refl _; made = λ k q. refl }))
+        (λ v s y. threshold-bind (count-store (a .name) vs v s (y .inv)) (λ vs′ s2 z. values-at f env p fields (suc j) l vs′ s2 (z .inv)
+        (λ front b behind e n q ws t g. h (a ∷ front) b behind (ap (λ (r : List InterfaceDecl). a ∷ r) e) n (omega (arith, q)) ws t (record { inv = g .inv; more = omega (arith, y .more, z .more, g .more); made = λ k q. step _ (y .made k (omega (arith, z .more, g .more))) (step _ (z .made k (le-trans (g .more) q)) (g .made k q)) }))))
+
+    bodyStatement-at : (f : ℕ → Env → Copier) (env : Env) (i : ℕ) (inner : Env) (b : Body) (y : Statement) (st : State) → Inv st → ((j : ℕ) → y ≡ Statement.Node j → Threshold E (st .charges) (λ k. f k inner j st))
+        → ((x : ℕ) → y ≡ Statement.ExternProto x → externProtoAt (docs I) (src inner) x ≡ none → E st 4 (src inner) x) → Threshold E (st .charges) (λ k. bodyStatement (J k) (f k) env i inner b y st)
+    unfolding bodyStatement
+    bodyStatement-at f env i inner b (Statement.Node j) st inv h g = threshold-bind (h j refl) (λ o s q. count-place env i o b (b .root) s (q .inv))
+    bodyStatement-at f env i inner b (Statement.Proto p) st inv h g = count-ret b st inv
+    bodyStatement-at f env i inner b (Statement.ExternProto x) st inv h g = threshold-bind (extern-at inner x st inv (g x refl)) (λ n s q. count-ret b s (q .inv))
+    bodyStatement-at f env i inner b (Statement.Route r) st inv h g = count-paid (count-ret _) st inv
+    bodyStatement-at f env i inner b (Statement.Other p) st inv h g = count-ret b st inv
+
+    root-at : (p : Prototype) (o : Option ℕ) (st : State) → Inv st → (o ≡ none → E st 7 (p .document) (p .proto)) → Threshold E (st .charges) (λ k. rootOf p o st)
+    unfolding rootOf
+    root-at p none st inv h = count-fail 7 (p .document) (p .proto) (λ q. omega arith) st (h refl)
+    root-at p (some o) st inv h = count-ret o st inv
+
+  -- ---- a copy
+
+  -- The PROTO of a node is no matter of the limits.
+  proto-same : (k d : ℕ) (o : NodeOrigin) → protoOfOrigin (J k) d o ≡ protoOfOrigin I d o
+  proto-same k d o = refl
+
+  -- the way to a refusal, with room for the charges made until then
+  abbrev Way : ℕ → Env → ℕ → State → Telling
+  Way left env i st = λ t c d x. (k : ℕ) → t .charges ≤ k → Open (J k) left env i st t c d x
+
+  -- a copier of each scope tells its way
+  abbrev Ways : ℕ → Type 0
+  Ways left = (env : Env) (i : ℕ) (st : State) → Inv st → Threshold (Way left env i st) (st .charges) (λ k. copy (J k) left env i st)
+
+  module _ (left : ℕ) (hf : Ways left) (env : Env) (i : ℕ) (st : State) (inv : Inv st) (un : lookup (st .world .map) (env .scope) i ≡ none) (node : Node) (there : nodeAt (docs I) (src env) i ≡ some node) where
+    abbrev E : Telling
+    E = Way (suc left) env i st
+
+    -- what it is of, whatever the limit
+    is : (p : Option Prototype) → protoOfOrigin I (src env) (node .origin) ≡ p → (k : ℕ) → Copied (J k) env i st node p
+    is p q k = record { unmapped = un; there = there; kind = q }
+
+    abbrev c : ℕ → Copier
+    c k = copy (J k) left env
+
+    -- ---- a plain node
+
+    module _ (ep : protoOfOrigin I (src env) (node .origin) ≡ none) where
+      reserve-at : Threshold E (st .charges) (λ k. reserve (J k) env i st)
+      unfolding reserve reserveIf
+      reserve-at = go (ltb (length (st .nodes)) (I .limits .maxNodes)) (lt→ltb (length (st .nodes)) (I .limits .maxNodes))
+        where
+          go : (b : Bool) → (length (st .nodes) < I .limits .maxNodes → T b) → Threshold E (st .charges) (λ k. reserveIf b (J k) env i st)
+          go false q = count-fail 8 0 0 (λ z. omega arith) st (λ k l. eight (is none ep k) (omega (arith, q)))
+          go true q = count-bind count-charge (λ u. count-bind count-charge (λ v s h. free (s .charges) (length (s .nodes)) _ refl h)) st inv
+
+      plain-at : Threshold E (st .charges) (λ k. copyPlain (J k) (c k) env i node st)
+      unfolding copyPlain contents plainFirst mapM idsFirst bindR
+      plain-at = threshold-bind reserve-at (λ new s1 g1. threshold-bind
+          (threshold-bind (origin-at env (node .origin) s1 (g1 .inv) (λ x q e k l. fourOrigin (is none ep k) (g1 .made k l) q e))
+          (λ og s2 g2. threshold-bind (mapM-at (node .fields) s2 (g2 .inv)
+          (λ front f behind q fs s3 g3. field-at c env new f s3 (g3 .inv) (λ v b ids j y os s g4. told (λ t n d x l w k h. inPlain {fs = front} {is = []} {ids = ids} (is none ep k) (inField f behind q b y)
+          (step _ (g1 .made k (omega (arith, g2 .more, g3 .more, g4 .more))) (step _ (g2 .made k (omega (arith, g3 .more, g4 .more))) (step _ (g3 .made k (omega (arith, g4 .more))) (step _ (g4 .made k (le-trans l h)) refl)))) (w k h)) (hf env j s (g4 .inv)))))
+          (λ fs s3 g3. threshold-bind (mapM-at (node .interface) s3 (g3 .inv)
+          (λ front a behind q ds s4 g4. interface-at c env new a s4 (g4 .inv) (λ v b b2 ids j y os s g5. told (λ t n d x l w k h. inPlain {fs = node .fields} {is = front} {ids = ids} (is none ep k) (inInterface a behind q b b2 y)
+          (step _ (g1 .made k (omega (arith, g2 .more, g3 .more, g4 .more, g5 .more))) (step _ (g2 .made k (omega (arith, g3 .more, g4 .more, g5 .more))) (step _ (g3 .made k (omega (arith, g4 .more, g5 .more))) (step _ (g4 .made k (omega (arith, g5 .more))) (step _ (g5 .made k (le-trans l h)) refl))))) (w k h)) (hf env j s (g5 .inv)))))
+          (λ ds s4 g4. threshold-bind (mapM-at (node .statements) s4 (g4 .inv)
+          (λ front y behind q ss s5 g5. statement-at env y s5 (g5 .inv) (λ x a e k l. fourStatement front behind (is none ep k) (q ∙ ap (λ (z : Statement). front ++ (z ∷ behind)) a)
+          (step _ (g1 .made k (omega (arith, g2 .more, g3 .more, g4 .more, g5 .more))) (step _ (g2 .made k (omega (arith, g3 .more, g4 .more, g5 .more))) (step _ (g3 .made k (omega (arith, g4 .more, g5 .more))) (step _ (g4 .made k (omega (arith, g5 .more))) (step _ (g5 .made k l) refl))))) e)))
+          (λ ss s5 g5. count-bind (count-each (keptOrder fs ss (node .bodyOrder))) (λ u. count-ret _) s5 (g5 .inv))))))
+          (λ x s g. free (s .charges) new _ refl (g .inv)))
+
+    -- ---- an instance
+
+    module _ (p : Prototype) (ep : protoOfOrigin I (src env) (node .origin) ≡ some p) where
+      instance-at : Threshold E (st .charges) (λ k. instantiate (J k) (copy (J k) left) env i node p (protoAt (docs I) (p .document) (p .proto)) st)
+      unfolding instantiate givenFirst defaultFirst bodyFirst bindR
+      instance-at = go (protoAt (docs I) (p .document) (p .proto)) refl
+        where
+          f : ℕ → Env → Copier
+          f k = copy (J k) left
+
+          go : (decl : Option ProtoDecl) → protoAt (docs I) (p .document) (p .proto) ≡ decl → Threshold E (st .charges) (λ k. instantiate (J k) (copy (J k) left) env i node p decl st)
+          go none ed = count-fail 6 (p .document) (p .proto) (λ z. omega arith) st (λ k l. six (is (some p) ep k) ed)
+          go (some decl) ed = threshold-bind (values-at f env p (node .fields) 0 (decl .interface) [] st inv in-values)
+              (λ vs s1 g1. threshold-bind (count-openScope (Scope.Body p (env .scope)) s1 (g1 .inv)) (λ m s2 g2. threshold-bind (foldM-at _ (decl .body) s2 (g2 .inv)
+              (λ front y behind q b s3 g3. bodyStatement-at f env i (bodyEnv env p m vs) b y s3 (g3 .inv)
+              (λ j a. told (λ t n d x l w k h. inBody front behind (is (some p) ep k) ed (q ∙ ap (λ (z : Statement). front ++ (z ∷ behind)) a) (step _ (g1 .made k (omega (arith, g2 .more, g3 .more))) (step _ (g2 .made k (omega (arith, g3 .more))) (step _ (g3 .made k (le-trans l h)) refl))) (w k h)) (hf (bodyEnv env p m vs) j s3 (g3 .inv)))
+              (λ x a e k l. fourBody front behind (is (some p) ep k) ed (q ∙ ap (λ (z : Statement). front ++ (z ∷ behind)) a) (step _ (g1 .made k (omega (arith, g2 .more, g3 .more))) (step _ (g2 .made k (omega (arith, g3 .more))) (step _ (g3 .made k l) refl))) e)))
+              (λ b s3 g3. threshold-bind (root-at p (b .root) s3 (g3 .inv) (λ e k l. seven (is (some p) ep k) ed (step _ (g1 .made k (omega (arith, g2 .more, g3 .more))) (step _ (g2 .made k (omega (arith, g3 .more))) (step _ (g3 .made k l) refl))) e))
+              (λ o s4 g4. count-bind count-charge (λ u. count-record (decl .name) (node .defName) m b o) s4 (g4 .inv)))))
+            where
+              in-values : (front : List InterfaceDecl) (a : InterfaceDecl) (behind : List InterfaceDecl) → decl .interface ≡ front ++ (a ∷ behind) → (n : ℕ) → length front + 0 ≡ n → (ws : Values) (s : State) → Got (st .charges) (λ k. values (J k) (f k) env p (node .fields) 0 front [] st) ws s
+                  → Threshold E (s .charges) (λ k. interfaceValue (J k) (f k) env (Scope.Default p n (env .scope)) (a .value) (lastField (a .name) (node .fields)) s)
+              in-values front a behind q n e ws s g = subst (λ (m : ℕ). Threshold E (s .charges) (λ k. interfaceValue (J k) (f k) env (Scope.Default p m (env .scope)) (a .value) (lastField (a .name) (node .fields)) s)) (omega (arith, e))
+                  (interfaceValue-at f env (Scope.Default p (length front) (env .scope)) (a .value) (lastField (a .name) (node .fields)) s (g .inv)
+                  (λ v b ids j y os s2 g2. told (λ t n d x l w k h. inGiven front a behind (is (some p) ep k) ed q b y (step _ (g .made k (omega (arith, g2 .more))) (step _ (g2 .made k (le-trans l h)) refl)) (w k h)) (hf env j s2 (g2 .inv)))
+                  (λ ng v b m s1 g1 ids j y os s2 g2. told (λ t n d x l w k h. inDefault front a behind (is (some p) ep k) ed q ng b y (step _ (g .made k (omega (arith, g1 .more, g2 .more))) (step _ (g1 .made k (omega (arith, g2 .more))) (step _ (g2 .made k (le-trans l h)) refl))) (w k h)) (hf (defaultEnv env p (length front) m) j s2 (g2 .inv))))
+
+    node-at : Threshold E (st .charges) (λ k. copyNode (J k) (copy (J k) left) env i node (protoOfOrigin (J k) (src env) (node .origin)) st)
+    unfolding copyNode
+    node-at = retold (λ k. ap (λ (p : Option Prototype). copyNode (J k) (copy (J k) left) env i node p st) (proto-same k (src env) (node .origin))) (go (protoOfOrigin I (src env) (node .origin)) refl)
+      where
+        go : (p : Option Prototype) → protoOfOrigin I (src env) (node .origin) ≡ p → Threshold E (st .charges) (λ k. copyNode (J k) (copy (J k) left) env i node p st)
+        go none e = plain-at e
+        go (some p) e = instance-at p e
+
+  -- ---- the copier
+
+  module _ (left : ℕ) (env : Env) (i : ℕ) (st : State) (inv : Inv st) (next : ℕ → Node → Comp ℕ) where
+    mapped-at : (lookup (st .world .map) (env .scope) i ≡ none → (node : Node) → nodeAt (docs I) (src env) i ≡ some node → Threshold (Way left env i st) (st .charges) (λ k. next k node st))
+        → (o : Option ℕ) → lookup (st .world .map) (env .scope) i ≡ o → (node : Option Node) → nodeAt (docs I) (src env) i ≡ node → Threshold (Way left env i st) (st .charges) (λ k. mappedOr env i (next k) o node st)
+    unfolding mappedOr
+    mapped-at h (some o) e node q = count-ret o st inv
+    mapped-at h none e none q = count-fail 5 (src env) i (λ z. omega arith) st (λ k l. five e q)
+    mapped-at h none e (some node) q = h e node q
+
+  ways : (left : ℕ) → Ways left
   unfolding copy
-  count-copy zero env i st = count-mapped env i _ (λ node. count-fail 9 0 0 (λ q. omega arith)) (lookup (st .world .map) (env .scope) i) (nodeAt (docs I) (src env) i) st
-  count-copy (suc left) env i st = count-mapped env i (λ k node. copyNode (J k) (copy (J k) left) env i node (protoOfOrigin (J k) (src env) (node .origin))) (λ node. count-node (count-copy left) env i node) (lookup (st .world .map) (env .scope) i) (nodeAt (docs I) (src env) i) st
+  ways zero env i st inv = mapped-at zero env i st inv (λ k node. fail 9 0 0) (λ e node q. count-fail 9 0 0 (λ z. omega arith) st (λ k l. nine e q)) (lookup (st .world .map) (env .scope) i) refl (nodeAt (docs I) (src env) i) refl
+  ways (suc left) env i st inv = mapped-at (suc left) env i st inv (λ k node. copyNode (J k) (copy (J k) left) env i node (protoOfOrigin (J k) (src env) (node .origin))) (λ e node q. node-at left (ways left) env i st inv e node q) (lookup (st .world .map) (env .scope) i) refl (nodeAt (docs I) (src env) i) refl
 
-  count-statements : Counted (λ k. statements (J k))
-  unfolding statements
-  count-statements = count-bind count-charge (λ u. count-bind count-charge (λ v. count-bind (count-openScope Scope.Root) (λ n. count-bind (count-mapM (count-statement (count-copy (I .limits .maxDepth) rootEnv) rootEnv) (I .root .statements)) (λ l. count-ret (somes l)))))
+  -- ---- the top
+
+  top-at : (y : Statement) (st : State) → Inv st → Threshold (λ t c d x. (k : ℕ) → t .charges ≤ k → OpenTop (J k) y st t c d x) (st .charges) (λ k. statement (J k) (copy (J k) (I .limits .maxDepth) rootEnv) rootEnv y st)
+  unfolding statement
+  top-at (Statement.Node i) st inv = threshold-bind (paid-at _ st (told (λ t n d x l w k h. inNode (w k h)) (ways (I .limits .maxDepth) rootEnv i st inv))) (λ o s q. count-ret _ s (q .inv))
+  top-at (Statement.Proto p) st inv = count-ret none st inv
+  top-at (Statement.ExternProto x) st inv = copyExtern-at rootEnv x st inv (λ e k l. fourTop e)
+  top-at (Statement.Route r) st inv = count-route rootEnv r st inv
+  top-at (Statement.Other p) st inv = count-paid (count-ret _) st inv
+
+  abbrev Told : Telling
+  Told = λ t c d x. (k : ℕ) → t .charges ≤ k → Until (J k) (t .charges) c d x
+
+  -- The top statements in front are done, and the next is refused.
+  until-at : (k : ℕ) (front : List Statement) (y : Statement) (behind : List Statement) → I .root .statements ≡ front ++ (y ∷ behind) → (kept : List Statement) (s t : State) → tops (J k) front startState ≡ ok kept s → (c d x : ℕ) → OpenTop (J k) y s t c d x → Until (J k) (t .charges) c d x
+  until-at k front y behind q kept s t e c d x w = record { tops = tops-done (J k) front y behind q kept s e; state = t; way = w; made = refl }
+
+  statements-at : Threshold Told 0 (λ k. statements (J k) startState)
+  unfolding statements tops bindR
+  statements-at = threshold-bind (count-charge startState (omega arith)) (λ u s1 g1. threshold-bind (count-charge s1 (g1 .inv)) (λ v s2 g2. threshold-bind (count-openScope Scope.Root s2 (g2 .inv)) (λ n s3 g3. threshold-bind (mapM-at (I .root .statements) s3 (g3 .inv)
+      (λ front y behind q os s4 g4. told (λ t n d x l w k h. until-at k front y behind q (somes os) s4 t (step _ (g1 .made k (omega (arith, g2 .more, g3 .more, g4 .more))) (step _ (g2 .made k (omega (arith, g3 .more, g4 .more))) (step _ (g3 .made k (omega (arith, g4 .more))) (step _ (g4 .made k (le-trans l h)) refl)))) n d x (w k h)) (top-at y s4 (g4 .inv)))) (λ l s g. count-ret (somes l) s (g .inv)))))
 
   -- ---- the answer
 
@@ -365,23 +473,31 @@ module _ (I : Input) where
       enough = λ k l. ap (answer (J k)) (t .enough k l) ∙ answer-same k (t .end);
       short = λ k l. ap (answer (J k)) (t .short k (omega arith) l);
       exact = exact (t .ends);
-      stops = λ k l c d i q. stopped (J k) c d i (ap (answer (J k)) (t .enough k l) ∙ answer-same k (t .end) ∙ q);
+      stops = until (t .ends);
       counts = λ k l e q w r. sym (exact (t .ends) e q) ∙ counts k (t .end) (t .enough k l) e q w r;
     },
   )
     where
-      t : Threshold 0 (λ k. statements (J k) startState)
-      t = count-statements startState (omega arith)
+      t : Threshold Told 0 (λ k. statements (J k) startState)
+      t = statements-at
 
-      other : {n : ℕ} {r : Result (List Statement)} → Ends n r → (d i : ℕ) → answer I r ≡ Answer.Refused 10 d i → ⊥
-      other (byOther {n = n} h) d i q = h (number n _ _ d i q)
+      until : {n : ℕ} {r : Result (List Statement)} → Ends Told n r → (k : ℕ) → n ≤ k → (c d i : ℕ) → answer I r ≡ Answer.Refused c d i → Until (J k) n c d i
+      until (byOther {n = m} {d = e} {i = j} {s = s} h y) k l c d i q =
+          let hc : m ≡ c = cc in
+          let hd : e ≡ d = cc in
+          let hi : j ≡ i = cc in
+          rw (← hc, ← hd, ← hi) (y k l)
+      until (done h) k l c d i q = absurd (let z : _≡_ {A = ℕ} 0 1 = cc in omega arith)
+
+      other : {n : ℕ} {r : Result (List Statement)} → Ends Told n r → (d i : ℕ) → answer I r ≡ Answer.Refused 10 d i → ⊥
+      other (byOther {n = n} h y) d i q = h (number n _ _ d i q)
         where
           number : (n a b d i : ℕ) → Answer.Refused n a b ≡ Answer.Refused 10 d i → n ≡ 10
           number n a b d i q = cc
       other (done h) d i q = let z : _≡_ {A = ℕ} 0 1 = cc in omega arith
 
-      exact : {n : ℕ} {r : Result (List Statement)} → Ends n r → (e : Expansion) → answer I r ≡ Answer.Expanded e → e .charges ≡ n
-      exact (byOther h) e q = absurd (let z : _≡_ {A = ℕ} 0 1 = cc in omega arith)
+      exact : {n : ℕ} {r : Result (List Statement)} → Ends Told n r → (e : Expansion) → answer I r ≡ Answer.Expanded e → e .charges ≡ n
+      exact (byOther h y) e q = absurd (let z : _≡_ {A = ℕ} 0 1 = cc in omega arith)
       exact (done {a} {s} h) e q = same (expansion I a s) e q
         where
           same : (x e : Expansion) → Answer.Expanded x ≡ Answer.Expanded e → e .charges ≡ x .charges

@@ -19,8 +19,9 @@ use Rattle.expansion_definition.specs.Expand.{statement, rootEnv, statem
 use Rattle.expansion_definition.specs.Counted.{tops}
 use Rattle.expansion_definition.specs.Expanded.{TopsDone, Stopped, atStart, atStatement}
 use Rattle.expansion_definition.proofs.Outcome.{atOk}
-use Rattle.expansion_definition.proofs.Walk.{tops-ran}
+use Rattle.expansion_definition.proofs.Walk.{see, tops-ran}
 use Rattle.expansion_definition.proofs.Counted.{tops-counted, copies-charged}
+use Rattle.expansion_definition.proofs.Parts.{fit, parts-charged}
 
 -- an element of a list is refused, and those in front of it are done
 record Stops {A B : Type 0} (g : A → Comp B) (l : List A) (st : State) (c d i : ℕ) : Type 0 where
@@ -114,6 +115,24 @@ module _ (I : Input) where
       by (yes p) (no n) = one-charge p ∙ ap (λ (r : Result (Unit {0})). bindR r (λ u. openScope I Scope.Root >> rest)) (uncharged (oneMore startState) (omega arith))
       by (yes p) (yes q) = one-charge p ∙ ap (λ (r : Result (Unit {0})). bindR r (λ u. openScope I Scope.Root >> rest)) (charged (oneMore startState) (omega arith)) ∙ ap (λ (r : Result (Unit {0})). bindR (bindR r (λ u. pushScope Scope.Root)) (λ n. rest)) (uncharged (oneMore (oneMore startState)) (omega arith))
 
+  -- Top statements that are done, in front of another.
+  abbrev pub tops-done : (before : List Statement) (next : Statement) (behind : List Statement) → I .root .statements ≡ before ++ (next ∷ behind) → (kept : List Statement) (state : State) → tops I before startState ≡ ok kept state → TopsDone I
+  tops-done before next behind place kept state done = record {
+    before = before;
+    next = next;
+    behind = behind;
+    place = place;
+    kept = kept;
+    state = state;
+    done = done;
+    world = see (atOk (tops-ran I before) done .after) (state .world);
+    run = atOk (tops-ran I before) done .run;
+    fits = fit I (atOk (tops-ran I before) done .fits);
+    charges = λ w r. atOk (tops-counted I before w r) done;
+    copies = copies-charged I;
+    parts = parts-charged I;
+  }
+
   -- Every refusal is at the start or at a top statement.
   pub stopped : (c d i : ℕ) → expand I ≡ Answer.Refused c d i → Stopped I c d i
   unfolding expand answer statements tops bindR
@@ -142,19 +161,7 @@ module _ (I : Input) where
                   let hd : 0 ≡ d = cc in
                   let hi : 0 ≡ i = cc in
                   rw (← hc, ← hd, ← hi) (atStart h)
-      by (yes h) = atStatement (record {
-        before = x .before;
-        next = x .next;
-        behind = x .behind;
-        place = x .place;
-        kept = somes (x .made);
-        state = x .state;
-        done = done;
-        world = atOk (tops-ran I (x .before)) done .0;
-        run = atOk (tops-ran I (x .before)) done .1;
-        charges = λ w r. atOk (tops-counted I (x .before) w r) done;
-        copies = copies-charged I;
-      }) (x .refused)
+      by (yes h) = atStatement (tops-done (x .before) (x .next) (x .behind) (x .place) (somes (x .made)) (x .state) done) (x .refused)
         where
           x : Stops top (I .root .statements) begun c d i
           x = top-stops h

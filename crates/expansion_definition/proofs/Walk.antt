@@ -1,6 +1,6 @@
 -- Every accepted call of the definition is a run of the steps, and every refused one a run up to the place of the refusal.
 use mathlib.Core.Path.{_≡_, refl, ap, sym, _∙_, subst}
-use mathlib.Core.List.{List, [], _∷_, _++_, map, append-assoc, List·Memᴰ, List·Memᴰ·head, List·Memᴰ·tail, List·Memᴰ·cases-cons, List·Memᴰ·not-nil, Memᴰ·cast, Memᴰ·append-right}
+use mathlib.Core.List.{List, [], _∷_, _++_, map, append-assoc, append-nil, List·Memᴰ, List·Memᴰ·head, List·Memᴰ·tail, List·Memᴰ·cases-cons, List·Memᴰ·not-nil, Memᴰ·cast, Memᴰ·append-right}
 use mathlib.Core.Logic.{_⊎_, inl, inr}
 use mathlib.Core.Option.{Option, none, some}
 use mathlib.Core.Bool.{Bool, true, false, _&&_}
@@ -12,8 +12,8 @@ use Rattle.ast.proofs.Basics.{map-append}
 use Rattle.ast.specs.Ast.{NodeOrigin, FieldData, FieldValue, FieldBinding, Field, InterfaceDecl, Route, Statement, Association, ProtoInstance, Node, ProtoDecl, ExternProtoDecl}
 use Rattle.ast.specs.Choice.{choose, andThen}
 use Rattle.ast.specs.Lookups.{nodeAt, externProtoAt}
-use Rattle.pick_table.specs.Picks.{Prototype}
-use Rattle.expansion_steps.specs.Steps.{instanceNode, Action, copyId, addMapped, addPlain, addDefault, addBody, Mapped, Task, one, all, Run, noAction, firstWorld, WholeRun}
+use Rattle.pick_table.specs.Picks.{Prototype, member}
+use Rattle.expansion_steps.specs.Steps.{instanceNode, Action, copyId, addMapped, addPlain, addDefault, addBody, Mapped, count, Task, one, all, Run, noAction, firstWorld, WholeRun}
 use Rattle.expansion_steps.proofs.Depth.{Within, mappedWithin, plainWithin, instanceWithin, noWithin, copyWithin, defaultWithin, within-run, append-within}
 use Rattle.expansion_steps.specs.Places.{Comes, here, inPlain, inValues, inRoot, inOthers, inCopy, afterCopy, inDefault, afterDefault, comes-left, comes-right}
 use Rattle.expansion_steps.specs.Steps
@@ -32,7 +32,8 @@ use Rattle.expansion_definition.specs.Copy.{copyNode, mappedOr, copy}
 use Rattle.expansion_definition.specs.Expand.{statement, rootEnv, statements}
 use Rattle.expansion_definition.specs.Reached.{Known, knownEntry, bodyIds, defaultIds, declOf, interfaceIds, plainNexts, gives, isGiven, nameIfValued, bodyNames, bodyScope, defaultScope, kindBy, nodeKind, defaultAction, valueActions, interfaceActions, instanceActions, actionsBy, actionsOf, nodeInScope, graph}
 use Rattle.expansion_definition.specs.Counted.{tops}
-use Rattle.expansion_definition.specs.Expanded.{knownDocument, PlainAt, InstanceAt, Dangling, BodyDone, beforeRoot, fromRoot, Fault, fourOrigin, fourStatement, fourBody, six, seven, eight, ChargedAt, topCharge, nodeCharge, Refusal, atTop, nowhere, tooDeep, atNode}
+use Rattle.expansion_definition.specs.Until.{idsFirst, plainFirst, givenFirst, defaultEnv, defaultFirst, bodyEnv, BodyPart, bodyFirst, BodyDone, beforeRoot, fromRoot, bodyWorld}
+use Rattle.expansion_definition.specs.Expanded.{knownDocument, PlainAt, InstanceAt, Dangling, Fault, fourOrigin, fourStatement, fourBody, six, seven, eight, ChargedAt, topCharge, nodeCharge, Refusal, atTop, nowhere, tooDeep, atNode}
 use Rattle.expansion_definition.proofs.Outcome.{Outcome, refused, accepted, Any, bindOut, mapOut, thenOut, turnOut, both}
 use Rattle.expansion_definition.proofs.Names.{Shows, known, none-shown, values-shown}
 
@@ -719,17 +720,17 @@ module _ (I : Input) where
   at-length [] x r = refl
   at-length (y ∷ l) x r = at-length l x r
 
-  -- pre: the interfaces before these
-  values-run : {left d : ℕ} {X : ℕ → Type 0} (f : Env → Copier) → Copying left f → (env : Env) (names : List ℕ) → Shows env names → (p : Prototype) (fields : List Field) (decl : ProtoDecl) → declOf I p ≡ some decl → (l pre : List InterfaceDecl) (k : ℕ) (vs : Values) → pre ++ l ≡ decl .interface → length pre ≡ k
+  -- pre, post: the interfaces before and behind these
+  values-run : {left d : ℕ} {X : ℕ → Type 0} (f : Env → Copier) → Copying left f → (env : Env) (names : List ℕ) → Shows env names → (p : Prototype) (fields : List Field) (decl : ProtoDecl) → declOf I p ≡ some decl → (post l pre : List InterfaceDecl) (k : ℕ) (vs : Values) → pre ++ (l ++ post) ≡ decl .interface → length pre ≡ k
       → Runs left d X (all (env .scope) (known env names) (interfaceActions names p fields k l)) (values I f env p fields k l vs)
   unfolding values
-  values-run f hf env names hn p fields decl ep [] pre k vs el ek = no-run (env .scope) (known env names) (keep-ret vs)
-  values-run f hf env names hn p fields decl ep (d ∷ l) pre k vs el ek =
+  values-run f hf env names hn p fields decl ep post [] pre k vs el ek = no-run (env .scope) (known env names) (keep-ret vs)
+  values-run f hf env names hn p fields decl ep post (d ∷ l) pre k vs el ek =
       then-run (env .scope) (known env names) (interfaceValue-run f hf env names hn p k (d .value) ids (lastField (d .name) fields))
-      (λ v. keep-then (store-keep (d .name) vs v) (λ vs′. values-run f hf env names hn p fields decl ep l (pre ++ (d ∷ [])) (suc k) vs′ (append-assoc pre (d ∷ []) l ∙ el) (omega (arith, length-append pre (d ∷ [])))))
+      (λ v. keep-then (store-keep (d .name) vs v) (λ vs′. values-run f hf env names hn p fields decl ep post l (pre ++ (d ∷ [])) (suc k) vs′ (append-assoc pre (d ∷ []) (l ++ post) ∙ el) (omega (arith, length-append pre (d ∷ [])))))
     where
       this : getElem? (decl .interface) k ≡ some d
-      this = rw (← el, ← ek) (at-length pre d l)
+      this = rw (← el, ← ek) (at-length pre d (l ++ post))
 
       ids : defaultIds k (declOf I p) ≡ optionIds (d .value)
       ids = ap (defaultIds k) ep ∙ ap (λ (x : Option InterfaceDecl). optionIds (andThen x (λ y. y .value))) this
@@ -920,7 +921,7 @@ module _ (I : Input) where
   unfolding instantiate rootOf bindR
   instantiate-run left f hf d X env names hn i node p h g st ft un none ep = refused (fault here un (omega arith) (six p (record { node = node; there = h .there; instance = h .proto }) ep))
   instantiate-run left f hf d X env names hn i node p h g st ft un (some decl) ep =
-      thenOut (both _ (values-run {d = d} {X = X} f hf env names hn p (node .fields) decl ep (decl .interface) [] 0 [] refl refl g st ft) (values-shown I f env names hn p (node .fields) (decl .interface) st))
+      thenOut (both _ (values-run {d = d} {X = X} f hf env names hn p (node .fields) decl ep [] (decl .interface) [] 0 [] (append-nil (decl .interface)) refl g st ft) (values-shown I f env names hn p (node .fields) (decl .interface) st))
       (deeper {t = all (env .scope) (known env names) (interfaceActions names p (node .fields) 0 (decl .interface))} {w = see g (st .world)} (λ k m s j v y. inValues (bodyScope p ns) un kind (rw acts y)) charged)
       (λ vs s1 x. thenOut (openScope-world (b .entry) s1) charged
       (λ n s2 q. thenOut (body-first left f hf env i (inner n vs) ns (x .1) (record { root = none; extraRoots = []; routes = [] }) refl (decl .body) (begun s1 (x .0)) s2 (opener-fits (opened-fits b (x .0 .after) s1 n s2 (x .0 .fits) q)))
@@ -1062,6 +1063,131 @@ module _ (I : Input) where
   copy-run zero d X env names hn i g st ft = mappedOr-run zero d X env names i _ g st ft (λ node en un. refused (deep here un node en)) _ refl _ refl
   copy-run (suc left) d X env names hn i g st ft = mappedOr-run (suc left) d X env names i _ g st ft (λ node en un. copyNode-run left (copy I left) (copy-run left) d X env names hn i node en g st ft un _ refl) _ refl _ refl
 
+  -- ---- the first parts of a node that come to their end are runs
+
+  pub record PartRan (t : Task Known) (w : Steps.World Known) (st : State) : Type 0 where
+    pub after : Unseen
+    pub fits : Fits after st
+    pub run : Run (graph I) t w (see after (st .world))
+
+  pub record DefaultRan (t : Task Known) (b : Known) (ids : List ℕ) (w : Steps.World Known) (st : State) : Type 0 where
+    pub before : Steps.World Known
+    pub values′ : Run (graph I) t w before
+    pub inside : PartRan (all (count before) b (map copyId ids)) (addDefault b before) st
+
+  pub record BodyPartRan (n i : ℕ) (b : Known) (t : Task Known) (l : List ℕ) (w : Steps.World Known) (st : State) : Type 0 where
+    pub before : Steps.World Known
+    pub values′ : Run (graph I) t w before
+    pub bodyDone : BodyDone I n i b before l
+    pub after : Unseen
+    pub fits : Fits after st
+    pub world : see after (st .world) ≡ bodyWorld bodyDone
+
+  module _ (left : ℕ) (env : Env) (names : List ℕ) (hn : Shows env names) where
+    abbrev e : Known
+    e = known env names
+
+    hc : (i : ℕ) → Runs left (src env) (λ x. Unit {0}) (one (env .scope) e i) (copy I left env i)
+    hc i = copy-run left (src env) (λ x. Unit {0}) env names hn i
+
+    pub plain-ran : (i : ℕ) (node : Node) (fs : List Field) (is : List InterfaceDecl) (ss : List Statement) (ids : List ℕ) (g : Unseen) (st : State) → Fits g st
+        → Outcome Any (λ x st′. PartRan (all (env .scope) e (map copyId (flat (λ f. bindingIds (f .binding)) fs ++ (flat (λ d. interfaceIds (d .is) (d .value)) is ++ ids)))) (addPlain (env .scope) i (see g (st .world))) st′) (plainFirst I (copy I left env) env i node fs is ss ids st)
+    unfolding plainFirst idsFirst
+    plain-ran i node fs is ss ids g st ft = bindOut (reserve-world {R = Any} env i g st ft (λ q. tt) (λ c f x r. tt)) (λ new s1 e1. turnOut (keep-then (copyOrigin-keep env refl (node .origin) (λ x q. tt)) (λ og. then-copies (env .scope) e (flat (λ f. bindingIds (f .binding)) fs) (flat (λ d. interfaceIds (d .is) (d .value)) is ++ ids) (mapM-run (env .scope) e _ _ fs (λ f m. copyField-run (env .scope) e (copy I left env) hc env new f)) (λ fs′. then-copies (env .scope) e (flat (λ d. interfaceIds (d .is) (d .value)) is) ids (mapM-run (env .scope) e _ _ is (λ d m. copyInterface-run (env .scope) e (copy I left env) hc env new d)) (λ is′. keep-then (mapM-keep (copyStatement I env) ss (λ s m. copyStatement-keep env refl s (λ x q. tt))) (λ ss′. then-keep (ids-run (env .scope) e (copy I left env) hc ids) (λ os. keep-ret _))))) g s1 (e1 .fits)) (λ c f x r. tt)
+        (λ x s2 r. record { after = r .after; fits = r .fits; run = subst (λ (w : Steps.World Known). Run (graph I) (all (env .scope) e (map copyId (flat (λ f. bindingIds (f .binding)) fs ++ (flat (λ d. interfaceIds (d .is) (d .value)) is ++ ids)))) w (see (r .after) (s2 .world))) (e1 .seen) (within-run (r .run)) }))
+
+    module _ (p : Prototype) (decl : ProtoDecl) (ep : declOf I p ≡ some decl) (fields : List Field) (is behind : List InterfaceDecl) (eq : decl .interface ≡ is ++ behind) where
+      values-ran : Runs left (src env) (λ x. Unit {0}) (all (env .scope) e (interfaceActions names p fields 0 is)) (values I (copy I left) env p fields 0 is [])
+      values-ran = values-run (copy I left) (copy-run left) env names hn p fields decl ep behind is [] 0 [] (sym eq) refl
+
+      pub given-ran : (ids : List ℕ) (g : Unseen) (st : State) → Fits g st → Outcome Any (λ vs st′. PartRan (all (env .scope) e (interfaceActions names p fields 0 is ++ map copyId ids)) (see g (st .world)) st′) (givenFirst I (copy I left) env p fields is ids st)
+      unfolding givenFirst idsFirst
+      given-ran ids g st ft = turnOut (then-run (env .scope) e values-ran (λ vs. then-keep (ids-run (env .scope) e (copy I left env) hc ids) (λ os. keep-ret vs)) g st ft) (λ c f x r. tt) (λ vs s r. record { after = r .after; fits = r .fits; run = within-run (r .run) })
+
+      pub default-ran : (ids : List ℕ) (g : Unseen) (st : State) → Fits g st → Outcome Any (λ x st′. DefaultRan (all (env .scope) e (interfaceActions names p fields 0 is)) (defaultScope p (length is) (env .scope)) ids (see g (st .world)) st′) (defaultFirst I (copy I left) env p fields is ids st)
+      unfolding defaultFirst idsFirst
+      default-ran ids g st ft = thenOut (values-ran g st ft) (λ c f x r. tt) (λ vs s1 r. thenOut (openScope-world {d = 0} {X = λ x. ⊥} (b .entry) s1) (λ c f x y. tt)
+          (λ m s2 q. thenOut (ids-run {d = 0} {X = λ x. ⊥} m b (copy I left (defaultEnv env p (length is) m)) (copy-run left 0 (λ x. ⊥) (defaultEnv env p (length is) m) [] none-shown) ids (withScope b (r .after)) s2 (opened-fits b (r .after) s1 m s2 (r .fits) q)) (λ c f x y. tt)
+          (λ os s3 z. accepted (record { before = see (r .after) (s1 .world); values′ = within-run (r .run); inside = record { after = z .after; fits = z .fits; run = subst (λ (k : ℕ). Run (graph I) (all k b (map copyId ids)) (addDefault b (see (r .after) (s1 .world))) (see (z .after) (s3 .world))) (q .number ∙ count-is (r .after) s1 (r .fits)) (subst (λ (w : Bookkeeping). Run (graph I) (all m b (map copyId ids)) (see (withScope b (r .after)) w) (see (z .after) (s3 .world))) (q .after) (within-run (z .run))) } }))))
+        where
+          b : Known
+          b = defaultScope p (length is) (env .scope)
+
+    -- A body without a Node keeps the world.
+    body-still : (i : ℕ) (inner : Env) (l : List Statement) (b : Body) → flat statementIds l ≡ [] → (st : State) → Outcome Any (λ c st′. Same st st′) (foldM (bodyStatement I (copy I left) env i inner) b l st)
+    unfolding foldM bodyStatement
+    body-still i inner [] b q st = accepted (itself st)
+    body-still i inner (Statement.Node j ∷ l) b q st = absurd (let z : _≡_ {A = ℕ} 0 1 = cc in omega arith)
+    body-still i inner (Statement.Proto p ∷ l) b q st = thenOut (keep-ret {d = 0} {X = λ x. ⊥} b st) (λ c f x r. tt) (λ c s1 h. mapOut (body-still i inner l c q s1) (λ c′ s2 k. same-then h k))
+    body-still i inner (Statement.ExternProto x ∷ l) b q st = thenOut (keep-bind {d = src inner} {X = λ x. Unit {0}} (externProto-keep inner refl x tt) (λ n. keep-ret b) st) (λ c f x r. tt) (λ c s1 h. mapOut (body-still i inner l c q s1) (λ c′ s2 k. same-then h k))
+    body-still i inner (Statement.Route r ∷ l) b q st = thenOut (paid-keep {d = 0} {X = λ x. ⊥} (keep-ret _) st) (λ c f x r. tt) (λ c s1 h. mapOut (body-still i inner l c q s1) (λ c′ s2 k. same-then h k))
+    body-still i inner (Statement.Other p ∷ l) b q st = thenOut (keep-ret {d = 0} {X = λ x. ⊥} b st) (λ c f x r. tt) (λ c s1 h. mapOut (body-still i inner l c q s1) (λ c′ s2 k. same-then h k))
+
+    -- The values, the scope, and the first statements of the body.
+    pub body-ran : (i : ℕ) (node : Node) (p : Prototype) (decl : ProtoDecl) → declOf I p ≡ some decl → (ss : List Statement) (g : Unseen) (st : State) → Fits g st
+        → Outcome Any (λ x st′. Shows (bodyEnv env p (x .number) (x .values)) (flat (nameIfValued names (node .fields)) (decl .interface)) × BodyPartRan (env .scope) i (bodyScope p (flat (nameIfValued names (node .fields)) (decl .interface)) (env .scope)) (all (env .scope) e (interfaceActions names p (node .fields) 0 (decl .interface))) (flat statementIds ss) (see g (st .world)) st′) (bodyFirst I (copy I left) env i node p decl ss st)
+    unfolding bodyFirst
+    body-ran i node p decl ep ss g st ft = thenOut (both _ (values-ran p decl ep (node .fields) (decl .interface) [] (sym (append-nil (decl .interface))) g st ft) (values-shown I (copy I left) env names hn p (node .fields) (decl .interface) st)) (λ c f x r. tt)
+        (λ vs s1 x. thenOut (openScope-world {d = 0} {X = λ x. ⊥} (b .entry) s1) (λ c f y r. tt) (λ m s2 q. bindOut (within vs (x .1) s1 (x .0) m s2 q (flat statementIds ss) refl) (λ y s3 z. accepted (x .1, z))))
+      where
+        ns : List ℕ
+        ns = flat (nameIfValued names (node .fields)) (decl .interface)
+
+        b : Known
+        b = bodyScope p ns (env .scope)
+
+        Task′ : Task Known
+        Task′ = all (env .scope) e (interfaceActions names p (node .fields) 0 (decl .interface))
+
+        within : (vs : Values) → ((t : ℕ) → member t ns ≡ isGiven (valueNamed t vs)) → (s1 : State) (rv : Ran left Task′ g st s1) (m : ℕ) (s2 : State) → Opens (b .entry) s1 m s2 → (l : List ℕ) → flat statementIds ss ≡ l
+            → Outcome Any (λ y s3. BodyPartRan (env .scope) i b Task′ l (see g (st .world)) s3) (foldM (bodyStatement I (copy I left) env i (bodyEnv env p m vs)) (record { root = none; extraRoots = []; routes = [] }) ss s2)
+        within vs hv s1 rv m s2 q l el = go l el
+          where
+            begun : Unseen
+            begun = withOpener (env .scope) i (withScope b (rv .after))
+
+            ft2 : Fits begun s2
+            ft2 = let k : Fits (withScope b (rv .after)) s2 = opened-fits b (rv .after) s1 m s2 (rv .fits) q in record { entries = k .entries; listed = k .listed; room = k .room; valid = k .valid }
+
+            v : Steps.World Known
+            v = see (rv .after) (s1 .world)
+
+            opened′ : see begun (s2 .world) ≡ addBody (env .scope) i b v
+            opened′ = ap (λ (w : Bookkeeping). see begun w) (q .after)
+
+            number : m ≡ count v
+            number = q .number ∙ count-is (rv .after) s1 (rv .fits)
+
+            go : (l : List ℕ) → flat statementIds ss ≡ l → Outcome Any (λ y s3. BodyPartRan (env .scope) i b Task′ l (see g (st .world)) s3) (foldM (bodyStatement I (copy I left) env i (bodyEnv env p m vs)) (record { root = none; extraRoots = []; routes = [] }) ss s2)
+            go [] el = mapOut (body-still i (bodyEnv env p m vs) ss _ el s2) (λ y s3 h. record { before = v; values′ = within-run (rv .run); bodyDone = beforeRoot; after = begun; fits = fits-from begun h ft2; world = ap (λ (w : Bookkeeping). see begun w) (h .world) ∙ opened′ })
+            go (r ∷ rs) el = turnOut (body-first left (copy I left) (copy-run left) env i (bodyEnv env p m vs) ns hv (record { root = none; extraRoots = []; routes = [] }) refl ss begun s2 ft2) (λ c f x y. tt) (λ y s3 h. done y s3 h)
+              where
+                done : (y : Body) (s3 : State) → BodyRan left (copy I left) (copy-run left) env i (bodyEnv env p m vs) ns hv (flat statementIds ss) (AllFine (p .document) ss) begun s2 y s3 → BodyPartRan (env .scope) i b Task′ (r ∷ rs) (see g (st .world)) s3
+                done y s3 (rootless h z k) = absurd (no-ids (sym z ∙ el))
+                  where
+                    no-ids : _≡_ {A = List ℕ} [] (r ∷ rs) → ⊥
+                    no-ids z = let y : _≡_ {A = ℕ} 0 1 = cc in omega arith
+                done y s3 (rooted o h k x) = record {
+                  before = v;
+                  values′ = within-run (rv .run);
+                  bodyDone = fromRoot r rs (see (x .between) (x .mid)) (see (x .after) (s3 .world)) first others;
+                  after = x .after;
+                  fits = x .fits;
+                  world = refl;
+                }
+                  where
+                    same-first : x .r ≡ r
+                    same-first = let z : x .r ∷ x .rs ≡ r ∷ rs = sym (x .ids) ∙ el in cc
+
+                    same-rest : x .rs ≡ rs
+                    same-rest = let z : x .r ∷ x .rs ≡ r ∷ rs = sym (x .ids) ∙ el in cc
+
+                    first : Run (graph I) (one (count v) b r) (addBody (env .scope) i b v) (see (x .between) (x .mid))
+                    first = rw (← same-first, ← number, ← opened′) (within-run (x .first))
+
+                    others : Run (graph I) (all (count v) b (map copyId rs)) (addMapped (env .scope) i (see (x .between) (x .mid))) (see (x .after) (s3 .world))
+                    others = rw (← same-rest, ← number) (within-run (x .others))
+
   -- ---- the whole
 
   -- An accepted expansion is a whole run of the steps, and the state has the entries of its scopes; nothing is mapped before.
@@ -1102,12 +1228,12 @@ module _ (I : Input) where
   fits n s2 s3 e q = opened-fits rootKnown (record { openers = []; scopes = [] }) s2 n s3 (fits-from _ e none-yet) q
 
   -- Top statements that are done are a run.
-  pub tops-ran : (l : List Statement) → Outcome Any (λ k st. (w : Steps.World Known) × Run (graph I) (all 0 (graph I .root) (map copyId (flat statementIds l))) (firstWorld (graph I .root)) w) (tops I l startState)
+  pub tops-ran : (l : List Statement) → Outcome Any (λ k st. PartRan (all 0 (graph I .root) (map copyId (flat statementIds l))) (firstWorld (graph I .root)) st) (tops I l startState)
   unfolding tops
   tops-ran l =
       thenOut (charge-keep {d = 0} {X = λ x. ⊥} startState) (λ c d x r. tt) (λ a s1 e1. thenOut (charge-keep {d = 0} {X = λ x. ⊥} s1) (λ c d x r. tt) (λ b s2 e2. thenOut (openScope-world {d = 0} {X = λ x. ⊥} Scope.Root s2) (λ c d x r. tt)
       (λ n s3 q. thenOut (tops-run (I .limits .maxDepth) 0 0 rootKnown (copy I (I .limits .maxDepth) rootEnv) (λ X. copy-run (I .limits .maxDepth) 0 X rootEnv [] none-shown) rootEnv refl l rootUnseen s3 (fits n s2 s3 (same-then e1 e2) q)) (λ c d x r. tt)
-      (λ k s4 r. accepted (see (r .0 .after) (s4 .world), subst (λ (w : Bookkeeping). Run (graph I) (all 0 rootKnown (map copyId (flat statementIds l))) (see rootUnseen w) (see (r .0 .after) (s4 .world))) (root-open s2 s3 ((same-then e1 e2) .world) (q .after)) (within-run (r .0 .run)))))))
+      (λ k s4 r. accepted (record { after = r .0 .after; fits = r .0 .fits; run = subst (λ (w : Bookkeeping). Run (graph I) (all 0 rootKnown (map copyId (flat statementIds l))) (see rootUnseen w) (see (r .0 .after) (s4 .world))) (root-open s2 s3 ((same-then e1 e2) .world) (q .after)) (within-run (r .0 .run)) })))))
 
   -- A refused one stops on the way: a row too many, of the rootKnown or of a node, or what `Refusal` says.
   pub data Halt : ℕ → ℕ → ℕ → Type 0 where

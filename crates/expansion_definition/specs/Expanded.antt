@@ -25,6 +25,7 @@ use Rattle.expansion_definition.specs.Expand.{statement, rootEnv, Ledger
 use Rattle.expansion_definition.specs.Reached.{Known, knownEntry, declOf, gives, isGiven, nodeInScope, graph}
 use Rattle.expansion_definition.specs.Outputs.{outputIds, rowCount}
 use Rattle.expansion_definition.specs.Counted.{counted, tops, CopiesCharged}
+use Rattle.expansion_definition.specs.Until.{Fit, BodyDone, PartsCharged, OpenTop}
 
 -- "A PROTO is left in an output by a kind 7 row or a Proto statement, an instance by a node of origin Proto ..": none is.
 pub record NoProto (d : Document) : Type 0 where
@@ -156,11 +157,6 @@ pub record Dangling (I : Input) (d : ℕ) (l : List Statement) (x : ℕ) : Type 
   pub there : ExternsThere I d before
   pub missing : externProtoAt (docs I) d x ≡ none
 
--- Of the body of instance i of scope number n these Nodes are done, its scope b opened in the world v: the first is the root, then the instance is mapped, then come the others.
-pub data BodyDone (I : Input) (n i : ℕ) (b : Known) (v : World Known) : List ℕ → Type 0 where
-  beforeRoot : BodyDone I n i b v []
-  fromRoot : (r : ℕ) (rs : List ℕ) (v1 v2 : World Known) → Run (graph I) (one (count v) b r) (addBody n i b v) v1 → Run (graph I) (all (count v) b (map copyId rs)) (addMapped n i v1) v2 → BodyDone I n i b v (r ∷ rs)
-
 -- What is wrong at node id i of scope number n, of which s is known, in the world w: the refusal's number, and its two places. What stands before it in the order of the steps is done.
 pub data Fault (I : Input) (n : ℕ) (s : Known) (i : ℕ) (w : World Known) : ℕ → ℕ → ℕ → Type 0 where
   -- "4 dangling EXTERNPROTO id": of a plain node, for which there is room, its origin,
@@ -190,10 +186,12 @@ pub record TopsDone (I : Input) : Type 0 where
   pub done : tops I before startState ≡ ok kept state
   pub world : World Known
   pub run : Run (graph I) (all 0 (graph I .root) (map copyId (flat statementIds before))) (firstWorld (graph I .root)) world
+  pub fits : Fit I world state
   -- The charges made until then are the items of document 01's list, counted from what is there then and a run of those Nodes, whichever it is.
   pub charges : (w : World Known) (r : Run (graph I) (all 0 (graph I .root) (map copyId (flat statementIds before))) (firstWorld (graph I .root)) w) → state .charges ≡ counted I (expansion I kept state) r
-  -- And so it is with each copy that comes to its end, there or in `next`.
+  -- And so it is with each copy that comes to its end, there or in `next`; and with the first parts of one that doesn't.
   pub copies : CopiesCharged I
+  pub parts : PartsCharged I
 
 -- Where an expansion is refused, with which number and places, and what is charged until then; accepted or not with a larger limit on rows.
 pub data Stopped (I : Input) : ℕ → ℕ → ℕ → Type 0 where
@@ -206,7 +204,14 @@ pub data Stopped (I : Input) : ℕ → ℕ → ℕ → Type 0 where
 abbrev pub withRows : ℕ → Input → Input
 withRows k I = record { root = I .root; library = I .library; limits = record { maxNodes = I .limits .maxNodes; maxDepth = I .limits .maxDepth; maxRows = k } }
 
--- How many rows an input needs: with so many or more the steps come to an end that is no 10, the same for each such limit; with fewer it is 10. An expansion's charges are just the rows needed, and these are the items of document 01's list. Where the end is another refusal, those made until the top statement that is refused are.
+-- A refusal that is no 10, and the charges made until then: those of the top statements that are done, then those of the first parts of the nodes that are open, one in the other.
+pub record Until (I : Input) (charges c d i : ℕ) : Type 0 where
+  pub tops : TopsDone I
+  pub state : State
+  pub way : OpenTop I (tops .next) (tops .state) state c d i
+  pub made : state .charges ≡ charges
+
+-- How many rows an input needs: with so many or more the steps come to an end that is no 10, the same for each such limit; with fewer it is 10. They are just the charges made until that end, be it an expansion or a refusal, and these are the items of document 01's list.
 pub record Needs (I : Input) (need : ℕ) : Type 0 where
   pub end : Answer
   pub other : (d i : ℕ) → end ≡ Answer.Refused 10 d i → ⊥
@@ -214,7 +219,7 @@ pub record Needs (I : Input) (need : ℕ) : Type 0 where
   pub short : (k : ℕ) → k < need → expand (withRows k I) ≡ Answer.Refused 10 0 0
   pub exact : (e : Expansion) → end ≡ Answer.Expanded e → e .charges ≡ need
   pub counts : (k : ℕ) → need ≤ k → (e : Expansion) → end ≡ Answer.Expanded e → (w : World Known) (r : WholeRun (graph (withRows k I)) w) → need ≡ counted (withRows k I) e r
-  pub stops : (k : ℕ) → need ≤ k → (c d i : ℕ) → end ≡ Answer.Refused c d i → Stopped (withRows k I) c d i
+  pub stops : (k : ℕ) → need ≤ k → (c d i : ℕ) → end ≡ Answer.Refused c d i → Until (withRows k I) need c d i
 
 -- Whose charge is refused: one of the top's (document, top, scope 0, a top statement), or one of a node that the steps come to while fewer than D are open.
 pub data ChargedAt (I : Input) : Type 0 where

@@ -4,16 +4,20 @@ use mathlib.Core.Bool.{false}
 use mathlib.Core.List.{List, [], _∷_, map, List·Memᴰ, List·Memᴰ·not-nil, List·Memᴰ·cases-cons}
 use mathlib.Core.Logic.{_⊎_, inl, inr}
 use mathlib.Core.Option.{Option, none, some}
-use Prim.Native.Nat.{ℕ}
+use Prim.Native.Nat.{ℕ, _+_}
 use native.Mathlib.Omega.{arith}
 use Rattle.ast.specs.Ast.{NodeOrigin, BodyElement, Field, InterfaceDecl, Statement, Node}
 use Rattle.expansion_steps.specs.Steps.{plainStep, instanceStep, noAction, thenCopy, World, WholeRun}
 use Rattle.expansion_definition.specs.Input.{Input}
+use Rattle.expansion_definition.specs.Scopes.{Scope}
+use Rattle.expansion_definition.specs.State.{State}
+use Rattle.expansion_definition.specs.PlainCopy.{blankNode}
 use Rattle.expansion_definition.specs.Expand.{expand}
 use Rattle.expansion_definition.specs.Outputs.{sumOf}
 use Rattle.expansion_definition.specs.Reached.{Known, bodyScope, graph}
-use Rattle.expansion_definition.specs.Counted.{ofOutput, ofScope, ofRun, counted}
-use Rattle.expansion_definition.specs.Scenes.{ids, numberValue, fieldWith, fieldIs, interface, interfaceIs, route, node, leaf, plain, instanceOfProto, proto, document, usual, scene, seen, computed}
+use Rattle.expansion_definition.specs.Counted.{ofOutput, ofScope, ofRun, counted, held}
+use Rattle.expansion_definition.specs.Until.{idsFirst, plainFirst, inField, five, inPlain, OpenTop, inNode}
+use Rattle.expansion_definition.specs.Scenes.{ids, numberValue, fieldWith, fieldIs, interface, interfaceIs, route, node, leaf, plain, instanceOfProto, proto, document, limits, usual, scene, counts, seen, computed}
 
 -- the charges; of them those that the output and the scope list show. The rest are the run's.
 abbrev apart : Input → Option (List ℕ)
@@ -131,3 +135,36 @@ its-run = thenCopy (instanceStep body 3 [] List·Memᴰ·not-nil refl refl refl 
 cloned-counted : (ofRun cloned [] its-run ≡ 4) × (seen (λ e. counted cloned e its-run) (expand cloned) ≡ some 19)
 unfolding computed ofRun its-run
 cloned-counted = (refl, refl)
+
+-- ---- refused: node 0 has a field with a payload, then one with the ids 1 and 9, where 9 leads nowhere
+
+abbrev lost : ℕ → Input
+lost k = scene (limits 400 64 k) (plain (fieldWith 1 (numberValue 9) ∷ fieldWith 2 (ids (1 ∷ 9 ∷ [])) ∷ []) [] [] [] ∷ leaf ∷ []) [] (Statement.Node 0 ∷ [])
+
+-- Nine charges are made until then.
+lost-needs : map (λ k. counts (expand (lost k))) (8 ∷ 9 ∷ 400 ∷ []) ≡ ((10 ∷ 0 ∷ 0 ∷ []) ∷ (5 ∷ 0 ∷ 9 ∷ []) ∷ (5 ∷ 0 ∷ 9 ∷ []) ∷ [])
+unfolding computed
+lost-needs = refl
+
+-- where the top statement begins, and where 9 is come to
+abbrev begun : State
+begun = record { world = record { map = []; ledger = []; scopes = Scope.Root ∷ [] }; nodes = []; externProtos = []; externMap = []; isMap = []; charges = 3 }
+
+abbrev atNine : State
+atNine = record {
+  world = record { map = record { scope = 0; id = 1; out = 1 } ∷ record { scope = 0; id = 0; out = 0 } ∷ []; ledger = (0, 0) ∷ (0, 1) ∷ []; scopes = Scope.Root ∷ [] };
+  nodes = blankNode ∷ leaf ∷ [];
+  externProtos = [];
+  externMap = [];
+  isMap = [];
+  charges = 9;
+}
+
+-- The way: node 0, whose first field and id 1 are done.
+lost-way : OpenTop (lost 400) (Statement.Node 0) begun atNine 5 0 9
+unfolding computed plainFirst idsFirst
+lost-way = inNode (inPlain {fs = fieldWith 1 (numberValue 9) ∷ []} {is = []} {ids = 1 ∷ []} (record { unmapped = refl; there = refl; kind = refl }) (inField (fieldWith 2 (ids (1 ∷ 9 ∷ []))) [] refl refl (record { behind = []; place = refl })) refl (five refl refl))
+
+-- Nine: three at the start; four that the state holds, two of node 0 and two of node 1; node 0's first field, and the id 1.
+lost-items : (held (lost 400) begun ≡ 1) × (held (lost 400) atNine ≡ 1 + 4) × (atNine .charges ≡ begun .charges + 4 + 2)
+lost-items = (refl, refl, refl)

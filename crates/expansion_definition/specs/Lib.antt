@@ -16,6 +16,7 @@ pub mod Readings
 pub mod Reached
 pub mod Outputs
 pub mod Counted
+pub mod Until
 pub mod Itemised
 pub mod Expanded
 pub mod Limits
