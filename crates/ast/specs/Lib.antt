@@ -4,3 +4,4 @@ pub mod Each
 pub mod Expanded
 pub mod Lists
 pub mod Lookups
+pub mod Ids

@@ -11,7 +11,7 @@ use Rattle.expansion_steps.proofs.Laws.{copies-map}
 use Rattle.expansion_definition.specs.Input.{Input, protoOfOrigin, lastField}
 use Rattle.expansion_definition.specs.Scopes.{scopeDocument}
 use Rattle.ast.specs.Lists.{flat}
-use Rattle.expansion_definition.specs.Ids.{dataIds}
+use Rattle.ast.specs.Ids.{dataIds}
 use Rattle.expansion_definition.specs.Reached.{Known, declOf, plainNexts, givenIds, instanceNexts, nextsBy, nextsOf, gives, defaultAction, valueActions, interfaceActions, instanceActions, actionsBy, actionsOf, nodeInScope, graph}
 
 copies-append : (l k : List (Action Known)) → copies (l ++ k) ≡ copies l ++ copies k

@@ -17,7 +17,7 @@ use Rattle.expansion_steps.specs.Steps.{Kind, plainNode, instanceNode, Action, 
 use Rattle.expansion_steps.specs.Steps
 use Rattle.expansion_definition.specs.Input.{Input, docs, usedUrl, protoOfOrigin, lastField}
 use Rattle.expansion_definition.specs.Scopes.{Scope}
-use Rattle.expansion_definition.specs.Ids.{dataIds, optionIds, bindingIds, statementIds}
+use Rattle.ast.specs.Ids.{dataIds, optionIds, bindingIds, statementIds}
 use Rattle.expansion_definition.specs.State.{Bookkeeping, State, Result, refusal, ok, Comp, bindR, _>>=_, _>>_, ret, mapM, foldM, lookup, startState, withWorld, withNodes}
 use Rattle.expansion_definition.specs.Charges.{oneMore, chargeIf, charge, chargeEach, paid}
 use Rattle.expansion_definition.specs.Values.{Values, valueNamed, Env, src, Copier, copyData, value, clone}

@@ -27,7 +27,7 @@ use Rattle.expansion_steps.proofs.Exact.{exact}
 use Rattle.expansion_steps.proofs.Defaults.{default-asked, asked-open}
 use Rattle.expansion_definition.specs.Input.{Input, docs}
 use Rattle.expansion_definition.specs.Scopes.{Scope, scopeDocument, isBody}
-use Rattle.expansion_definition.specs.Ids.{statementIds}
+use Rattle.ast.specs.Ids.{statementIds}
 use Rattle.expansion_definition.specs.State.{Bookkeeping, State, Result, refusal, ok, startState}
 use Rattle.expansion_definition.specs.Expand.{statements, LedgerEntry, ledgerEntry, Expansion, Answer, expansion, answer, expand}
 use Rattle.expansion_definition.specs.Reached.{Known, knownEntry, bodyIds, declOf, bodyNames, bodyScope, kindBy, nodeKind, defaultScope, graph}

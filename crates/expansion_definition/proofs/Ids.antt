@@ -6,7 +6,7 @@ use mathlib.Core.Option.{Option, none, some}
 use Prim.Native.Nat.{ℕ, _<_}
 use Rattle.ast.specs.Ast.{InterfaceDecl, Route, Statement, Association, ProtoInstance, Node, ExternProtoDecl, Document}
 use Rattle.ast.specs.Lists.{flat}
-use Rattle.expansion_definition.specs.Ids.{bindingIds}
+use Rattle.ast.specs.Ids.{bindingIds}
 use Rattle.expansion_definition.specs.Outputs.{endIds, routeIds, idsOfStatement, idsOfInstance, idsOfInterface, idsOfNode, outputIds}
 use Rattle.expansion_definition.proofs.OutputState.{IdsBelow, EndBelow, RouteBelow, InstanceBelow, TopStatement, NodeStatement, OutputNode}
 

@@ -17,7 +17,7 @@ use Rattle.pick_table.specs.Picks.{Prototype}
 use Rattle.expansion_steps.specs.Steps.{World, WholeRun}
 use Rattle.expansion_definition.specs.Input.{Input, docs, protoOfOrigin, lastField}
 use Rattle.expansion_definition.specs.Scopes.{Scope}
-use Rattle.expansion_definition.specs.Ids.{dataIds}
+use Rattle.ast.specs.Ids.{dataIds}
 use Rattle.expansion_definition.specs.State.{State, Result, refusal, ok, Comp, bindR, _>>=_, _>>_, ret, fail, mapM, foldM, withWorld, lookup, startState}
 use Rattle.expansion_definition.specs.Charges.{oneMore, chargeIf, charge, chargeEach, paid}
 use Rattle.expansion_definition.specs.Values.{Values, valueNamed, Env, src, Copier, copyData, value, clone}

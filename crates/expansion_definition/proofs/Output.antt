@@ -16,7 +16,7 @@ use Rattle.ast.specs.Lookups.{protoAt, externProtoAt}
 use Rattle.pick_table.specs.Picks.{Prototype, prototypeIn}
 use Rattle.expansion_definition.specs.Input.{Input, docs, usedUrl, protoOfOrigin, lastField}
 use Rattle.expansion_definition.specs.Scopes.{Scope}
-use Rattle.expansion_definition.specs.Ids.{dataIds, bindingIds}
+use Rattle.ast.specs.Ids.{dataIds, bindingIds}
 use Rattle.expansion_definition.specs.State.{State, ok, Comp, _>>=_, ret, mapM, foldM, withNodes, lookup, startState}
 use Rattle.expansion_definition.specs.Charges.{chargeIf, charge, chargeEach, paid}
 use Rattle.expansion_definition.specs.Values.{Values, valueNamed, Env, src, Copier, copyData, value, clone}

@@ -13,7 +13,7 @@ use Rattle.ast.specs.Ast.{Field, InterfaceDecl, Route, Statement, Association, 
 use Rattle.ast.specs.Choice.{choose}
 use Rattle.ast.specs.Expanded.{OriginKept, InterfaceKept}
 use Rattle.expansion_definition.specs.Input.{Input}
-use Rattle.expansion_definition.specs.Ids.{optionIds, bindingIds}
+use Rattle.ast.specs.Ids.{optionIds, bindingIds}
 use Rattle.expansion_definition.specs.State.{Entry, State, Result, Comp, lookup}
 use Rattle.expansion_definition.specs.Values.{value}
 use Rattle.expansion_definition.specs.PlainCopy.{somes}

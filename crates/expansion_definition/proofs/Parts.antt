@@ -9,7 +9,7 @@ use Rattle.expansion_steps.specs.Steps.{copyId, addDefault, count, Task, all, R
 use Rattle.expansion_steps.specs.Steps
 use Rattle.expansion_definition.specs.Input.{Input}
 use Rattle.expansion_definition.specs.State.{State}
-use Rattle.expansion_definition.specs.Ids.{statementIds}
+use Rattle.ast.specs.Ids.{statementIds}
 use Rattle.expansion_definition.specs.Values.{Values, Env}
 use Rattle.expansion_definition.specs.Reached.{Known, knownEntry, graph}
 use Rattle.expansion_definition.specs.Outputs.{sumOf}

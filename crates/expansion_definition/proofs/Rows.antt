@@ -15,7 +15,7 @@ use Rattle.ast.specs.Lookups.{nodeAt, protoAt, externProtoAt}
 use Rattle.pick_table.specs.Picks.{Prototype}
 use Rattle.expansion_definition.specs.Input.{Input, docs, usedUrl, protoOfOrigin, lastField}
 use Rattle.expansion_definition.specs.Scopes.{Scope}
-use Rattle.expansion_definition.specs.Ids.{dataIds, optionIds, bindingIds}
+use Rattle.ast.specs.Ids.{dataIds, optionIds, bindingIds}
 use Rattle.expansion_definition.specs.State.{State, ok, Comp, bindR, _>>=_, ret, fail, mapM, foldM, withWorld, withNodes, lookup, startState}
 use Rattle.expansion_definition.specs.Charges.{oneMore, chargeIf, charge, chargeEach, paid}
 use Rattle.expansion_definition.specs.Values.{Values, valueNamed, Env, src, Copier, copyData, value, clone}

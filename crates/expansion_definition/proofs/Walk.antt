@@ -21,7 +21,7 @@ use Rattle.expansion_steps.proofs.Laws.{append-run}
 use Rattle.expansion_definition.specs.Input.{Input, docs, usedUrl, protoOfOrigin, lastField}
 use Rattle.expansion_definition.specs.Scopes.{Scope}
 use Rattle.ast.specs.Lists.{flat}
-use Rattle.expansion_definition.specs.Ids.{dataIds, optionIds, bindingIds, statementIds}
+use Rattle.ast.specs.Ids.{dataIds, optionIds, bindingIds, statementIds}
 use Rattle.expansion_definition.specs.State.{Entry, Bookkeeping, State, Result, refusal, ok, Comp, bindR, _>>=_, _>>_, ret, mapM, foldM, lookup, startState}
 use Rattle.expansion_definition.specs.Charges.{chargeIf, charge, chargeEach, paid}
 use Rattle.expansion_definition.specs.Values.{Values, valueNamed, Env, src, Copier, copyData, value, clone}

@@ -10,7 +10,7 @@ use Rattle.pick_table.specs.Picks.{member}
 use Rattle.expansion_steps.specs.Steps.{World, Task, one, Run, mappedStep, plainStep, instanceStep, noAction, thenCopy, thenDefault}
 use Rattle.expansion_definition.specs.Input.{Input, lastField}
 use Rattle.expansion_definition.specs.Scopes.{Scope}
-use Rattle.expansion_definition.specs.Ids.{dataIds}
+use Rattle.ast.specs.Ids.{dataIds}
 use Rattle.expansion_definition.specs.Values.{Values, valueNamed, Env}
 use Rattle.expansion_definition.specs.State.{State, ok, Comp, _>>=_, _>>_, ret, mapM}
 use Rattle.expansion_definition.specs.Charges.{charge}

@@ -18,7 +18,7 @@ use Rattle.expansion_steps.specs.Places.{Comes}
 use Rattle.expansion_steps.specs.Sums.{entry, Sum, Total, bodies, NoLoop}
 use Rattle.expansion_definition.specs.Input.{Input, docs, protoOfOrigin, lastField}
 use Rattle.expansion_definition.specs.Scopes.{Scope, scopeDocument, isDefault}
-use Rattle.expansion_definition.specs.Ids.{statementIds}
+use Rattle.ast.specs.Ids.{statementIds}
 use Rattle.expansion_definition.specs.State.{State, refusal, ok, startState}
 use Rattle.expansion_definition.specs.Copy.{copy}
 use Rattle.expansion_definition.specs.Expand.{statement, rootEnv, LedgerEntry, Expansion, Answer, expansion, expand}

@@ -1,6 +1,5 @@
 pub mod Input
 pub mod Scopes
-pub mod Ids
 pub mod State
 pub mod Charges
 pub mod Values

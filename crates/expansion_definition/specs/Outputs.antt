@@ -5,7 +5,7 @@ use Prim.Native.Nat.{ℕ, suc, _+_}
 use lib.ListN.{length}
 use Rattle.ast.specs.Ast.{Field, InterfaceDecl, Route, Statement, ProtoInstance, Node, ExternProtoDecl, Document}
 use Rattle.ast.specs.Lists.{flat}
-use Rattle.expansion_definition.specs.Ids.{optionIds, bindingIds}
+use Rattle.ast.specs.Ids.{optionIds, bindingIds}
 
 -- ---- node ids (document 01, Modules: Reached): "The node ids of an output stand in its Node statements, id rows, associations and route ends."
 

@@ -13,7 +13,7 @@ use Rattle.expansion_steps.specs.Steps.{Kind, noNode, plainNode, instanceNode, 
 use Rattle.expansion_definition.specs.Input.{Input, docs, protoOfOrigin, lastField}
 use Rattle.expansion_definition.specs.Scopes.{Scope, scopeDocument, isBody}
 use Rattle.ast.specs.Lists.{flat}
-use Rattle.expansion_definition.specs.Ids.{optionIds, bindingIds, statementIds}
+use Rattle.ast.specs.Ids.{optionIds, bindingIds, statementIds}
 
 -- ---- scopes
 

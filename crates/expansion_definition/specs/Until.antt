@@ -12,7 +12,7 @@ use Rattle.pick_table.specs.Picks.{Prototype, member}
 use Rattle.expansion_steps.specs.Steps.{World, addMapped, addPlain, addDefault, addBody, count, copyId, Task, one, all, Run}
 use Rattle.expansion_definition.specs.Input.{Input, docs, protoOfOrigin, lastField}
 use Rattle.expansion_definition.specs.Scopes.{Scope}
-use Rattle.expansion_definition.specs.Ids.{bindingIds, statementIds}
+use Rattle.ast.specs.Ids.{bindingIds, statementIds}
 use Rattle.expansion_definition.specs.State.{State, ok, Comp, _>>=_, _>>_, ret, mapM, foldM, lookup}
 use Rattle.expansion_definition.specs.Charges.{paid}
 use Rattle.expansion_definition.specs.Values.{Values, valueNamed, Env, src, Copier}

@@ -7,7 +7,7 @@ use Rattle.ast.specs.Ast.{FieldData, FieldValue}
 use Rattle.ast.specs.Choice.{choose}
 use Rattle.expansion_definition.specs.Input.{Input}
 use Rattle.expansion_definition.specs.Scopes.{Scope, scopeDocument}
-use Rattle.expansion_definition.specs.Ids.{dataIds}
+use Rattle.ast.specs.Ids.{dataIds}
 use Rattle.expansion_definition.specs.State.{Comp, _>>=_, _>>_, ret, mapM}
 use Rattle.expansion_definition.specs.Charges.{chargeEach, paid}
 

@@ -15,7 +15,7 @@ use Rattle.ast.specs.Each.{Each}
 use Rattle.sheet_roundtrip.specs.Ranges.{IsName, IsPresent, DataInRange, ValueInRange, BindingInRange, FieldInRange, DefaultInRange, InterfaceInRange, RouteInRange, StatementInRange, AssociationInRange, InstanceInRange, OriginInRange, NodeInRange, ProtoInRange, ExternInterfaceInRange, UrlInRange, ExternProtoInRange, InRange, FileInRange}
 use Rattle.expansion_definition.specs.Input.{Input, docs, usedUrl, lastField}
 use Rattle.expansion_definition.specs.Scopes.{Scope}
-use Rattle.expansion_definition.specs.Ids.{dataIds}
+use Rattle.ast.specs.Ids.{dataIds}
 use Rattle.expansion_definition.specs.State.{State, ok, Comp, _>>=_, ret, mapM, foldM, withNodes, startState}
 use Rattle.expansion_definition.specs.Charges.{oneMore, chargeIf, charge, chargeEach, paid}
 use Rattle.expansion_definition.specs.Values.{Values, valueNamed, Env, src, Copier, copyData, value, clone}

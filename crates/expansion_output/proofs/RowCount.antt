@@ -10,7 +10,7 @@ use Rattle.sheet_rows.specs.declared.row.Row.{Row}
 use Rattle.ast.specs.Lists.{flat}
 use Rattle.sheet_rows.specs.Print.{idRow, dataRows, bindingRows, defaultRows, routeRow, associationRow, anyInstanceRows, protoRows, documentRows}
 use Rattle.sheet_rows.specs.Print
-use Rattle.expansion_definition.specs.Ids.{dataIds, optionIds, bindingIds}
+use Rattle.ast.specs.Ids.{dataIds, optionIds, bindingIds}
 use Rattle.expansion_definition.specs.Outputs.{sumOf, fieldRowCount, interfaceRowCount, instanceRowCount, contentRows, nodeRowCount, externRowCount, rowCount}
 
 -- the rows of each of a list

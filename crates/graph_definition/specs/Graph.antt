@@ -5,29 +5,18 @@ use mathlib.Core.Option.{Option, none, some}
 use Prim.Native.Nat.{ℕ, zero, suc}
 use lib.ListN.{length, getD, getElem?}
 use lib.Dec.{ltb, eqb}
-use Rattle.ast.specs.Ast.{FieldData, FieldValue, FieldBinding, Field, InterfaceDecl, Statement, Node, Document}
+use Rattle.ast.specs.Ast.{Field, InterfaceDecl, Node, Document}
 use Rattle.ast.specs.Choice.{choose}
+use Rattle.ast.specs.Ids.{optionIds, bindingIds, statementIds}
 use Rattle.ast.specs.Lists.{flat}
 
 -- ---- "field and interface values": the ids in them, in row order
 
-abbrev pub dataIds : FieldData → List ℕ
-dataIds (FieldData.Payload p) = []
-dataIds (FieldData.Nodes l) = l
-
-abbrev pub bindingIds : FieldBinding → List ℕ
-bindingIds (FieldBinding.Value v) = dataIds (v .«data»)
-bindingIds (FieldBinding.Is t) = []
-
 abbrev pub fieldIds : Field → List ℕ
 fieldIds x = bindingIds (x .binding)
 
-abbrev pub defaultIds : Option FieldValue → List ℕ
-defaultIds none = []
-defaultIds (some v) = dataIds (v .«data»)
-
 abbrev pub interfaceIds : InterfaceDecl → List ℕ
-interfaceIds x = defaultIds (x .value)
+interfaceIds x = optionIds (x .value)
 
 -- ids of extra roots, associations and routes are no values
 unfoldable pub nodeIds : Node → List ℕ
@@ -42,13 +31,6 @@ unfoldable pub nexts : Document → ℕ → List ℕ
 nexts d i = valueIdsIn (getElem? (d .nodes) i)
 
 -- ---- "top Node statements"
-
-abbrev pub statementIds : Statement → List ℕ
-statementIds (Statement.Node i) = i ∷ []
-statementIds (Statement.Proto i) = []
-statementIds (Statement.ExternProto i) = []
-statementIds (Statement.Route x) = []
-statementIds (Statement.Other p) = []
 
 unfoldable pub topNodeIds : Document → List ℕ
 topNodeIds d = flat statementIds (d .statements)

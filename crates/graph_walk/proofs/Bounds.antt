@@ -16,7 +16,8 @@ use Rattle.sheet_rows.specs.declared.row.Row.{Row}
 use Rattle.sheet_rows.specs.Print.{idRow, dataRows, bindingRows, fieldRows, defaultRows, interfaceRows, statementRow, bodyElementRow, anyInstanceRows, nodeRows, protoRows, externProtoRows, topRow, documentRows}
 use Rattle.expansion_steps.specs.Lists.{Nodup, sumTo}
 use Rattle.expansion_steps.proofs.ListLaws.{sum-same}
-use Rattle.graph_definition.specs.Graph.{dataIds, bindingIds, fieldIds, defaultIds, interfaceIds, nodeIds, statementIds, topNodeIds, nodeCount, nexts, valueIdsIn}
+use Rattle.ast.specs.Ids.{dataIds, optionIds, bindingIds, statementIds}
+use Rattle.graph_definition.specs.Graph.{fieldIds, interfaceIds, nodeIds, topNodeIds, nodeCount, nexts, valueIdsIn}
 
 -- ---- sums over a list
 
@@ -76,7 +77,7 @@ field-rows x = go (x .binding)
 interface-rows : (x : InterfaceDecl) → length (interfaceIds x) ≤ length (interfaceRows x)
 interface-rows x = go (x .value)
   where
-    go : (y : Option FieldValue) → length (defaultIds y) ≤ length (defaultRows x y)
+    go : (y : Option FieldValue) → length (optionIds y) ≤ length (defaultRows x y)
     go none = omega arith
     go (some v) = omega (arith, data-rows (v .«data»))
 

@@ -15,7 +15,8 @@ use Rattle.ast.specs.Lists.{flat}
 use Rattle.sheet_rows.specs.declared.row.Row.{Row}
 use Rattle.sheet_rows.specs.Rows.{blank, rest}
 use Rattle.sheet_rows.specs.Print.{row, idRow, dataRows, bindingRows, fieldRows, defaultRows, interfaceRows, routeRow, statementRow, bodyElementRow, associationRow, instanceRows, anyInstanceRows, nodeRow, nodeRows, protoRows, urlRow, externProtoRows, topRow, documentRows}
-use Rattle.graph_definition.specs.Graph.{dataIds, bindingIds, fieldIds, defaultIds, interfaceIds, nodeIds, statementIds, topNodeIds, nodeCount, nexts, valueIdsIn}
+use Rattle.ast.specs.Ids.{dataIds, optionIds, bindingIds, statementIds}
+use Rattle.graph_definition.specs.Graph.{fieldIds, interfaceIds, nodeIds, topNodeIds, nodeCount, nexts, valueIdsIn}
 use Rattle.graph_walk.specs.Scan.{placesFrom, topFrom, idsFrom, startsFrom, endFrom}
 use Rattle.graph_walk.specs.Steps.{NodeStands}
 
@@ -178,7 +179,7 @@ ids-interface : (x : InterfaceDecl) (l : List Row) → idsFrom (interfaceRows x 
 unfolding idsFrom
 ids-interface x l = go (x .value)
   where
-    go : (y : Option FieldValue) → idsFrom (defaultRows x y ++ l) ≡ defaultIds y ++ idsFrom l
+    go : (y : Option FieldValue) → idsFrom (defaultRows x y ++ l) ≡ optionIds y ++ idsFrom l
     go none = refl
     go (some v) = ids-data (v .«data») l
 

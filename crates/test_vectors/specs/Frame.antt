@@ -1,7 +1,7 @@
 -- Lines and rows at a place of the input, read into lent words: the place after them, or 0 where they are malformed, and
 -- the words then.
 use mathlib.Core.Bool.{_&&_}
-use mathlib.Core.List.{List, _++_}
+use mathlib.Core.List.{List, [], _∷_, _++_}
 use Prim.Native.Nat.{ℕ, _+_, _*_, _-_}
 use lib.Dec.{leb, eqb}
 use lib.ListN.{length, take, drop}
@@ -25,3 +25,7 @@ unfoldable pub rowsRead : List ℕ → ℕ → ℕ → ℕ → List ℕ → ℕ 
 rowsRead input at kept n w =
     let x = linesAt input at (n - kept) (drop (8 * kept) w) in
     choose (leb kept n && leb (8 * kept) (length w)) (x .0, take (8 * kept) w ++ x .1) (0, w)
+
+-- the numbers of a case's line: its tag, and four of the answer
+abbrev pub caseNumbers : ℕ → ℕ → ℕ → ℕ → ℕ → List ℕ
+caseNumbers tag a b c d = tag ∷ a ∷ b ∷ c ∷ d ∷ 0 ∷ 0 ∷ 0 ∷ []

@@ -3,6 +3,7 @@ use super::frame;
 use ast::ExternProtoId;
 use ast::NodeId;
 use ast::ProtoId;
+use libc::STDOUT_FILENO;
 use sheet_check::Checked;
 use sheet_check::grammar::Form;
 use sheet_lookup::document;
@@ -12,6 +13,12 @@ use text_lines::Read;
 use text_lines::Written;
 ghost use mathlib.Core.Path.{_≡_};
 ghost use Rattle.test_vectors.specs.Cases.{formOf, checkAt, readAt, writeAt, lookupAt};
+
+// Writes the line of a case.
+fn print(tag: u32, a: u32, b: u32, c: u32, d: u32) {
+    let text = frame::line(tag, a, b, c, d);
+    io::write_all(STDOUT_FILENO, &text);
+}
 
 // 1 check: a form, b number of words, c number of rows kept; the other rows follow.
 pub fn check(input: &[u8], at: usize, h: Row, words: &mut [u32]) -> usize
@@ -44,8 +51,8 @@ fn form_of(n: u32) -> Form
 
 fn print_check(checked: Checked) {
     match checked {
-        Checked::Fits => frame::print(1, 0, 0, 0, 0),
-        Checked::Bad(place) => frame::print(1, 3, frame::word(place), 0, 0),
+        Checked::Fits => print(1, 0, 0, 0, 0),
+        Checked::Bad(place) => print(1, 3, frame::word(place), 0, 0),
     }
 }
 
@@ -72,15 +79,9 @@ pub fn read(input: &[u8], at: usize, h: Row) -> usize
 
 fn print_read(text: &[u8], words: &mut [u32]) {
     match text_lines::read_lines(text, words) {
-        Read::Rows(n) => frame::print(2, 0, 0, frame::word(n), test_checksum::of_words(0, words)),
-        Read::WrongLength => frame::print(2, 12, 0, 0, test_checksum::of_words(0, words)),
-        Read::BadLine(i) => frame::print(
-            2,
-            13,
-            frame::word(i),
-            0,
-            test_checksum::of_words(0, words),
-        ),
+        Read::Rows(n) => print(2, 0, 0, frame::word(n), test_checksum::of_words(0, words)),
+        Read::WrongLength => print(2, 12, 0, 0, test_checksum::of_words(0, words)),
+        Read::BadLine(i) => print(2, 13, frame::word(i), 0, test_checksum::of_words(0, words)),
     }
 }
 
@@ -107,14 +108,8 @@ pub fn write(input: &[u8], at: usize, h: Row, words: &mut [u32]) -> usize
 
 fn print_write(words: &[u32], bytes: &mut [u8]) {
     match text_lines::write_lines(words, bytes) {
-        Written::Bytes(n) => frame::print(
-            3,
-            0,
-            frame::word(n),
-            test_checksum::of_bytes(0, bytes),
-            0,
-        ),
-        Written::Refused => frame::print(3, 14, 0, test_checksum::of_bytes(0, bytes), 0),
+        Written::Bytes(n) => print(3, 0, frame::word(n), test_checksum::of_bytes(0, bytes), 0),
+        Written::Refused => print(3, 14, 0, test_checksum::of_bytes(0, bytes), 0),
     }
 }
 
@@ -166,13 +161,13 @@ fn print_lookup<'a>(root: &'a [u32], library: &'a [u32], h: Row) {
 
 fn print_found(found: Found) {
     match found {
-        Found::At(row) => frame::print(4, 1, frame::word(row), 0, 0),
-        Found::Nothing => frame::print(4, 0, 0, 0, 0),
+        Found::At(row) => print(4, 1, frame::word(row), 0, 0),
+        Found::Nothing => print(4, 0, 0, 0, 0),
     }
 }
 
 fn print_part(part: &[u32]) {
-    frame::print(
+    print(
         4,
         frame::word(part.len()),
         test_checksum::of_words(0, part),

@@ -1,9 +1,9 @@
 // What cases are made of: headers and rows as lines, and the lines of the answers.
-use libc::STDOUT_FILENO;
 use text_lines::Read;
 ghost use mathlib.Core.Path.{_≡_};
 ghost use Prim.Native.Nat.{min};
-ghost use Rattle.test_vectors.specs.Frame.{linesAt, rowsRead};
+ghost use Rattle.text_lines.specs.Write.{line as lineBytes};
+ghost use Rattle.test_vectors.specs.Frame.{linesAt, rowsRead, caseNumbers};
 
 // A number for an answer; none of the cases has a longer one.
 pub fn word(n: usize) -> u32
@@ -46,8 +46,10 @@ pub fn rows(input: &[u8], at: usize, kept: u32, count: usize, words: &mut [u32])
     lines(input, at, count - n, &mut words[from..])
 }
 
-pub fn print(tag: u32, a: u32, b: u32, c: u32, d: u32) {
+// The line of a case: its tag and four numbers.
+pub fn line(tag: u32, a: u32, b: u32, c: u32, d: u32) -> [u8; 89]
+    ensures { λ r. ⌜ r ≡ lineBytes (caseNumbers tag a b c d) ⌝ }
+{
     let words = [tag, a, b, c, d, 0, 0, 0];
-    let line = text_lines::line_of(&words);
-    io::write_all(STDOUT_FILENO, &line);
+    text_lines::line_of(&words)
 }

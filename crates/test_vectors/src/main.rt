@@ -4,6 +4,7 @@ mod cases;
 mod frame;
 
 use libc::STDIN_FILENO;
+use libc::STDOUT_FILENO;
 use sheet_rows::row;
 
 // A case's answer, on a line of its own: the place after the case, or 0 where it is malformed.
@@ -21,12 +22,18 @@ fn case<'a>(input: &[u8], at: usize, root: &'a mut [u32], library: &'a mut [u32]
     }
 }
 
+// 9, which is no case, and the place of what is malformed.
+fn print_malformed(at: u32) {
+    let text = frame::line(9, at, 0, 0, 0);
+    io::write_all(STDOUT_FILENO, &text);
+}
+
 fn run<'a>(input: &[u8], root: &'a mut [u32], library: &'a mut [u32]) {
     let mut at = 0;
     while at < input.len() {
         let next = case(input, at, root, library);
         if next <= at {
-            frame::print(9, frame::word(at), 0, 0, 0);
+            print_malformed(frame::word(at));
             return;
         }
         at = next;
@@ -39,7 +46,7 @@ fn main() {
     let mut library = [0u32; 1024];
     let n = io::read_full(STDIN_FILENO, &mut input);
     if n == 0 {
-        frame::print(9, 0, 0, 0, 0);
+        print_malformed(0);
     }
     run(&input[..n], &mut root, &mut library);
 }

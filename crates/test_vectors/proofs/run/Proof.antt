@@ -4,8 +4,8 @@ use Rattle.test_vectors.proofs.run.Tie as tie
 use Rattle.test_vectors.proofs.run.Reads as reads
 use Rattle.test_vectors.proofs.run.Lts as lts
 use Rattle.test_vectors.proofs.case.Reads as case-reads
-use Rattle.test_vectors.proofs.frame.print.Reads as print-reads
 use Rattle.test_vectors.proofs.frame.word.Reads as word-reads
+use Rattle.test_vectors.proofs.print_malformed.Reads as print-malformed-reads
 use Prim.Native.Nat.{_-_}
 use mathlib.Core.Path.{_≡_, _∙_, refl}
 use lib.ListN.{length}
@@ -27,8 +27,8 @@ case-requires c κs = search needs
 word-requires : tie.Need-word-requires Inv-loop μ-loop
 word-requires c κs = search needs
 
-print-requires : tie.Need-print-requires Inv-loop μ-loop
-print-requires c κs = search needs
+print-malformed-requires : tie.Need-print-malformed-requires Inv-loop μ-loop
+print-malformed-requires c κs = search needs
 
 same-length : tie.Need-same-length Inv-loop μ-loop
 same-length c = (c .before .before .before .before .before .before .before .case .kept .1 .1 .0) ∙ (c .before .before .before .before .before .before .before .before .before .before .before .loop .inv .0)
@@ -63,7 +63,7 @@ run-spec =
     loop-holds
     case-requires
     word-requires
-    print-requires
+    print-malformed-requires
     same-length
     same-length-2
     returns

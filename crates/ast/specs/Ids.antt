@@ -1,8 +1,8 @@
--- The node ids that stand in a value, a binding, an interface, a statement.
-use mathlib.Core.List.{List, [], _∷_, _++_}
+-- The node ids that stand in a value, a binding, a statement.
+use mathlib.Core.List.{List, [], _∷_}
 use mathlib.Core.Option.{Option, none, some}
 use Prim.Native.Nat.{ℕ}
 use Rattle.ast.specs.Ast.{FieldData, FieldValue, FieldBinding, Statement}
 
 abbrev pub dataIds : FieldData → List ℕ
 dataIds (FieldData.Payload p) = []
