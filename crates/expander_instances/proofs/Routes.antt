@@ -63,7 +63,7 @@ module _ {L : Limits} {w w′ : List ℕ} {t : Counts} {r j v : ℕ} (st : Stand
       scopes = so .scopes ∙ sym (below-fixed tagScope (set-fixed (t .charges) s hi (rw e lo)) (t .charges) (omega arith));
       externs = so .externs ∙ sym (below-fixed tagExtern (set-fixed (t .charges) s hi (rw e lo)) (t .charges) (omega arith));
       fair = record { each = λ n ln. fair-fixed (set-fixed (t .charges) s hi (rw e lo)) (t .charges) n ln (λ z. closed-fixed (set-fixed (t .charges) s hi (rw e lo)) n (omega arith) (λ i a b. set-cell w w′ r j v hi s n i b (λ q y. let k : cell w r 0 ≡ tagNode = rw q at z in omega arith)) (so .fair .each n ln .node z)) (so .fair .each n ln) };
-      index = index-set s hi (rw e lo) (omega (arith, so .charges)) (so .index);
+      index = index-set s hi (rw e lo) (λ k. absurd (route-unkeyed (rw e at k))) (omega (arith, so .charges)) (so .index);
       owned = owned-set s hi (rw e lo) (λ z. omega arith) (so .owned);
       families = families-set s hi (rw e lo) (λ z. omega arith) (so .families);
     };
