@@ -234,6 +234,16 @@ module _ (w : List ℕ) (at slots c top t x y : ℕ) (ix : SlotsIndexed w at slo
     same = refl;
   }
 
+  -- the word of the head has the key, and so it is of the slot
+  pub walk-first : (b : ℕ) → Slotted slots x y b → (first : ℕ) → first ≡ getD w (at + b) 0 → first < c → p first ≡ true → newest w t x y top ≡ some first
+  walk-first b sl first e lt q =
+      let h : Hit w t x y first = is-hit first q in
+      let i : inSlot w slots b first ≡ true = slot-here w slots b first (rw (h .tag) key) (rw (h .one, h .two) (sym (sl .same))) in
+      let r : suc first ≡ newestBelow (inSlot w slots b) c = sym (head-here w slots b c first lt i) ∙ rw e (tree-newest (ix .trees b (sl .below))) in
+      let z : newestBelow p (suc first) ≡ suc first = rw (add-one first) at (last-here p first q) in
+      sym (newest-under (hit w t x y) top c tc)
+      ∙ newest-last p c first (last-finer (inSlot w slots b) p c (λ n ln k. let g : Hit w t x y n = is-hit n k in slot-here w slots b n (rw (g .tag) key) (rw (g .one, g .two) (sym (sl .same)))) ∙ rw (← r) z)
+
   module _ {d cur : ℕ} (u : Walking w p c d cur) where
     -- as far as the root
     found : newestBelow p c ≡ newestBelow p cur

@@ -15,9 +15,9 @@ use Rattle.journal_index.specs.Index.Tree.{empty, root}
 use Rattle.journal_index.proofs.Keys.{side-deep, side-two, side-here, side-kept}
 use Rattle.journal_index.proofs.Trees.{going-here, going-not, going-apart, going-is, Root, tree-root, root-side, tree-none, tree-low, tree-higher, tree-kept, tree-deeper}
 
-pub link-law : (w w1 w2 : List ℕ) (p zero one : ℕ) → SetWord w w1 p 9 zero → SetWord w1 w2 p 10 one → LinksWritten w w2 p zero one
+pub link-law : (w w1 w2 : List ℕ) (p x y : ℕ) → SetWord w w1 p 9 x → SetWord w1 w2 p 10 y → LinksWritten w w2 p x y
 unfolding cell
-link-law w w1 w2 p zero one a b = record {
+link-law w w1 w2 p x y a b = record {
   first = b .other (p * 12 + 9) (λ e. omega arith) ∙ a .here;
   second = b .here;
   other = λ m n k. b .other m k ∙ a .other m n;

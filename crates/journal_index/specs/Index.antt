@@ -103,7 +103,7 @@ pub record HeadRead (w : List ℕ) (at slots b c r : ℕ) : Type 0 where
 
 -- the record with its links
 abbrev pub linked : Record → ℕ → ℕ → Record
-linked r zero one = record { tag = r .tag; a = r .a; b = r .b; c = r .c; d = r .d; e = r .e; f = r .f; g = r .g; h = r .h; i = zero; j = one; k = r .k }
+linked r x y = record { tag = r .tag; a = r .a; b = r .b; c = r .c; d = r .d; e = r .e; f = r .f; g = r .g; h = r .h; i = x; j = y; k = r .k }
 
 -- the links of record p are written, and nothing else
 pub record LinksWritten (w w′ : List ℕ) (p zero one : ℕ) : Type 0 where

@@ -70,7 +70,13 @@ fn head(work: &[u32], at: usize, slots: usize, c: usize, b: usize) -> usize
     if !is_keyed(journal_records::word(work, x, 0)) {
         return 0;
     }
-    if slot(slots, journal_records::word(work, x, 1), journal_records::word(work, x, 2)) != b {
+    if slot(
+        slots,
+        journal_records::word(work, x, 1),
+        journal_records::word(work, x, 2),
+    )
+        != b
+    {
         return 0;
     }
     x + 1
@@ -120,8 +126,16 @@ pub fn find_below(
     requires { ⌜ top ≤ c ⌝ }
     ensures { λ r. ⌜ foundOf r ≡ newest (now (work .entry)) tag x y top ⌝ }
 {
+    let b = slot(slots, x, y);
+    // usual: the newest of the slot is the one that is looked for, which tells that it is of the slot
+    let first = wide(work[at + b]);
+    if first < c {
+        if hits(work, first, top, tag, x, y) {
+            return Newest::At(first);
+        }
+    }
     let k = number(tag, x, y);
-    let mut cur = head(work, at, slots, c, slot(slots, x, y));
+    let mut cur = head(work, at, slots, c, b);
     let mut d = 0;
     while 0 < cur {
         let n = cur - 1;
