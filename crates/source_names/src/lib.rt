@@ -38,14 +38,7 @@ pub fn walked(sheet: &[u32], node: usize, name: u32) -> Found
 }
 
 // By the node's table, of so many fields, whose rows stand from a place on.
-pub fn named(
-    sheet: &[u32],
-    work: &[u32],
-    at: usize,
-    count: usize,
-    node: usize,
-    name: u32,
-) -> Found
+pub fn named(sheet: &[u32], work: &[u32], at: usize, count: usize, node: usize, name: u32) -> Found
     requires { ⌜ (at + count ≤ length (now work)) × NameTable (now sheet) node count (now work) at ⌝ }
     ensures { λ x. ⌜ LastField name (rows (now (sheet .entry))) node x ⌝ }
 {

@@ -31,9 +31,7 @@ fn of_slot<'a>(
         }
     }
     let row = wide(dir[source_directory::ROWS + slot]);
-    source_names::build(
-        root, library, number, row, work, free, at, many, place, end,
-    )
+    source_names::build(root, library, number, row, work, free, at, many, place, end)
 }
 
 // Writes the list of so many places to the words from at on, and the tables of all documents behind it; the place after them.
@@ -55,9 +53,7 @@ fn of_all<'a>(
     let mut place = at + many;
     let mut slot = 0;
     while slot <= count {
-        place = of_slot(
-            root, library, dir, slot, work, free, at, many, place, end,
-        );
+        place = of_slot(root, library, dir, slot, work, free, at, many, place, end);
         slot += 1;
     }
     place
