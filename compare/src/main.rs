@@ -13,6 +13,7 @@ mod coverage;
 mod flights;
 mod frames;
 mod grammar;
+mod growth;
 #[cfg(feature = "library")]
 mod held;
 #[cfg(feature = "library")]
@@ -69,7 +70,8 @@ compare check mutants COUNT SEED           the check of a sheet: every broken re
 compare check library COUNT SEED           the check of a sheet: the linked static library
 compare bench [PART]                       times of the original, the linked library and copying; scenes whose name has PART
 compare bench spin PART SECONDS            the library's calls alone, for a profiler
-compare bench small PART COUNT             the same on scenes that fit the caches, so many calls: time a node";
+compare bench small PART COUNT             the same on scenes that fit the caches, so many calls: time a node
+compare growth [PART]                      scenes at sizes that grow by four: the linked library's times; scenes whose name has PART";
 
 const FLAGS: [&str; 2] = ["--small", "--caps"];
 
@@ -133,6 +135,8 @@ fn command() -> Result<u64, String> {
         ["bench", "spin", part, seconds] => Ok(bench::spin(part, number(seconds)?)),
         ["bench", "small", part, count] => Ok(bench::small(part, number(count)?)),
         ["bench", part] => Ok(bench::run(part)),
+        ["growth"] => Ok(growth::run("")),
+        ["growth", part] => Ok(growth::run(part)),
         ["pairs", count, seed] => Ok(pairs::run(number(count)?, number(seed)?)),
         ["pairs", "mutants", count, seed] => Ok(pairs::mutants(number(count)?, number(seed)?)),
         #[cfg(feature = "library")]
