@@ -71,7 +71,8 @@ compare check library COUNT SEED           the check of a sheet: the linked stat
 compare bench [PART]                       times of the original, the linked library and copying; scenes whose name has PART
 compare bench spin PART SECONDS            the library's calls alone, for a profiler
 compare bench small PART COUNT             the same on scenes that fit the caches, so many calls: time a node
-compare growth [PART]                      scenes at sizes that grow by four: the linked library's times; scenes whose name has PART";
+compare growth [PART]                      scenes at sizes that grow by four: the linked library's times; scenes whose name has PART
+compare growth search SECONDS SEED         random scenes whose names and ids meet, for so long: the worst growth";
 
 const FLAGS: [&str; 2] = ["--small", "--caps"];
 
@@ -136,6 +137,9 @@ fn command() -> Result<u64, String> {
         ["bench", "small", part, count] => Ok(bench::small(part, number(count)?)),
         ["bench", part] => Ok(bench::run(part)),
         ["growth"] => Ok(growth::run("")),
+        ["growth", "search", seconds, seed] if linked::LINKED => {
+            Ok(growth::search::run(number(seconds)?, number(seed)?))
+        }
         ["growth", part] => Ok(growth::run(part)),
         ["pairs", count, seed] => Ok(pairs::run(number(count)?, number(seed)?)),
         ["pairs", "mutants", count, seed] => Ok(pairs::mutants(number(count)?, number(seed)?)),

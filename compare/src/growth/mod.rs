@@ -5,6 +5,7 @@
 //! and charges.
 
 pub mod scenes;
+pub mod search;
 pub mod slots;
 
 use std::hint::black_box;
@@ -52,21 +53,18 @@ pub fn growth(small: &Taken, large: &Taken) -> f64 {
     large.seconds / small.seconds * 4.0 / (large.size() / small.size())
 }
 
-/// The best of several calls of the library with slices lent once.
-pub fn time(call: &Call) -> Taken {
+/// Calls of the library with slices lent once, until a condition on the sum of the times and their number holds; the best time.
+fn calls(call: &Call, enough: impl Fn(f64, u32) -> bool) -> Taken {
     let mut slices = call.lent.map(|words| vec![0; words as usize]);
     let [out, ledger, scopes, work] = &mut slices;
     let mut answer = [0; 7];
     let mut lent = Lent { out, ledger, scopes, work, answer: &mut answer };
     let (mut best, mut sum, mut runs) = (f64::MAX, 0.0, 0);
-    // The first run touches fresh memory and counts only where it takes long.
-    while sum < 0.03 || runs < 5 && sum < 0.6 {
+    while !enough(sum, runs) {
         let start = now();
         black_box(linked::expand(call, &call.root, &call.library, &mut lent));
         let seconds = (now() - start).as_secs_f64();
-        if runs > 0 || seconds > 0.3 {
-            best = best.min(seconds);
-        }
+        best = best.min(seconds);
         sum += seconds;
         runs += 1;
     }
@@ -74,11 +72,21 @@ pub fn time(call: &Call) -> Taken {
     Taken { rows: call.size(), charges, seconds: best, refusal: answer[0] }
 }
 
+/// One call of the library.
+pub fn once(call: &Call) -> Taken {
+    calls(call, |_, runs| runs > 0)
+}
+
+/// The best of several calls of the library.
+pub fn time(call: &Call) -> Taken {
+    calls(call, |sum, runs| sum > 0.03 && (runs > 4 || sum > 0.6))
+}
+
 /// A call timed after a smaller one: where it grew more than is wanted, both again, since the machine has other work.
 pub fn time_after(small: Option<(&Call, &mut Taken)>, large: &Call) -> Taken {
     let mut taken = time(large);
     let Some((call, before)) = small else { return taken };
-    for _ in 0..3 {
+    for _ in 0..5 {
         let grown = growth(before, &taken);
         if taken.seconds < SHORT || grown <= WANTED || grown > 2.0 * STOPS {
             break;
