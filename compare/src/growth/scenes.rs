@@ -144,6 +144,27 @@ fn names_without_room(n: u32) -> Call {
     call(instance(several(n, given), several(n, declared), vec![]), START + n + INSTANCE)
 }
 
+/// Equal names, K just the rows, the instance behind others of 17 fields whose tables come first.
+fn names_behind_others(n: u32) -> Call {
+    let mut scene = instance(several(n, given), several(n, declared), vec![]);
+    let others = several(7 * n / 18, |_| node(Origin::Proto(0), several(17, given)));
+    let count = others.len() as u32;
+    scene.root.nodes.splice(0..0, others);
+    scene.root.protos[0].body = mention([count + 1]);
+    scene.root.top = mention([count]);
+    call(scene, START + n + INSTANCE)
+}
+
+/// The same in a file, whose number is not the first.
+fn names_in_file_behind_others(n: u32) -> Call {
+    let mut scene = in_file(several(n, given), several(n, declared));
+    let others = several(7 * n / 18, |_| node(Origin::Proto(0), several(17, given)));
+    scene.files.insert(0, file(2, others, vec![], vec![]));
+    scene.root.externs.insert(0, extern_of(vec![(2, None)]));
+    scene.root.nodes[0].origin = Origin::Extern(1);
+    call(scene, START + n + 2 * INSTANCE)
+}
+
 /// One name on every field and every interface, and taken as often.
 fn one_name(n: u32) -> Call {
     call(
@@ -360,6 +381,18 @@ fn picks_without_room(n: u32) -> Call {
     call(with_files(list, externs, mention(0..n), vec![file]), START + INSTANCE * n)
 }
 
+/// The cache of picks behind the tables of names of nodes of 17 fields, K just the rows; n externs, n nodes of each of the last.
+fn picks_behind_names(n: u32) -> Call {
+    let others = several(n, |_| node(Origin::Proto(0), several(17, given)));
+    let mut externs = several(20 * n, |_| extern_of(vec![]));
+    externs.extend(several(4, |_| extern_of(vec![(1, Some(5))])));
+    let mut file = file_of_names(1, &[5]);
+    file.doc.nodes.extend(several(n, |_| plain(vec![])));
+    let mut list = several(n, |i| node(Origin::Extern(20 * n + i % 4), vec![]));
+    list.extend(others);
+    call(with_files(list, externs, mention(0..n), vec![file]), START + INSTANCE * n)
+}
+
 /// n urls of one extern, none of which leads to a PROTO.
 fn urls_absent(n: u32) -> Call {
     let names: Vec<u32> = (0..n / 2).collect();
@@ -528,6 +561,8 @@ pub fn all() -> Vec<(&'static str, Vec<Growing>)> {
                 four("equal names", 1250, equal_names),
                 four("equal names of one rest by twice n", 1250, names_of_one_rest),
                 four("equal names, K = rows", 1250, names_without_room),
+                four("equal names, K = rows, behind 7n / 18 instances of 17 fields", 500, names_behind_others),
+                four("the same in a library file", 500, names_in_file_behind_others),
                 four("one name on n fields, n interfaces, n IS", 1250, one_name),
                 four("16 fields with n ids, n interfaces", 1250, sixteen_fields),
                 four("n scopes, an instance with n ids that its PROTO has no name for", 800, ids_in_scopes),
@@ -563,6 +598,7 @@ pub fn all() -> Vec<(&'static str, Vec<Growing>)> {
                 four("n externs, n Proto statements that lead nowhere", 800, dangling_protos),
                 four("n externs of the 257th file, another of the first", 500, second_file),
                 four("5n externs without url, n nodes of one behind them, K = rows", 400, picks_without_room),
+                four("the same with 20n and n instances of 17 fields", 100, picks_behind_names),
                 four("n urls of one extern that lead nowhere", 2000, urls_absent),
                 four("n urls of one extern, n bases, n / 8 files", 2000, urls_of_bases),
                 four("n files, 64 bases behind them", 500, many_files),

@@ -127,8 +127,12 @@ fn payload() -> Value {
     Value::Payload { tag: 4, number: 1 }
 }
 
+/// What no charge pays for.
+const UNCHARGED: [usize; 7] = [OTHERS, EXTERN_STATEMENTS, DROPPED, MARKS, INTERFACE_IDS, FIELD_IDS, DEFAULT_IDS];
+
 impl Mixture {
-    fn random(r: &mut Random) -> Mixture {
+    /// A random mixture; `charged`: without rows that an instance passes over and that no charge pays for.
+    fn random(r: &mut Random, charged: bool) -> Mixture {
         let mut amounts = [0; PARTS.len()];
         // Mostly few parts are there at all, so that what is large stands out.
         let share = r.of(&[15, 30, 50]);
@@ -144,6 +148,11 @@ impl Mixture {
         ways.iter_mut().for_each(|w| *w = r.below(WAYS.len()));
         let mut choices = [0; CHOICES.len()];
         choices.iter_mut().zip(CHOICES).for_each(|(c, (_, many))| *c = r.below(many));
+        if charged {
+            UNCHARGED.iter().for_each(|part| amounts[*part] = 0);
+            choices[DEFAULT_VALUE] = 1;
+            choices[FIELD_VALUE] = 0;
+        }
         Mixture { amounts, ways, choices, shift: r.below(17) as u32 }
     }
 
@@ -424,12 +433,13 @@ fn print(found: &Found) {
 }
 
 /// Random mixtures for so many seconds: the worst growth of four times n, and the least mixtures of those that are not wanted.
-pub fn run(seconds: u64, seed: u64) -> u64 {
+/// `charged`: only of what charges pay for.
+pub fn run(seconds: u64, seed: u64, charged: bool) -> u64 {
     let end = Instant::now() + Duration::from_secs(seconds);
     let (mut tried, mut timed, mut bad) = (0, 0, 0);
     let mut worst: Option<Found> = None;
     while Instant::now() < end {
-        let mixture = Mixture::random(&mut Random::new(seed, tried));
+        let mixture = Mixture::random(&mut Random::new(seed, tried), charged);
         tried += 1;
         let Some(found) = grown(&mixture) else { continue };
         timed += 1;
