@@ -72,6 +72,8 @@ compare bench [PART]                       times of the original, the linked lib
 compare bench spin PART SECONDS            the library's calls alone, for a profiler
 compare bench small PART COUNT             the same on scenes that fit the caches, so many calls: time a node
 compare growth [PART]                      scenes at sizes that grow by four: the linked library's times; scenes whose name has PART
+compare growth at NAME N                   one call on a scene over a number, for a profiler
+compare growth counted [PART]              the same scenes by instructions, counted by valgrind
 compare growth search SECONDS SEED [charged] random scenes whose names and ids meet, for so long: the worst growth";
 
 const FLAGS: [&str; 2] = ["--small", "--caps"];
@@ -143,6 +145,9 @@ fn command() -> Result<u64, String> {
         ["growth", "search", seconds, seed, "charged"] if linked::LINKED => {
             Ok(growth::search::run(number(seconds)?, number(seed)?, true))
         }
+        ["growth", "at", name, n] if linked::LINKED => growth::at(name, number(n)? as u32),
+        ["growth", "counted"] if linked::LINKED => growth::counted(""),
+        ["growth", "counted", part] if linked::LINKED => growth::counted(part),
         ["growth", part] => Ok(growth::run(part)),
         ["pairs", count, seed] => Ok(pairs::run(number(count)?, number(seed)?)),
         ["pairs", "mutants", count, seed] => Ok(pairs::mutants(number(count)?, number(seed)?)),

@@ -186,6 +186,83 @@ fn wrong(scene: &Growing) -> Option<String> {
     None
 }
 
+/// One call of the library on the scene of this name over a number, for a counter of instructions.
+pub fn at(name: &str, number: u32) -> Result<u64, String> {
+    let all = scenes::all();
+    let scene = all.iter().flat_map(|(_, list)| list).find(|s| s.name == name).ok_or("no scene of this name")?;
+    let taken = once(&(scene.make)(number));
+    println!("{} {}", taken.rows, taken.charges);
+    Ok(taken.refusal as u64)
+}
+
+/// The instructions of one call over a number, by valgrind: other work on the machine and the caches do not count.
+fn instructions(name: &str, number: u32) -> Result<Taken, String> {
+    let this = std::env::current_exe().map_err(|e| e.to_string())?;
+    let output = std::process::Command::new("valgrind")
+        .args([
+            "--tool=callgrind",
+            "--callgrind-out-file=/dev/null",
+            "--toggle-collect=luhetami_expand",
+            "--main-stacksize=8000000",
+        ])
+        .args(["--max-stackframe=536870912", "--"])
+        .arg(this)
+        .args(["growth", "at", name, &number.to_string()])
+        .output()
+        .map_err(|e| format!("valgrind: {e}"))?;
+    let told = String::from_utf8_lossy(&output.stderr).into_owned();
+    let counted = told.lines().find_map(|l| l.split("Collected :").nth(1)?.trim().parse::<f64>().ok());
+    let text = String::from_utf8_lossy(&output.stdout).into_owned();
+    let mut sizes = text.split_whitespace().filter_map(|w| w.parse::<u32>().ok());
+    match (counted, sizes.next(), sizes.next()) {
+        // Nanoseconds stand for instructions.
+        (Some(count), Some(rows), Some(charges)) => {
+            Ok(Taken { rows: rows as usize, charges, seconds: count * 1e-9, refusal: 0 })
+        }
+        _ => Err(format!("{name}: valgrind told nothing: {told}")),
+    }
+}
+
+/// The table of instructions: each scene whose name has this part at n, 4n and 16n. How many grow too much.
+pub fn counted(part: &str) -> Result<u64, String> {
+    let mut bad = 0;
+    for (about, mut growing) in scenes::all() {
+        growing.retain(|s| s.name.contains(part));
+        if growing.is_empty() {
+            continue;
+        }
+        println!("\n| {about}, millions of instructions | rows | charges | n | ×4 | ×16 | growth | |");
+        println!("|--|--:|--:|--:|--:|--:|--:|--|");
+        for scene in &growing {
+            let mut taken: Vec<Taken> = Vec::new();
+            let mut n = scene.first;
+            for _ in 0..3 {
+                let call = (scene.make)(n);
+                if call.root.len() / 8 > MOST_ROWS || call.library.len() / 8 > MOST_ROWS || call.max_rows > MOST_CHARGES
+                {
+                    break;
+                }
+                drop(call);
+                taken.push(instructions(scene.name, n)?);
+                n *= scene.factor;
+                if taken.len() > 1 && growth(&taken[taken.len() - 2], &taken[taken.len() - 1]) > STOPS {
+                    break;
+                }
+            }
+            let worst = taken.windows(2).map(|w| growth(&w[0], &w[1])).fold(0.0, f64::max);
+            let million = |i: usize| taken.get(i).map_or("–".into(), |t| format!("{:.2}", t.seconds * 1e3));
+            let last = taken.last().unwrap();
+            let (rows, charges) = (thousands(last.rows as u64), thousands(last.charges as u64));
+            let [a, b, c] = [0, 1, 2].map(million);
+            let word = if worst <= WANTED { "ok" } else { "✗" };
+            println!("| {} | {rows} | {charges} | {a} | {b} | {c} | {worst:.1} | {word} |", scene.name);
+            bad += (worst > WANTED) as u64;
+        }
+    }
+    println!("\n{bad} scenes with more than {WANTED} times the instructions for four times the scene");
+    Ok(bad)
+}
+
 /// The scenes whose name has this part: answers at the least size, then the table of times. How many are wrong or grow too much.
 pub fn run(part: &str) -> u64 {
     let mut bad = 0;
