@@ -289,7 +289,7 @@ pub fn show(seconds: f64) -> String {
 }
 
 /// A number with its thousands apart.
-fn thousands(n: u64) -> String {
+pub fn thousands(n: u64) -> String {
     let digits = n.to_string();
     let groups: Vec<&str> = digits.as_bytes().rchunks(3).rev().map(|g| std::str::from_utf8(g).unwrap()).collect();
     groups.join(",")

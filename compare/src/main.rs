@@ -13,6 +13,7 @@ mod coverage;
 mod flights;
 mod frames;
 mod grammar;
+mod growth;
 #[cfg(feature = "library")]
 mod held;
 #[cfg(feature = "library")]
@@ -69,7 +70,11 @@ compare check mutants COUNT SEED           the check of a sheet: every broken re
 compare check library COUNT SEED           the check of a sheet: the linked static library
 compare bench [PART]                       times of the original, the linked library and copying; scenes whose name has PART
 compare bench spin PART SECONDS            the library's calls alone, for a profiler
-compare bench small PART COUNT             the same on scenes that fit the caches, so many calls: time a node";
+compare bench small PART COUNT             the same on scenes that fit the caches, so many calls: time a node
+compare growth [PART]                      scenes at sizes that grow by four: the linked library's times; scenes whose name has PART
+compare growth at NAME N                   one call on a scene over a number, for a profiler
+compare growth counted [PART]              the same scenes by instructions, counted by valgrind
+compare growth search SECONDS SEED [charged] random scenes whose names and ids meet, for so long: the worst growth";
 
 const FLAGS: [&str; 2] = ["--small", "--caps"];
 
@@ -129,10 +134,21 @@ fn command() -> Result<u64, String> {
         ["pages", "mutants", count, seed] => Ok(operation::mutants::<pages::Pages>(number(count)?, number(seed)?)),
         ["count", "mutants", count, seed] => Ok(operation::mutants::<count::Count>(number(count)?, number(seed)?)),
         ["check", "mutants", count, seed] => Ok(operation::mutants::<checks::Checks>(number(count)?, number(seed)?)),
-        ["bench"] => Ok(bench::run("")),
+        ["bench"] => Ok(bench::run("") + growth::run("")),
         ["bench", "spin", part, seconds] => Ok(bench::spin(part, number(seconds)?)),
         ["bench", "small", part, count] => Ok(bench::small(part, number(count)?)),
-        ["bench", part] => Ok(bench::run(part)),
+        ["bench", part] => Ok(bench::run(part) + growth::run(part)),
+        ["growth"] => Ok(growth::run("")),
+        ["growth", "search", seconds, seed] if linked::LINKED => {
+            Ok(growth::search::run(number(seconds)?, number(seed)?, false))
+        }
+        ["growth", "search", seconds, seed, "charged"] if linked::LINKED => {
+            Ok(growth::search::run(number(seconds)?, number(seed)?, true))
+        }
+        ["growth", "at", name, n] if linked::LINKED => growth::at(name, number(n)? as u32),
+        ["growth", "counted"] if linked::LINKED => growth::counted(""),
+        ["growth", "counted", part] if linked::LINKED => growth::counted(part),
+        ["growth", part] => Ok(growth::run(part)),
         ["pairs", count, seed] => Ok(pairs::run(number(count)?, number(seed)?)),
         ["pairs", "mutants", count, seed] => Ok(pairs::mutants(number(count)?, number(seed)?)),
         #[cfg(feature = "library")]

@@ -20,6 +20,8 @@ pub struct Reckoned {
     /// What there is to tell of marks, by the names of coverage's shapes.
     #[cfg_attr(not(feature = "library"), allow(dead_code))]
     pub noted: HashSet<&'static str>,
+    /// What is found by a key, as the steps made it.
+    pub keys: Vec<[u32; 2]>,
 }
 
 /// The answer of a call; a mutant breaks one reading on purpose.
@@ -31,11 +33,18 @@ pub fn expand(call: &Call, mutant: Option<Mutant>) -> Answer {
 pub fn reckon(call: &Call, mutant: Option<Mutant>) -> Reckoned {
     let mut bound = Bound::default();
     let mut noted = HashSet::new();
-    let answer = answer(call, mutant, &mut bound, &mut noted);
-    Reckoned { answer, bound, noted }
+    let mut keys = Vec::new();
+    let answer = answer(call, mutant, &mut bound, &mut noted, &mut keys);
+    Reckoned { answer, bound, noted, keys }
 }
 
-fn answer(call: &Call, mutant: Option<Mutant>, bound: &mut Bound, noted: &mut HashSet<&'static str>) -> Answer {
+fn answer(
+    call: &Call,
+    mutant: Option<Mutant>,
+    bound: &mut Bound,
+    noted: &mut HashSet<&'static str>,
+    keys: &mut Vec<[u32; 2]>,
+) -> Answer {
     if !call.in_room() {
         return refuse(1, 0, 0);
     }
@@ -50,6 +59,7 @@ fn answer(call: &Call, mutant: Option<Mutant>, bound: &mut Bound, noted: &mut Ha
     let top = steps.run();
     std::mem::swap(bound, &mut steps.bound);
     std::mem::swap(noted, &mut steps.noted);
+    std::mem::swap(keys, &mut steps.keys);
     let top = top?;
     let out = Doc { header: root.header, nodes: steps.nodes, protos: Vec::new(), externs: steps.externs, top };
     Ok(Expanded {

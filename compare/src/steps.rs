@@ -21,6 +21,8 @@ pub struct Scope {
     associations: Vec<[u32; 3]>,
     /// The scope under whose number its copies are mapped: itself.
     mapped_as: usize,
+    /// The charges made before it.
+    place: usize,
 }
 
 /// An instance node in its scope, and its PROTO by document and id.
@@ -60,6 +62,9 @@ pub struct Steps<'a> {
     declared: HashMap<(usize, u32), u32>,
     /// The fields of instances bound by IS that were met.
     pub bound: Bound,
+    /// What is found by a key, in the order made: the place of the scope and the source id of a map entry; the document and id of
+    /// an extern; the place of the instance's first stored value and the name of one. A place is the charges made before.
+    pub keys: Vec<[u32; 2]>,
 }
 
 impl<'a> Steps<'a> {
@@ -80,6 +85,7 @@ impl<'a> Steps<'a> {
             noted: HashSet::new(),
             declared: HashMap::new(),
             bound: Bound::default(),
+            keys: Vec::new(),
         }
     }
 
@@ -130,6 +136,7 @@ impl<'a> Steps<'a> {
             values: None,
             associations: Vec::new(),
             mapped_as: number,
+            place: self.charges - 1,
         });
         Ok(number)
     }
@@ -151,6 +158,7 @@ impl<'a> Steps<'a> {
     fn enter(&mut self, scope: usize, id: u32, out: u32) {
         let key = self.key(scope, id);
         self.map.insert(key, out);
+        self.keys.push([self.scopes[scope].place as u32, id]);
     }
 
     /// A route with the ends that the scope's map has now.
@@ -269,6 +277,7 @@ impl<'a> Steps<'a> {
         let marks = self.mark(document, id, by);
         self.marks.push(marks);
         self.declared.insert(key, out);
+        self.keys.push([document as u32, id]);
         Ok(out)
     }
 
@@ -465,10 +474,13 @@ impl<'a> Steps<'a> {
         let entry = [1, document as u32, proto_id, 0, scope as u32];
         let opened = if early { Some(self.open(entry, id)?) } else { None };
         let mut values = HashMap::new();
+        let mut first = None;
         for (index, interface) in proto.interfaces.iter().enumerate() {
             if let Some(value) = self.given(instance, proto, index, depth)? {
                 let free = self.is(Mutant::OverwritingStoreNotCharged) && values.contains_key(&interface.name);
+                let first = *first.get_or_insert(self.charges);
                 self.charge(!free as usize)?;
+                self.keys.push([first as u32, interface.name]);
                 values.insert(interface.name, value);
             } else if self.is(Mutant::RepeatedNameOverwritesWithNothing) {
                 values.remove(&interface.name);

@@ -3,23 +3,23 @@
 use super::Scene;
 use crate::tree::*;
 
-fn nodes(ids: Vec<u32>) -> Vec<Field> {
+pub fn nodes(ids: Vec<u32>) -> Vec<Field> {
     vec![Field { name: 1, binding: Binding::Value(Value::Nodes { tag: 14, ids }), inferred: 0 }]
 }
 
-fn node(origin: Origin, fields: Vec<Field>) -> Node {
+pub fn node(origin: Origin, fields: Vec<Field>) -> Node {
     Node { fields, ..Node::new(7, origin) }
 }
 
-fn mention(ids: impl IntoIterator<Item = u32>) -> Vec<Statement> {
+pub fn mention(ids: impl IntoIterator<Item = u32>) -> Vec<Statement> {
     ids.into_iter().map(Statement::Node).collect()
 }
 
-fn proto(body: Vec<Statement>) -> Proto {
+pub fn proto(body: Vec<Statement>) -> Proto {
     Proto { name: 9, interfaces: Vec::new(), body }
 }
 
-fn scene(nodes: Vec<Node>, protos: Vec<Proto>, top: Vec<Statement>) -> Scene {
+pub fn scene(nodes: Vec<Node>, protos: Vec<Proto>, top: Vec<Statement>) -> Scene {
     let root = Doc { header: 5, nodes, protos, externs: Vec::new(), top };
     Scene { root, files: Vec::new(), max_nodes: 4_000_000, max_depth: 512 }
 }

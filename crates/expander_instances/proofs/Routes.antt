@@ -14,6 +14,7 @@ use Rattle.journal_lists.specs.Owned.{OwnedTag, ownedBy, lastOwned}
 use Rattle.journal_records.proofs.Cells.{set-cell}
 use Rattle.journal_records.proofs.Frame.{set-fixed}
 use Rattle.journal_records.proofs.Lists.{last-low, last-is}
+use Rattle.journal_index.proofs.Keys.{keyed-low}
 use Rattle.journal_index.proofs.Index.{index-set}
 use Rattle.journal_lists.proofs.Owned.{owned-here, owned-is, owned-set}
 use Rattle.journal_lists.proofs.Families.{families-set}
@@ -63,7 +64,7 @@ module _ {L : Limits} {w w′ : List ℕ} {t : Counts} {r j v : ℕ} (st : Stand
       scopes = so .scopes ∙ sym (below-fixed tagScope (set-fixed (t .charges) s hi (rw e lo)) (t .charges) (omega arith));
       externs = so .externs ∙ sym (below-fixed tagExtern (set-fixed (t .charges) s hi (rw e lo)) (t .charges) (omega arith));
       fair = record { each = λ n ln. fair-fixed (set-fixed (t .charges) s hi (rw e lo)) (t .charges) n ln (λ z. closed-fixed (set-fixed (t .charges) s hi (rw e lo)) n (omega arith) (λ i a b. set-cell w w′ r j v hi s n i b (λ q y. let k : cell w r 0 ≡ tagNode = rw q at z in omega arith)) (so .fair .each n ln .node z)) (so .fair .each n ln) };
-      index = index-set s hi (rw e lo) (omega (arith, so .charges)) (so .index);
+      index = index-set s hi (rw e lo) (λ k. omega (arith, keyed-low (cell w r 0) k .0)) (omega (arith, so .charges)) (so .index);
       owned = owned-set s hi (rw e lo) (λ z. omega arith) (so .owned);
       families = families-set s hi (rw e lo) (λ z. omega arith) (so .families);
     };

@@ -34,11 +34,11 @@ use Rattle.journal_index.specs.Index.{newest, foundOf, RecordEntered, linked}
 use Rattle.journal_lists.specs.Owned.{tagged}
 use Rattle.journal_records.proofs.Lists.{count-low}
 use Rattle.journal_lists.proofs.Owned.{owned-enter}
-use Rattle.journal_lists.proofs.Families.{families-one}
+use Rattle.journal_lists.proofs.Families.{families-enter}
 use Rattle.journal_reading.specs.Reading.{externMapOf}
 use Rattle.journal_reading.specs.WellFormed.{RecordWellFormed}
 use Rattle.journal_reading.proofs.Lookups.{extern-lookup}
-use Rattle.journal_reading.proofs.Nodes.{calm-same}
+use Rattle.journal_reading.proofs.Nodes.{calm-enter}
 use Rattle.journal_reading.specs.RecordsStay.{RecordsStay}
 use Rattle.journal_reading.proofs.States.{more, state-extern, externs-length}
 use Rattle.source_directory.specs.Directory.{numberOf}
@@ -93,7 +93,7 @@ module _ (L : Limits) {w w′ : List ℕ} {t : Counts} (so : JournalSound L w t)
   one = grown t 1 (t .nodes) (t .scopes) (t .externs + 1)
 
   still : RecordsStay (t .charges) w w′
-  still = calm-same (p .same)
+  still = calm-enter p
 
   new-fair : RecordWellFormed w′ (t .charges + 1) (t .charges)
   new-fair =
@@ -116,7 +116,7 @@ module _ (L : Limits) {w w′ : List ℕ} {t : Counts} (so : JournalSound L w t)
       (alone (t .charges) (RecordWellFormed w′ (t .charges + 1)) new-fair)
       (p .index)
       (owned-enter p (rw is) (so .owned))
-      (families-one (p .same) (λ e. omega (arith, p .holds .at0, is)) (so .families))
+      (families-enter p (λ e. omega (arith, p .holds .at0, is)) (so .families))
 
   entered-later : (young : ℕ) → Later L young w t w′ one
   entered-later young =
@@ -235,7 +235,7 @@ module _ (L : Limits) (root library dir w : List ℕ) (t : Counts) (slot id doc 
                 same : (D : ℕ) (e : Env) → src e ≡ numberOf dir slot → ok (t .externs) (at (S D) w₂ (paidExtern t (a + b))) ≡ externProto (inputOf (S D) L) e id (at (S D) w t)
                 same D e here =
                     let z : suc (t .charges) + a + b ≡ suc (t .charges) + (a + b) = omega arith in
-                    ap (ok (t .externs)) (paid-state (first 0 .sound) (omega (arith, so .charges)) long₂ pa (S D) ∙ ap (more (a + b)) (state-extern root library (calm-same (en .same)) (so .fair) _ (en .holds) refl))
+                    ap (ok (t .externs)) (paid-state (first 0 .sound) (omega (arith, so .charges)) long₂ pa (S D) ∙ ap (more (a + b)) (state-extern root library (calm-enter en) (so .fair) _ (en .holds) refl))
                     ∙ sym (by-doc D e here ∙ rw (unknown, loc .is, q)
                     (all-some (inputOf (S D) L) (decl .interface) (decl .urls) (λ st. ok (length (st .externProtos)) (pushExtern doc id (declared (usedUrl (inputOf (S D) L) doc id) decl) st)) (at (S D) w t) (omega (arith, interfaces, urls, so .charges))
                     ∙ rw (← (url-is isMark D), interfaces, urls, externs-length root library w (t .charges), ← so .externs, z)))

@@ -11,7 +11,8 @@ use Rattle.sheet_lookup.specs.Lookup.{sheetOf}
 use Rattle.journal_records.specs.declared.Record.{Record}
 use Rattle.journal_index.specs.declared.Newest.{Newest}
 use Rattle.journal_index.specs.declared.Newest.the-variants.{At}
-use Rattle.journal_index.specs.Index.{keyed, hit, newest, foundOf, Findable, Enterable}
+use Rattle.journal_records.specs.Records.{keyed}
+use Rattle.journal_index.specs.Index.{hit, newest, foundOf, Findable, Enterable}
 use Rattle.journal_records.proofs.Lists.{newest-is}
 use Rattle.sheet_rows.specs.Rows.{rows}
 use Rattle.source_directory.specs.Directory.{numberOf, fromOf, endOf}

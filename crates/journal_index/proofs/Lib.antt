@@ -1,2 +1,4 @@
 pub mod Keys
+pub mod Trees
+pub mod Links
 pub mod Index

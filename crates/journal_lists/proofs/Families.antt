@@ -8,14 +8,15 @@ use native.Mathlib.Omega.{arith}
 use lib.Dec.{eqb}
 use borrow.Author.Tests.{eqb-true, eqb-false}
 use Rattle.journal_records.specs.declared.Record.{Record}
-use Rattle.journal_records.specs.Records.{tagStored, cell, stays, Same, Fixed, Holds, SetWord, Paid}
+use Rattle.journal_records.specs.Records.{tagStored, keyed, cell, stays, Same, Fixed, Holds, SetWord, Paid}
 use Rattle.journal_index.specs.Index.{RecordEntered, Enterable, SlotsIndexed}
 use Rattle.journal_lists.specs.Owned.{ownedBy, lastOwned, Appended}
 use Rattle.journal_lists.specs.Families.{First, Families, Behind, Joins, Joinable, familyJoined, Joined}
 use Rattle.journal_records.proofs.Cells.{set-cell}
 use Rattle.journal_records.proofs.Lists.{last-here, last-other}
 use Rattle.journal_records.proofs.Frame.{stays-most, steady-tag, steady-first, steady-is, same-fixed, set-fixed, fixed-less, last-fixed}
-use Rattle.journal_index.proofs.Index.{index-set}
+use Rattle.journal_index.proofs.Keys.{keyed-stays}
+use Rattle.journal_index.proofs.Index.{index-set, links-fixed}
 use Rattle.journal_lists.proofs.Owned.{owned-here, owned-tag, owned-apart, owned-stable, split, append-fixed}
 
 pub families-none : (w : List ℕ) → Families w 0
@@ -77,6 +78,11 @@ families-more {w} {w′} {c} fx kept n none fa = over n (omega arith)
 pub families-one : {w w′ : List ℕ} {c : ℕ} → Same c w w′ → (cell w′ c 0 ≡ tagStored → ⊥) → Families w c → Families w′ (c + 1)
 families-one {w} {w′} {c} s ne fa = families-more (same-fixed s) (λ r l e. s .keeps r 11 l (omega arith)) 1 (λ r l h e. let z : r ≡ c = omega arith in ne (rw z at e)) fa
 
+-- a keyed record, that is not stored
+pub families-enter : {w w′ : List ℕ} {at slots c : ℕ} {r : Record} → RecordEntered w w′ at slots c r → (cell w′ c 0 ≡ tagStored → ⊥) → Families w c → Families w′ (c + 1)
+families-enter {w} {w′} {at} {slots} {c} p ne fa =
+    families-more (links-fixed (p .same)) (λ r l e. p .same .keeps r 11 l (omega arith) (λ k lo hi. omega arith)) 1 (λ r l h e. let z : r ≡ c = omega arith in ne (rw z at e)) fa
+
 pub families-paid : {w w′ : List ℕ} {c n : ℕ} → Paid w w′ c n → Families w c → Families w′ (c + n)
 families-paid {w} {w′} {c} {n} p fa = families-more (same-fixed (p .same)) (λ r l e. p .same .keeps r 11 l (omega arith)) n (λ r l h e. omega (arith, p .tags r l h)) fa
 
@@ -118,9 +124,9 @@ module _ (w : List ℕ) (c h : ℕ) (b : Behind w c h) where
         record { low = omega (arith, joins-low); first = λ l. x; tip = λ l. sym eh ∙ ev ∙ b .families .tips f l x }
 
 -- ---- a stored record
--- where only the newest of a family may change
-tips-fixed : {w w′ : List ℕ} {c : ℕ} → ((n j : ℕ) → n < c → j < 12 → (cell w n 0 ≡ tagStored → j ≡ 11 → ⊥) → cell w′ n j ≡ cell w n j) → Fixed c w w′
-tips-fixed {w} h = record { steady = λ n l. record { keeps = λ j lj. h n j l (omega (arith, stays-most (cell w n 0))) (λ z q. let k : j < 11 = rw z at lj in omega arith) } }
+-- where only the newest of a family and links may change
+tips-fixed : {w w′ : List ℕ} {c : ℕ} → ((n j : ℕ) → n < c → j < 12 → (cell w n 0 ≡ tagStored → j ≡ 11 → ⊥) → (keyed (cell w n 0) ≡ true → 9 ≤ j → j < 11 → ⊥) → cell w′ n j ≡ cell w n j) → Fixed c w w′
+tips-fixed {w} h = record { steady = λ n l. record { keeps = λ j lj. h n j l (omega (arith, stays-most (cell w n 0))) (λ z q. let k : j < 9 = rw z at lj in omega arith) (λ z lo hi. omega (arith, keyed-stays (cell w n 0) z)) } }
 
 pub join-fixed : {w w′ : List ℕ} {at slots c : ℕ} {r : Record} → Joined w w′ at slots c r → Fixed c w w′
 join-fixed x = tips-fixed (x .other)
@@ -132,12 +138,15 @@ pub join-enter : {w : List ℕ} {at slots c : ℕ} {r : Record} → Joinable w a
 join-enter p f = record { room = p .room; index = p .index; key = rw (p .tag) }
 
 module _ (w : List ℕ) (at slots c : ℕ) (r : Record) (pre : Joinable w at slots c r) (f : ℕ) (jo : Joins w c (r .h) f) (w1 w2 : List ℕ) (en : RecordEntered w w1 at slots c (within r f)) (st : SetWord w1 w2 f 11 (c + 1)) where
+  tag-was : (n : ℕ) → n < c → cell w1 n 0 ≡ cell w n 0
+  tag-was n l = en .same .keeps n 0 l (omega arith) (λ e lo hi. omega arith)
+
   -- the first of the family, before and after
   tag1 : cell w1 f 0 ≡ tagStored
-  tag1 = split f c (omega (arith, jo .low)) (λ l. en .same .keeps f 0 l (omega arith) ∙ jo .first l .tag) (λ z. rw z (en .holds .at0 ∙ pre .tag))
+  tag1 = split f c (omega (arith, jo .low)) (λ l. tag-was f l ∙ jo .first l .tag) (λ z. rw z (en .holds .at0 ∙ pre .tag))
 
-  others : (n j : ℕ) → n < c → j < 12 → (cell w n 0 ≡ tagStored → j ≡ 11 → ⊥) → cell w2 n j ≡ cell w n j
-  others n j l lj ne = set-cell w1 w2 f 11 (c + 1) (omega arith) st n j lj (λ z q. ne (sym (en .same .keeps n 0 l (omega arith)) ∙ rw z tag1) q) ∙ en .same .keeps n j l lj
+  others : (n j : ℕ) → n < c → j < 12 → (cell w n 0 ≡ tagStored → j ≡ 11 → ⊥) → (keyed (cell w n 0) ≡ true → 9 ≤ j → j < 11 → ⊥) → cell w2 n j ≡ cell w n j
+  others n j l lj ne link = set-cell w1 w2 f 11 (c + 1) (omega arith) st n j lj (λ z q. ne (sym (tag-was n l) ∙ rw z tag1) q) ∙ en .same .keeps n j l lj link
 
   fx : Fixed c w w2
   fx = tips-fixed others
@@ -168,7 +177,7 @@ module _ (w : List ℕ) (at slots c : ℕ) (r : Record) (pre : Joinable w at slo
   tag2 = holds .at0 ∙ pre .tag
 
   index : SlotsIndexed w2 at slots (c + 1)
-  index = index-set st (omega arith) (rw tag1 (omega arith)) (omega (arith, jo .low, pre .room .records)) (en .index)
+  index = index-set st (omega arith) (rw tag1 (omega arith)) (λ e. omega arith) (omega (arith, jo .low, pre .room .records)) (en .index)
 
   abbrev fa : Families w c
   fa = pre .behind .families
@@ -189,7 +198,7 @@ module _ (w : List ℕ) (at slots c : ℕ) (r : Record) (pre : Joinable w at slo
       tips g l x false e =
           let ne : g ≡ f → ⊥ = eqb-false g f e in
           split g c l (λ b.
-          tips-more fx fa g b x (set-cell w1 w2 f 11 (c + 1) (omega arith) st g 11 (omega arith) (λ z q. ne z) ∙ en .same .keeps g 11 b (omega arith))
+          tips-more fx fa g b x (set-cell w1 w2 f 11 (c + 1) (omega arith) st g 11 (omega arith) (λ z q. ne z) ∙ en .same .keeps g 11 b (omega arith) (λ y lo hi. omega arith))
           ∙ sym (last-other (ownedBy w2 tagStored g) c (owned-apart w2 tagStored g c (λ z. ne (sym (sym family ∙ z))))))
           (λ z. absurd (ne (sym (x .own) ∙ rw z family)))
 

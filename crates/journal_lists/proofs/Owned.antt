@@ -1,6 +1,6 @@
 -- Owned lists are kept by whatever keeps the words that never change and the scopes' heads, go over other records, start empty
 -- with a scope, and take a record at their end.
-use mathlib.Core.Path.{_≡_, refl, sym, _∙_}
+use mathlib.Core.Path.{_≡_, refl, sym, ap, _∙_}
 use mathlib.Core.List.{List, []}
 use mathlib.Core.Bool.{Bool, true, false}
 use Prim.Native.Nat.{ℕ, zero, suc, _+_, _*_, _-_, _<_, _≤_}
@@ -11,14 +11,14 @@ use lib.Dec.{eqb, ltb}
 use borrow.Author.Tests.{eq-eqb, ne-eqb, eqb-true, eqb-false, ltb-true, ltb-false}
 use Rattle.ast.specs.Choice.{choose}
 use Rattle.journal_records.specs.declared.Record.{Record}
-use Rattle.journal_records.specs.Records.{tagScope, tagAssociation, cell, stays, Same, Fixed, Holds, Pushed, SetWord, Paid}
-use Rattle.journal_index.specs.Index.{keyed, hit, SlotsIndexed, RecordEntered}
+use Rattle.journal_records.specs.Records.{tagScope, tagAssociation, keyed, cell, stays, Same, Fixed, Holds, Pushed, SetWord, Paid}
+use Rattle.journal_index.specs.Index.{hit, SlotsIndexed, RecordEntered}
 use Rattle.journal_lists.specs.Owned.{tagged, OwnedTag, headWord, ownedBy, lastOwned, scopesBelow, Owned, Ownable, linkedAfter, Appended}
 use Rattle.journal_records.proofs.Cells.{set-cell, holds-kept}
 use Rattle.journal_records.proofs.Lists.{last-here, last-other, last-none, count-above, count-more}
-use Rattle.journal_records.proofs.Frame.{stays-ten, stays-most, steady-tag, steady-first, steady-is, same-fixed, set-fixed, fixed-less, Stable, last-fixed, count-fixed}
+use Rattle.journal_records.proofs.Frame.{stays-nine, stays-most, steady-tag, steady-first, steady-is, same-fixed, set-fixed, fixed-less, Stable, last-fixed, count-fixed}
 use Rattle.journal_index.proofs.Keys.{unkeyed, keyed-low}
-use Rattle.journal_index.proofs.Index.{index-keep, index-step}
+use Rattle.journal_index.proofs.Index.{index-keep, index-step, links-fixed}
 
 -- ---- the tests
 pub tagged-here : (w : List ℕ) (t r : ℕ) → cell w r 0 ≡ t → tagged w t r ≡ true
@@ -105,8 +105,8 @@ module _ {w w′ : List ℕ} {c : ℕ} (f : Fixed c w w′) (ow : Owned w c) whe
   number-kept : (r : ℕ) → r < c → cell w r 0 ≡ tagScope → cell w′ r 6 ≡ cell w r 6
   number-kept r lr e = steady-is (f .steady r lr) tagScope e 6 (omega arith)
 
-  word-kept : (r t : ℕ) → r < c → cell w r 0 ≡ t → OwnedTag t → (j : ℕ) → j < 10 → cell w′ r j ≡ cell w r j
-  word-kept r t lr e o j lj = steady-is (f .steady r lr) t e j (omega (arith, stays-ten t (λ q. omega (arith, o .low)) (λ q. omega (arith, o .low))))
+  word-kept : (r t : ℕ) → r < c → cell w r 0 ≡ t → OwnedTag t → (j : ℕ) → j < 9 → cell w′ r j ≡ cell w r j
+  word-kept r t lr e o j lj = steady-is (f .steady r lr) t e j (omega (arith, stays-nine t (λ q. omega (arith, o .low))))
 
   fewer : (r : ℕ) → r < c → Fixed r w w′
   fewer r lr = fixed-less (omega arith) f
@@ -187,7 +187,10 @@ pub owned-push : {w w′ : List ℕ} {c : ℕ} {r : Record} → Pushed w w′ c 
 owned-push p ne ow = owned-step (owned-same (p .same) ow) (λ a b. ne (rw (p .holds .at0) at a) (rw (p .holds .at0) at b))
 
 pub owned-enter : {w w′ : List ℕ} {at slots c : ℕ} {r : Record} → RecordEntered w w′ at slots c r → keyed (r .tag) ≡ true → Owned w c → Owned w′ (c + 1)
-owned-enter {w} {w′} {at} {slots} {c} {r} p key ow = owned-step (owned-same (p .same) ow) (λ a b. omega (arith, p .holds .at0, keyed-low (r .tag) key .0))
+owned-enter {w} {w′} {at} {slots} {c} {r} p key ow =
+    owned-step
+    (owned-keep (links-fixed (p .same)) ow (λ n t ln e o. p .same .keeps n (headWord t) ln (omega (arith, o .high)) (λ k lo hi. omega (arith, keyed-low (cell w n 0) k .0))))
+    (λ a b. omega (arith, p .holds .at0, keyed-low (r .tag) key .0))
 
 pub owned-scope : {w w′ : List ℕ} {c : ℕ} {r : Record} → Pushed w w′ c r → r .tag ≡ tagScope → r .f ≡ scopesBelow w c → r .i ≡ 0 → r .j ≡ 0 → r .k ≡ 0 → Owned w c → Owned w′ (c + 1)
 owned-scope {w} {w′} {c} {r} p e num z9 z10 z11 ow =
@@ -234,7 +237,7 @@ append-fixed a = head-alone (a .scope) (a .tag) (a .other)
 
 pub index-append : {w w′ : List ℕ} {at slots s c : ℕ} {r : Record} → Appended w w′ s c r → c * 12 + 12 ≤ at → SlotsIndexed w at slots c → SlotsIndexed w′ at slots (c + 1)
 index-append {w} {w′} {at} {slots} {s} {c} {r} a l ix =
-    index-step (index-keep (append-fixed a) ix (λ b lb. a .above (at + b) (omega arith))) (rw (a .holds .at0) (unkeyed (r .tag) (λ e. omega (arith, a .tag .low)) (λ e. omega (arith, a .tag .low)) (λ e. omega (arith, a .tag .low))))
+    index-step (index-keep (append-fixed a) (record { keeps = λ n j ln e lo hi. a .other n j ln (omega arith) (λ z q. omega (arith, a .scope, keyed-low (cell w n 0) e .0, ap (λ (k : ℕ). cell w k 0) z)) }) ix (λ b lb. a .above (at + b) (omega arith))) (rw (a .holds .at0) (unkeyed (r .tag) (λ e. omega (arith, a .tag .low)) (λ e. omega (arith, a .tag .low)) (λ e. omega (arith, a .tag .low))))
 
 module _ (w : List ℕ) (s c : ℕ) (r : Record) (pre : Ownable w s c r) (w1 w2 : List ℕ) (q : ℕ) (eq : q ≡ cell w s (headWord (r .tag))) (pu : Pushed w w1 c (linkedAfter r q))
     (st : SetWord w1 w2 s (headWord (r .tag)) (c + 1)) where

@@ -2,11 +2,12 @@
 -- word 8 the handle of the one before. Within a family that is the newest before it; what stands before a family's first
 -- record may be any. Word 11 of the first record is the handle of the family's newest.
 use mathlib.Core.Path.{_≡_}
+use mathlib.Core.Bool.{true}
 use mathlib.Core.List.{List}
 use Prim.Native.Nat.{ℕ, _+_, _-_, _<_, _≤_}
 use lib.ListN.{getD}
 use Rattle.journal_records.specs.declared.Record.{Record}
-use Rattle.journal_records.specs.Records.{tagStored, cell, Holds}
+use Rattle.journal_records.specs.Records.{tagStored, keyed, cell, Holds}
 use Rattle.journal_index.specs.Index.{SlotsIndexed, IndexRoom}
 use Rattle.journal_lists.specs.Owned.{lastOwned}
 
@@ -39,14 +40,14 @@ pub record Joinable (w : List ℕ) (at slots c : ℕ) (r : Record) : Type 0 wher
   pub tag : r .tag ≡ tagStored
   pub behind : Behind w c (r .h)
 
--- the record with what is found for it: the family, the link, the slot, the newest of its family
+-- the record with what is found for it: the family, the links, the newest of its family
 abbrev pub familyJoined : List ℕ → ℕ → Record → Record
 familyJoined w c r =
     record { tag = r .tag; a = cell w c 1; b = r .b; c = r .c; d = r .d; e = r .e; f = r .f; g = r .g; h = r .h; i = cell w c 9; j = cell w c 10; k = cell w c 11 }
 
--- record c is written, and the newest of its family; nothing else
+-- record c is written, the newest of its family, and the links of keyed records; nothing else
 pub record Joined (w w′ : List ℕ) (at slots c : ℕ) (r : Record) : Type 0 where
-  pub other : (n j : ℕ) → n < c → j < 12 → (cell w n 0 ≡ tagStored → j ≡ 11 → ⊥) → cell w′ n j ≡ cell w n j
+  pub other : (n j : ℕ) → n < c → j < 12 → (cell w n 0 ≡ tagStored → j ≡ 11 → ⊥) → (keyed (cell w n 0) ≡ true → 9 ≤ j → j < 11 → ⊥) → cell w′ n j ≡ cell w n j
   pub holds : Holds w′ c (familyJoined w′ c r)
   pub above : (m : ℕ) → at + slots ≤ m → getD w′ m 0 ≡ getD w m 0
   pub index : SlotsIndexed w′ at slots (c + 1)

@@ -159,9 +159,9 @@ module _ (w : List ℕ) where
   unfolding valuesAt
   values-none = scan-end (storedRec w) (λ r. fixedWord w r 8)
 
--- ---- a record more, of a tag whose words stay, but for the last
-module _ {c : ℕ} {w w′ : List ℕ} (f : Fixed c w w′) (r : Record) (o : Holds w′ c r) (most : 11 ≤ stays (r .tag)) where
-  put : (j v : ℕ) → j < 11 → cell w′ c j ≡ v → fixedWord w′ c j ≡ v
+-- ---- a record more, of a tag nine words of which stay
+module _ {c : ℕ} {w w′ : List ℕ} (f : Fixed c w w′) (r : Record) (o : Holds w′ c r) (most : 9 ≤ stays (r .tag)) where
+  put : (j v : ℕ) → j < 9 → cell w′ c j ≡ v → fixedWord w′ c j ≡ v
   put j v l e = kept-is w′ c (r .tag) j v (o .at0) (omega (arith, most)) e
 
   abbrev k1 : fixedWord w′ c 1 ≡ r .a

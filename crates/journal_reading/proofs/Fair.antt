@@ -9,7 +9,7 @@ use borrow.Author.Tests.{ne-eqb, eqb-true, lt-ltb, le-ltb}
 use Rattle.ast.specs.Choice.{choose}
 use Rattle.journal_records.specs.Records.{tagMap, tagNode, tagId, tagField, tagInterface, tagStored, tagScope, tagRoot, tagRoute, tagAssociation, tagInstance, cell, stays, Fixed}
 use Rattle.journal_lists.specs.Owned.{ownedBy, lastOwned}
-use Rattle.journal_records.proofs.Frame.{steady-tag, steady-is, stays-eleven, fixed-less, last-fixed}
+use Rattle.journal_records.proofs.Frame.{steady-tag, steady-is, stays-nine, fixed-less, last-fixed}
 use Rattle.journal_lists.proofs.Owned.{owned-stable}
 use Rattle.journal_reading.specs.Reading.{below}
 use Rattle.journal_reading.specs.WellFormed.{HandleAt, NodeAt, ScopeAt, MapClosed, listed, valued, NodeClosed, InstanceClosed, RecordWellFormed}
@@ -54,7 +54,7 @@ module _ {c : ℕ} {w w′ : List ℕ} (f : Fixed c w w′) where
 
   map-fixed : (r : ℕ) → r < c → cell w r 0 ≡ tagMap → MapClosed w r → MapClosed w′ r
   map-fixed r l e x =
-      let k : (j : ℕ) → j < 12 → cell w′ r j ≡ cell w r j = λ j lj. steady-is (f .steady r l) tagMap e j lj in
+      let k : (j : ℕ) → j < 9 → cell w′ r j ≡ cell w r j = λ j lj. steady-is (f .steady r l) tagMap e j lj in
       record {
         copy = rw (k 3 (omega arith), k 4 (omega arith)) (node-at-fixed (omega arith) (omega arith) (x .copy));
         scope = rw (k 1 (omega arith), k 5 (omega arith)) (scope-at-fixed (omega arith) (omega arith) (x .scope));
@@ -86,8 +86,8 @@ module _ {c : ℕ} {w w′ : List ℕ} (f : Fixed c w w′) where
 never : false ≡ true → ⊥
 never z = let k : _≡_ {A = ℕ} 0 1 = cc in omega arith
 
-pub listed-stays : (t : ℕ) → listed t ≡ true → 11 ≤ stays t
-listed-stays t e = stays-eleven t (λ q. never (rw q at e)) (λ q. never (rw q at e)) (λ q. never (rw q at e))
+pub listed-stays : (t : ℕ) → listed t ≡ true → 9 ≤ stays t
+listed-stays t e = stays-nine t (λ q. never (rw q at e))
 
 pub valued-listed : (t : ℕ) → valued t ≡ true → listed t ≡ true
 valued-listed t e = by (eqb t tagField) refl (eqb t tagInterface) refl e
@@ -130,5 +130,5 @@ fair-fixed {c} {w} {w′} f k r l cl x = record {
     keep : (t : ℕ) → cell w r 0 ≡ t → (j : ℕ) → j < stays t → cell w′ r j ≡ cell w r j
     keep t e j lj = steady-is (f .steady r l) t e j lj
 
-    whole : listed (cell w r 0) ≡ true → (j : ℕ) → j < 11 → cell w′ r j ≡ cell w r j
+    whole : listed (cell w r 0) ≡ true → (j : ℕ) → j < 9 → cell w′ r j ≡ cell w r j
     whole e j lj = f .steady r l .keeps j (omega (arith, listed-stays (cell w r 0) e))

@@ -12,6 +12,9 @@ use Rattle.journal_records.specs.declared.Record.{Record}
 use Rattle.journal_records.specs.Records.{tagNode, tagRoot, tagRoute, tagAssociation, tagInstance, cell, Same, Fixed}
 use Rattle.journal_records.specs.Logs.{only}
 use Rattle.journal_lists.specs.Owned.{tagged, ownedBy, Appended}
+use Rattle.journal_index.specs.Index.{RecordEntered}
+use Rattle.journal_index.proofs.Keys.{keyed-low}
+use Rattle.journal_index.proofs.Index.{links-fixed}
 use Rattle.journal_lists.specs.Families.{Joined}
 use Rattle.journal_records.proofs.Frame.{steady-tag, same-fixed}
 use Rattle.journal_records.proofs.Lists.{up-same, up-span, up-one, only-here, only-other, up-count, up-patch, scan-end}
@@ -141,6 +144,14 @@ calm-same s = record {
   nodes = λ r l e. record { keeps = λ j a b. s .keeps r j l b };
 }
 
+-- a keyed record, and links
+pub calm-enter : {w w′ : List ℕ} {at slots c : ℕ} {r : Record} → RecordEntered w w′ at slots c r → RecordsStay c w w′
+calm-enter {w} a = record {
+  fixed = links-fixed (a .same);
+  ends = record { from = λ n q l lq e t o. a .same .keeps n 10 (omega arith) (omega arith) (λ k lo hi. omega (arith, keyed-low (cell w n 0) k .0)); to = λ n q l lq e t o. a .same .keeps n 11 (omega arith) (omega arith) (λ k lo hi. omega arith) };
+  nodes = λ n l e. record { keeps = λ j x b. a .same .keeps n j l b (λ k lo hi. keyed-low (cell w n 0) k .1 e) };
+}
+
 -- a record at the end of its scope's list
 pub calm-append : {w w′ : List ℕ} {s c : ℕ} {r : Record} → Appended w w′ s c r → RecordsStay c w w′
 calm-append {w} {w′} {s} {c} {r} a = record {
@@ -156,6 +167,6 @@ calm-append {w} {w′} {s} {c} {r} a = record {
 pub calm-join : {w w′ : List ℕ} {at slots c : ℕ} {r : Record} → Joined w w′ at slots c r → RecordsStay c w w′
 calm-join {w} a = record {
   fixed = join-fixed a;
-  ends = record { from = λ n q l lq e t o. a .other n 10 (omega arith) (omega arith) (λ z y. omega arith); to = λ n q l lq e t o. a .other n 11 (omega arith) (omega arith) (λ z y. omega arith) };
-  nodes = λ n l e. record { keeps = λ j x b. a .other n j l b (λ z y. omega arith) };
+  ends = record { from = λ n q l lq e t o. a .other n 10 (omega arith) (omega arith) (λ z y. omega arith) (λ k lo hi. omega (arith, keyed-low (cell w n 0) k .0)); to = λ n q l lq e t o. a .other n 11 (omega arith) (omega arith) (λ z y. omega arith) (λ k lo hi. omega arith) };
+  nodes = λ n l e. record { keeps = λ j x b. a .other n j l b (λ z y. omega arith) (λ k lo hi. keyed-low (cell w n 0) k .1 e) };
 }

@@ -32,7 +32,7 @@ module _ {w : List ℕ} {t h : ℕ} (x : Walkable w t h) (some : 0 < h) where
   walk-next = record { room = omega (arith, handle .low, x .room); tag = handle .tag; linked = λ r l e. x .linked r (omega (arith, handle .low)) e }
 
   -- a word of the record
-  pub walk-word : listed t ≡ true → (j : ℕ) → j < 11 → fixedWord w (h - 1) j ≡ cell w (h - 1) j
+  pub walk-word : listed t ≡ true → (j : ℕ) → j < 9 → fixedWord w (h - 1) j ≡ cell w (h - 1) j
   walk-word l j lj = kept-is w (h - 1) t j (cell w (h - 1) j) (x .tag some) (omega (arith, listed-stays t l)) refl
 
   pub walk-back : {A : Type 0} (d : ℕ → A) → listed t ≡ true → back d w h h ≡ d (h - 1) ∷ back d w (cell w (h - 1) 8) (cell w (h - 1) 8)

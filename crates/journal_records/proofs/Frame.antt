@@ -8,44 +8,38 @@ use native.Mathlib.Omega.{arith}
 use lib.Dec.{eqb}
 use borrow.Author.Tests.{ne-eqb}
 use Rattle.ast.specs.Choice.{choose}
-use Rattle.journal_records.specs.Records.{tagNode, tagScope, tagRoute, tagStored, cell, stays, Same, Steady, Fixed, SetWord}
+use Rattle.journal_records.specs.Records.{tagNode, tagScope, tagRoute, keyed, cell, stays, Same, Steady, Fixed, SetWord}
 use Rattle.journal_records.specs.Logs.{newestBelow, newestOf, countBelow, scan, logUp, logDown, only}
 use Rattle.journal_records.proofs.Cells.{set-cell}
 use Rattle.journal_records.proofs.Lists.{last-same, newest-same, newest-here, newest-other, count-same, count-here, count-other, scan-same, scan-low, scan-push, up-same, down-same, up-one, down-one, only-here, only-other}
 
 -- ---- how many words stay, by the tag
 -- what holds of each number of words holds of that of any tag
-stays-by : (P : ℕ → Type 0) → P 3 → P 9 → P 10 → P 11 → P 12 → (t : ℕ) → P (stays t)
-stays-by P n s r d o t = by (eqb t tagNode) (eqb t tagScope) (eqb t tagRoute) (eqb t tagStored)
+stays-by : (P : ℕ → Type 0) → P 3 → P 9 → P 10 → P 12 → (t : ℕ) → P (stays t)
+stays-by P n s r o t = by (eqb t tagNode) (eqb t tagScope) (eqb t tagRoute) (keyed t)
   where
-    by : (x y z u : Bool) → P (choose x 3 (choose y 9 (choose z 10 (choose u 11 12))))
+    by : (x y z u : Bool) → P (choose x 3 (choose y 9 (choose z 10 (choose u 9 12))))
     by true y z u = n
     by false true z u = s
     by false false true u = r
-    by false false false true = d
+    by false false false true = s
     by false false false false = o
 
 pub stays-least : (t : ℕ) → 3 ≤ stays t
-stays-least = stays-by (λ k. 3 ≤ k) (omega arith) (omega arith) (omega arith) (omega arith) (omega arith)
+stays-least = stays-by (λ k. 3 ≤ k) (omega arith) (omega arith) (omega arith) (omega arith)
 
 pub stays-most : (t : ℕ) → stays t ≤ 12
-stays-most = stays-by (λ k. k ≤ 12) (omega arith) (omega arith) (omega arith) (omega arith) (omega arith)
+stays-most = stays-by (λ k. k ≤ 12) (omega arith) (omega arith) (omega arith) (omega arith)
 
--- all but a node's and a scope's keep ten; all but those and a route's eleven
-pub stays-ten : (t : ℕ) → (t ≡ tagNode → ⊥) → (t ≡ tagScope → ⊥) → 10 ≤ stays t
-stays-ten t a b = rw (ne-eqb t tagNode a, ne-eqb t tagScope b) (by (eqb t tagRoute) (eqb t tagStored))
+-- all but a node's keep nine
+pub stays-nine : (t : ℕ) → (t ≡ tagNode → ⊥) → 9 ≤ stays t
+stays-nine t a = rw (ne-eqb t tagNode a) (by (eqb t tagScope) (eqb t tagRoute) (keyed t))
   where
-    by : (z u : Bool) → 10 ≤ choose z 10 (choose u 11 12)
-    by true u = omega arith
-    by false true = omega arith
-    by false false = omega arith
-
-pub stays-eleven : (t : ℕ) → (t ≡ tagNode → ⊥) → (t ≡ tagScope → ⊥) → (t ≡ tagRoute → ⊥) → 11 ≤ stays t
-stays-eleven t a b c = rw (ne-eqb t tagNode a, ne-eqb t tagScope b, ne-eqb t tagRoute c) (by (eqb t tagStored))
-  where
-    by : (u : Bool) → 11 ≤ choose u 11 12
-    by true = omega arith
-    by false = omega arith
+    by : (y z u : Bool) → 9 ≤ choose y 9 (choose z 10 (choose u 9 12))
+    by true z u = omega arith
+    by false true u = omega arith
+    by false false true = omega arith
+    by false false false = omega arith
 
 -- ---- a record whose words that never change are the same
 module _ {r : ℕ} {w w′ : List ℕ} (s : Steady r w w′) where

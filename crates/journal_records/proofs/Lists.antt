@@ -50,6 +50,18 @@ module _ (p : ℕ → Bool) where
   last-none zero h = refl
   last-none (suc c) h = rw (h c (omega arith)) (last-none c (λ r l. h r (omega arith)))
 
+  -- one that passes, where none above it does
+  pub last-at : (c m : ℕ) → m < c → p m ≡ true → ((r : ℕ) → m < r → r < c → p r ≡ false) → newestBelow p c ≡ suc m
+  unfolding newestBelow
+  last-at zero m l e h = absurd (omega arith)
+  last-at (suc c) m l e h = by (eqb m c) refl (λ k. last-at c m k e (λ r a b. h r a (omega arith)))
+    where
+      by : (t : Bool) → eqb m c ≡ t → (m < c → newestBelow p c ≡ suc m) → choose (p c) (suc c) (newestBelow p c) ≡ suc m
+      by true q go = let z : m ≡ c = eqb-true m c q in let f : p c ≡ true = rw z at e in rw (f, z)
+      by false q go =
+          let ne : m ≡ c → ⊥ = eqb-false m c q in
+          rw (h c (omega arith) (omega arith)) (go (omega arith))
+
   pub newest-here : (c : ℕ) → p c ≡ true → newestOf p (c + 1) ≡ some c
   unfolding newestOf
   newest-here c e = rw (add-one c, e)

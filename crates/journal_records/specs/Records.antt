@@ -1,5 +1,6 @@
 -- The arena: records of twelve words, one to a charge. Word 0 of a record is its tag.
 use mathlib.Core.Path.{_≡_}
+use mathlib.Core.Bool.{Bool, true}
 use mathlib.Core.List.{List}
 use Prim.Native.Nat.{ℕ, _+_, _*_, _<_, _≤_}
 use lib.ListN.{getD}
@@ -57,9 +58,13 @@ tagInstance = 14
 unfoldable pub cell : List ℕ → ℕ → ℕ → ℕ
 cell w r j = getD w (r * 12 + j) 0
 
+-- the tags of keyed records: a record of them is found by its tag and its words 1 and 2
+abbrev pub keyed : ℕ → Bool
+keyed t = choose (eqb t tagMap) true (choose (eqb t tagExtern) true (eqb t tagStored))
+
 -- how many of a record's first words never change, by its tag
 abbrev pub stays : ℕ → ℕ
-stays t = choose (eqb t tagNode) 3 (choose (eqb t tagScope) 9 (choose (eqb t tagRoute) 10 (choose (eqb t tagStored) 11 12)))
+stays t = choose (eqb t tagNode) 3 (choose (eqb t tagScope) 9 (choose (eqb t tagRoute) 10 (choose (keyed t) 9 12)))
 
 -- all words of the records below c are the same
 pub record Same (c : ℕ) (w w′ : List ℕ) : Type 0 where

@@ -11,6 +11,7 @@ use Rattle.expansion_definition.specs.State.{ok, withNodes}
 use Rattle.journal_records.specs.Records.{tagExtern, tagNode, tagField, tagInterface, tagStatement, tagOrder, tagStored, tagScope, tagRoute, tagInstance, cell, Fixed, Pushed}
 use Rattle.journal_lists.specs.Owned.{headWord}
 use Rattle.journal_records.proofs.Frame.{stays-most}
+use Rattle.journal_index.proofs.Keys.{keyed-low}
 use Rattle.journal_index.proofs.Index.{index-keep}
 use Rattle.journal_lists.proofs.Owned.{owned-keep}
 use Rattle.journal_lists.proofs.Families.{families-keep}
@@ -72,7 +73,7 @@ module _ {n : ℕ} {w w′ : List ℕ} (x : OnlyNode n w w′) where
       scopes = so .scopes ∙ sym (below-fixed tagScope (node-fixed c) c (omega arith));
       externs = so .externs ∙ sym (below-fixed tagExtern (node-fixed c) c (omega arith));
       fair = record { each = λ r l. fair-fixed (node-fixed c) c r l (λ e. which r (λ z. rw z closed) (λ ne. closed-fixed (node-fixed c) r (omega arith) (λ j a b. x .other r j ne b) (so .fair .each r l .node e))) (so .fair .each r l) };
-      index = index-keep (node-fixed c) (so .index) (λ b lb. heads (headsAt L + b) (omega arith));
+      index = index-keep (node-fixed c) (record { keeps = λ n j ln e lo hi. which n (λ z. absurd (keyed-low (cell w n 0) e .1 (rw z (x .node)))) (λ ne. x .other n j ne (omega arith)) }) (so .index) (λ b lb. heads (headsAt L + b) (omega arith));
       owned = owned-keep (node-fixed c) (so .owned) (λ r g l e o. x .other r (headWord g) (another r tagScope (λ z. omega arith) e) (omega (arith, o .high)));
       families = families-keep (node-fixed c) (λ r l e. x .other r 11 (another r tagStored (λ z. omega arith) e) (omega arith)) (so .families);
     }

@@ -9,13 +9,12 @@ use Rattle.expansion_definition.specs.Charges.{oneMore}
 use Rattle.expansion_definition.specs.Instances.{addEntry}
 use Rattle.journal_records.specs.declared.Record.{Record}
 use Rattle.journal_records.specs.Records.{tagExtern, tagNode, tagScope, cell}
-use Rattle.journal_records.specs.Logs.{newestBelow}
-use Rattle.journal_index.specs.Index.{slotOf, inSlot, linked, RecordEntered}
+use Rattle.journal_index.specs.Index.{linked, RecordEntered}
 use Rattle.journal_lists.proofs.Owned.{owned-enter}
-use Rattle.journal_lists.proofs.Families.{families-one}
+use Rattle.journal_lists.proofs.Families.{families-enter}
 use Rattle.journal_reading.specs.WellFormed.{NodeAt, MapClosed, RecordWellFormed}
 use Rattle.journal_reading.proofs.Fair.{fair-plain, node-at-fixed, scope-at-fixed}
-use Rattle.journal_reading.proofs.Nodes.{calm-same}
+use Rattle.journal_reading.proofs.Nodes.{calm-enter}
 use Rattle.journal_reading.specs.RecordsStay.{RecordsStay}
 use Rattle.journal_reading.proofs.States.{state-map}
 use Rattle.refine_records.specs.declared.Limits.{Limits}
@@ -36,12 +35,12 @@ module _ {L : Limits} {w : List ℕ} {t : Counts} (so : JournalSound L w t) (e :
   abbrev c : ℕ
   c = t .charges
 
-  -- what is written: the record with its link and its slot
+  -- what is written: the record with its links
   abbrev put : Record
-  put = linked (mapRecord e id out place) (newestBelow (inSlot w (slotOf (L .slots) (e .place) id)) c) (slotOf (L .slots) (e .place) id)
+  put = linked (mapRecord e id out place) (cell w′ c 9) (cell w′ c 10)
 
   calm : RecordsStay c w w′
-  calm = calm-same (p .same)
+  calm = calm-enter p
 
   closed : MapClosed w′ c
   closed = record {
@@ -58,7 +57,7 @@ module _ {L : Limits} {w : List ℕ} {t : Counts} (so : JournalSound L w t) (e :
       (count-other (calm .fixed) put (p .holds) tagNode (so .nodes) (λ z. omega arith))
       (count-other (calm .fixed) put (p .holds) tagScope (so .scopes) (λ z. omega arith))
       (count-other (calm .fixed) put (p .holds) tagExtern (so .externs) (λ z. omega arith))
-      (alone c (RecordWellFormed w′ (c + 1)) fair) (p .index) (owned-enter p refl (so .owned)) (families-one (p .same) (λ e. omega (arith, p .holds .at0)) (so .families))
+      (alone c (RecordWellFormed w′ (c + 1)) fair) (p .index) (owned-enter p refl (so .owned)) (families-enter p (λ e. omega (arith, p .holds .at0)) (so .families))
 
   pub entry-later : (young : ℕ) → Later L young w t w′ (charged t 1)
   entry-later young =

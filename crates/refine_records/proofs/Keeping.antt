@@ -8,7 +8,7 @@ use native.Mathlib.Omega.{arith}
 use lib.ListN.{length}
 use Rattle.journal_records.specs.declared.Record.{Record}
 use Rattle.journal_records.specs.Records.{tagExtern, tagNode, tagScope, cell, stays, Fixed, Pushed}
-use Rattle.journal_records.proofs.Frame.{same-fixed, stays-eleven}
+use Rattle.journal_records.proofs.Frame.{same-fixed, stays-nine}
 use Rattle.journal_index.proofs.Keys.{unkeyed}
 use Rattle.journal_index.proofs.Index.{index-push}
 use Rattle.journal_lists.proofs.Owned.{owned-push}
@@ -94,8 +94,8 @@ module _ {w : List ℕ} {t : Counts} {r : Record} {w′ : List ℕ} {t′ : Coun
   pub kept-handle : HandleAt w′ (t′ .charges) (r .tag) v
   kept-handle = rw (x .counts, x .handle) (handle-new w′ (t .charges) (r .tag) (x .pushed .holds .at0))
 
-  most : 11 ≤ stays (r .tag)
-  most = stays-eleven (r .tag) (λ e. omega (arith, k .least)) (λ e. omega (arith, k .most)) (λ e. omega (arith, k .most))
+  most : 9 ≤ stays (r .tag)
+  most = stays-nine (r .tag) (λ e. omega (arith, k .least))
 
   fx : Fixed (t .charges) w w′
   fx = same-fixed (x .pushed .same)

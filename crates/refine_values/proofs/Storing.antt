@@ -6,6 +6,7 @@ use native.Mathlib.Omega.{arith}
 use lib.ListN.{length}
 use Rattle.journal_records.specs.declared.Record.{Record}
 use Rattle.journal_records.specs.Records.{tagExtern, tagNode, tagStored, tagScope, cell}
+use Rattle.journal_index.proofs.Keys.{keyed-low}
 use Rattle.journal_lists.specs.Owned.{headWord}
 use Rattle.journal_lists.specs.Families.{Joinable, familyJoined, Joined}
 use Rattle.journal_lists.proofs.Owned.{owned-keep, owned-step}
@@ -74,7 +75,7 @@ module _ (L : Limits) (w : List ℕ) (t : Counts) (name ty class payload h : ℕ
         (count-other (calm .fixed) put (p .holds) tagExtern (so .externs) (silent .extern))
         (alone c (RecordWellFormed w′ (c + 1)) fair)
         (p .index)
-        (owned-step (owned-keep (calm .fixed) (so .owned) (λ r g l e o. p .other r (headWord g) l (omega (arith, o .high)) (λ z q. omega arith))) (λ a b. omega (arith, p .holds .at0)))
+        (owned-step (owned-keep (calm .fixed) (so .owned) (λ r g l e o. p .other r (headWord g) l (omega (arith, o .high)) (λ z q. omega arith) (λ y lo hi. omega (arith, keyed-low (cell w r 0) y .0)))) (λ a b. omega (arith, p .holds .at0)))
         (p .families)
 
     later : (young : ℕ) → Later L young w t w′ (charged t 1)

@@ -28,12 +28,15 @@ pub fn part_of(group: usize) -> Part
 // Three groups to each of 65 slots.
 const INDEXES: usize = 195;
 
-// So many elements to a word that the indexes of all rows fit the room, where each of the indexes may have a word that stands
-// for fewer. Any other number would give the same answers.
+// So many elements to a word that the indexes of all rows fit the room: one where the room has a word for each row, else so
+// many that each of the indexes may have a word that stands for fewer. Any other number would give the same answers.
 pub fn stride(total: usize, room: usize) -> u32
     requires { ⌜ total ≤ 2 * 1048576 ⌝ }
-    ensures { λ n. ⌜ (0 < n) × (195 < room → total < n * (room - 195)) ⌝ }
+    ensures { λ n. ⌜ (0 < n) × (total ≤ room → n ≡ 1) × (195 < room → room < total → total < n * (room - 195)) ⌝ }
 {
+    if total <= room {
+        return 1;
+    }
     if room <= INDEXES {
         return (total + 1) as u32;
     }

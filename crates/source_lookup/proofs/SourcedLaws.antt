@@ -5,13 +5,14 @@ use Prim.Native.Nat.{ℕ, _+_, _-_, _*_, _≤_, _<_}
 use native.Mathlib.Omega.{arith}
 use lib.ListN.{length, getD, take, drop}
 use Rattle.sheet_rows.specs.Rows.{rows}
+use Rattle.sheet_rows.proofs.RowLaws.{rows-length}
 use Rattle.sheet_walks.specs.declared.walk.Found.{Found}
 use Rattle.sheet_index.specs.Index.{Filled}
 use Rattle.sheet_lookup.specs.Lookup.{sheetOf}
 use Rattle.source_directory.specs.Directory.{numberOf, rowOf, strideOf, cacheOf, namesOf, spreadOf, groupPart, indexPlace, filledOf, Slot}
-use Rattle.source_names.specs.Names.{LastField, NameTable, NodeTabled}
+use Rattle.source_names.specs.Names.{LastField, NameTable, NodeTabled, tableSheet}
 use Rattle.source_lookup.specs.Sourced.{Sourced, Region}
-use Rattle.source_names.proofs.NameLaws.{listed-on}
+use Rattle.source_names.proofs.NameLaws.{sheet-small, listed-on}
 use Rattle.source_directory.proofs.GroupLaws.{held-filled, held-on}
 
 module _ {root library dir w : List ℕ} (s : Sourced root library dir w) where
@@ -60,19 +61,21 @@ module _ {root library dir w : List ℕ} (s : Sourced root library dir w) (slot 
   pub last-of : {n m : ℕ} {x : Found} → LastField m (rows sheet) n x → LastField m (rows (sheetOf root library (numberOf dir slot))) n x
   last-of l = rw sheet-is at l
 
-  -- of the root, by a node's table
-  module _ (zero : slot ≡ 0) where
-    sheet-root : sheet ≡ root
-    sheet-root = sheet-is ∙ rw (zero, s .directory .number)
+  pub node-small : {n : ℕ} → n < length (rows (sheetOf root library (numberOf dir slot))) → n ≤ 1048576
+  node-small h =
+      let e = isSheet in
+      omega (arith, node-below h, rows-length sheet, sheet-small root library doc e (s .directory .rootSmall) (s .directory .small))
 
-    pub table-at : {i p c h : ℕ} → p ≡ namesOf dir → c ≡ spreadOf dir → i < c → h ≡ getD w (p + i) 0 → 0 < h → NodeTabled (rows sheet) w (namesOf dir + spreadOf dir) (cacheOf dir) h
-    table-at {i} {p} {c} {h} a b g e z =
-        let y : h ≡ getD w (namesOf dir + i) 0 = rw a at e in
-        rw (sheet-root, y) (s .names .listed .table i (omega (arith, b)) (omega (arith, y)))
+  -- by a node's table
+  pub table-at : {n i p c h : ℕ} → n < length (rows (sheetOf root library (numberOf dir slot))) → ((l : List ℕ) → n < length (rows (sheetOf root l doc)) → tableSheet root l i ≡ sheetOf root l doc) → p ≡ namesOf dir → c ≡ spreadOf dir → i < c → h ≡ getD w (p + i) 0 → 0 < h → NodeTabled sheet w (namesOf dir + spreadOf dir) (cacheOf dir) h
+  table-at {n} {i} {p} {c} {h} k f a b g e z =
+      let y : h ≡ getD w (namesOf dir + i) 0 = rw a at e in
+      let v : sheet ≡ tableSheet root library i = isSheet ∙ sym (f library (rw isDoc k)) in
+      rw (v, y) (s .names .listed .table i (omega (arith, b)) (omega (arith, y)))
 
-  module _ {lo h : ℕ} (t : NodeTabled (rows sheet) w lo (cacheOf dir) h) where
+  module _ {lo h : ℕ} (t : NodeTabled sheet w lo (cacheOf dir) h) where
     pub table-within : h + 2 + getD w (h + 1) 0 ≤ length w
     table-within = omega (arith, t .upto, s .cache .upto, s .within)
 
-    pub table-tells : {n x span : ℕ} → x ≡ getD w h 0 → x ≡ n → span ≡ getD w (h + 1) 0 → NameTable (rows sheet) n span w (h + 2)
+    pub table-tells : {n x count : ℕ} → x ≡ getD w h 0 → x ≡ n → count ≡ getD w (h + 1) 0 → NameTable sheet n count w (h + 2)
     table-tells {n = n} a b c = let y : getD w h 0 ≡ n = sym a ∙ b in let z = sym c in rw (y, z) at (t .tells)

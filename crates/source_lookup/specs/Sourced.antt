@@ -10,10 +10,10 @@ use Rattle.source_names.specs.Names.{TablesListed}
 use Rattle.source_directory.specs.Directory.{fromOf, endOf, cacheOf, cachedOf, namesOf, spreadOf, Slot, Directory, HeldAt}
 use Rattle.source_lookup.specs.Instance.{PickedAs, targetAt}
 
--- the tables of names of the root's nodes
-pub record RootNames (root dir w : List ℕ) : Type 0 where
+-- the tables of names of the nodes of the documents
+pub record NamesListed (root library dir w : List ℕ) : Type 0 where
   pub from : fromOf dir ≤ namesOf dir
-  pub listed : TablesListed (rows root) w (namesOf dir) (spreadOf dir) (cacheOf dir)
+  pub listed : TablesListed root library w (namesOf dir) (spreadOf dir) (cacheOf dir)
 
 -- the first picks of the root's externs, in w: a target in two words, and a mark
 pub record Cached (root library dir w : List ℕ) : Type 0 where
@@ -26,7 +26,7 @@ pub record Sourced (root library dir w : List ℕ) : Type 0 where
   pub directory : Directory root library dir
   pub within : endOf dir ≤ length w
   pub held : (s g : ℕ) → g < 3 → Slot dir s → HeldAt root library dir w (fromOf dir) (cacheOf dir) s g
-  pub names : RootNames root dir w
+  pub names : NamesListed root library dir w
   pub cache : Cached root library dir w
 
 -- the words of w that a directory speaks of

@@ -130,15 +130,14 @@ pub fn last_field<'a>(
     requires { ⌜ Sourced (now root) (now library) (now dir) (now work) × Slot (now dir) slot × (node < length (rows (sheetOf (now root) (now library) (numberOf (now dir) slot)))) ⌝ }
     ensures { λ x. ⌜ LastField name (rows (sheetOf (now (root .entry)) (now (library .entry)) (numberOf (now (dir .entry)) slot))) node x ⌝ }
 {
-    let sheet = sheet_lookup::rows::select(root, library, source_directory::number(dir, slot));
-    let i = node / 16;
-    if slot == 0 {
-        if i < wide(dir[source_directory::SPREAD]) {
-            let at = wide(work[wide(dir[source_directory::NAMES]) + i]);
-            if 0 < at {
-                if wide(work[at]) == node {
-                    return source_names::named(sheet, work, at + 2, wide(work[at + 1]), node, name);
-                }
+    let number = source_directory::number(dir, slot);
+    let sheet = sheet_lookup::rows::select(root, library, number);
+    let i = source_names::place_of(root, number, node);
+    if i < wide(dir[source_directory::SPREAD]) {
+        let at = wide(work[wide(dir[source_directory::NAMES]) + i]);
+        if 0 < at {
+            if wide(work[at]) == node {
+                return source_names::named(sheet, work, at + 2, wide(work[at + 1]), node, name);
             }
         }
     }

@@ -35,7 +35,7 @@ opened root library dir w t stride at len ys f s small rootSmall long h e =
 
 -- ---- the indexes and the tables of names are written, and the cache is empty
 
-module _ {root library dir₀ dir dirₙ w₀ w₁ w w₂ : List ℕ} {at len indexed half next : ℕ} (b : DirectoryWritten root library w₀ w₁ at len dir₀) (a : AllGrouped root library dir₀ dir w₁ w at (at + len) indexed) (n : Listing root dir dirₙ w w₂ indexed half next) (within : half ≤ at + len) where
+module _ {root library dir₀ dir dirₙ w₀ w₁ w w₂ : List ℕ} {at len indexed next : ℕ} (b : DirectoryWritten root library w₀ w₁ at len dir₀) (a : AllGrouped root library dir₀ dir w₁ w at (at + len) indexed) (n : Listing root library dir dirₙ w w₂ at indexed (at + len) next) where
   abbrev dir₁ : List ℕ
   dir₁ = set dirₙ 196 next
 
@@ -80,7 +80,7 @@ module _ {root library dir₀ dir dirₙ w₀ w₁ w w₂ : List ℕ} {at len in
       held-dir root library dir dir₂ u g
       (same-low u (omega arith)) (same-low (65 + u) (omega arith)) (same-low 195 (omega arith))
       (same-high (groupOf u g) (omega arith) (omega arith)) (same-high (groupOf u g + 1) (omega arith) (omega arith))
-      (held-on (a .indexing .held u g h (omega (arith, y .upto)) y) (omega (arith, from-is)) (omega (arith, cache-is, n .grown .after)) (λ k i j. n .grown .stays .below k j))
+      (held-on (a .indexing .held u g h (omega (arith, y .upto)) y) (omega (arith, from-is)) (omega (arith, cache-is, n .grown .after)) (λ k i j. n .grown .between k i j))
 
   pub started : at + len ≤ length w₀ → Sourced root library dir₂ w₂
   started h = record {

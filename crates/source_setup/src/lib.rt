@@ -42,8 +42,7 @@ pub fn prepare<'a>(
     write_directory(root, library, work, at, len, dir);
     let end = at + len;
     let indexed = indexes::index_all(root, library, dir, work, at, end);
-    let half = (end - indexed) / 2;
-    let next = listing::list(root, dir, work, indexed, indexed + half);
+    let next = listing::list(root, library, dir, work, at, indexed, end);
     dir[source_directory::CACHE] = next as u32;
     dir[source_directory::CACHED] = 0;
     cache::remember(root, library, dir, work);

@@ -25,7 +25,7 @@ use Rattle.writer_lists.specs.Cells.{cellChain, cellIds, valueCells, fieldCells
 word : (w : List ℕ) (r t j : ℕ) → cell w r 0 ≡ t → j < stays t → fixedWord w r j ≡ cell w r j
 word w r t j e l = kept-is w r t j (cell w r j) e l refl
 
-listed-word : (w : List ℕ) (r t j : ℕ) → listed t ≡ true → cell w r 0 ≡ t → j < 11 → fixedWord w r j ≡ cell w r j
+listed-word : (w : List ℕ) (r t j : ℕ) → listed t ≡ true → cell w r 0 ≡ t → j < 9 → fixedWord w r j ≡ cell w r j
 listed-word w r t j l e lj = word w r t j e (omega (arith, listed-stays t l))
 
 module _ {w : List ℕ} where
@@ -41,7 +41,7 @@ module _ {w : List ℕ} where
     value-read : (r t : ℕ) → r < c → cell w r 0 ≡ t → valued t ≡ true → state.valueRec w r ≡ valueCells w r
     value-read r t lr e v = rw (k 5 (omega arith), k 6 (omega arith), k 7 (omega arith)) (by (eqb (cell w r 6) 2) refl)
       where
-        k : (j : ℕ) → j < 11 → fixedWord w r j ≡ cell w r j
+        k : (j : ℕ) → j < 9 → fixedWord w r j ≡ cell w r j
         k j lj = listed-word w r t j (valued-listed t v) e lj
 
         by : (b : Bool) → eqb (cell w r 6) 2 ≡ b

@@ -5,44 +5,43 @@ use Rattle.journal_index.proofs.enter.Tie as tie
 use Rattle.journal_index.proofs.enter.Reads as reads
 use Rattle.journal_index.proofs.enter.Lts as lts
 use Rattle.journal_index.proofs.head.Reads as head-reads
-use Rattle.journal_records.proofs.push.Reads as push-reads
+use Rattle.journal_index.proofs.raise.Reads as raise-reads
 use Rattle.journal_index.proofs.slot.Reads as slot-reads
-use lib.ListN.{length}
-use Rattle.journal_index.proofs.Index.{enter-law}
+use Rattle.journal_records.proofs.push.Reads as push-reads
+use mathlib.Core.Path.{_∙_}
+use lib.ListN.{length, length-set}
+use Rattle.journal_index.proofs.Index.{enter-raise, enter-law}
 use native.Mathlib.Omega.{arith}
 
 slot-requires : tie.Need-slot-requires
 slot-requires c κs = c .before .pre .index .some
 
 head-requires : tie.Need-head-requires
-head-requires c κs = (omega (arith, c .before .before .before .pre .room .records, c .before .before .before .pre .room .heads), omega (arith, c .before .before .before .pre .room .heads, c .before .slot .ensures .below))
-
-cast-work : tie.Need-cast-work
-cast-work c = omega (arith, c .before .before .before .before .before .pre .room .narrow, c .before .before .before .before .before .pre .index .few, c .before .before .before .slot .ensures .below, c .before .head .ensures .low)
-
-cast-t14 : tie.Need-cast-t14
-cast-t14 c = omega (arith, c .before .before .before .before .before .pre .room .narrow, c .before .before .before .before .before .pre .index .few, c .before .before .before .slot .ensures .below, c .before .head .ensures .low)
+head-requires c κs = (omega (arith, c .before .before .before .pre .room .records, c .before .before .before .pre .room .heads), omega (arith, c .before .before .before .pre .room .heads, c .before .slot .ensures .below), c .before .before .before .pre .index .some)
 
 push-requires : tie.Need-push-requires
 push-requires c κs = omega (arith, c .before .before .before .before .before .pre .room .records, c .before .before .before .before .before .pre .room .heads)
 
-cast-work-2 : tie.Need-cast-work-2
-cast-work-2 c = omega (arith, c .before .before .before .before .before .before .before .before .pre .room .narrow, c .before .before .before .before .before .before .before .before .pre .index .few, c .before .before .before .before .before .before .slot .ensures .below, c .before .before .before .before .head .ensures .low)
+raise-requires : tie.Need-raise-requires
+raise-requires c κs = enter-raise _ _ _ _ (c .before .before .before .before .before .before .before .before .before .args .r) (c .before .before .before .before .before .before .before .before .before .pre .room) (c .before .before .before .before .before .before .before .before .before .pre .index) (c .before .before .before .before .before .before .before .before .before .pre .key) _ (c .before .before .before .before .before .before .before .slot .ensures) _ (c .before .before .before .before .before .head .ensures .same) _ (c .before .before .before .push .kept .0) (c .before .before .before .push .ensures)
+
+cast-work : tie.Need-cast-work
+cast-work c = omega (arith, c .before .before .before .before .before .before .before .before .before .before .before .before .pre .room .narrow)
 
 add-work : tie.Need-add-work
-add-work c = omega (arith, c .before .before .before .before .before .before .before .before .pre .room .heads, c .before .before .before .before .before .before .slot .ensures .below, c .before .before .push .kept .0)
+add-work c = omega (arith, c .before .before .before .before .before .before .before .before .before .before .before .before .pre .room .heads, c .before .before .before .before .before .before .before .before .before .before .slot .ensures .below, c .before .before .before .before .before .before .push .kept .0, c .before .before .raise .kept .0)
 
 mul-work : tie.Need-mul-work
-mul-work c = omega (arith, c .before .before .before .before .before .before .before .before .pre .room .heads, c .before .before .before .before .before .before .slot .ensures .below, c .before .before .push .kept .0)
+mul-work c = omega (arith, c .before .before .before .before .before .before .before .before .before .before .before .before .pre .room .heads, c .before .before .before .before .before .before .before .before .before .before .slot .ensures .below, c .before .before .before .before .before .before .push .kept .0, c .before .before .raise .kept .0)
 
 slice-write-work : tie.Need-slice-write-work
-slice-write-work c = omega (arith, c .before .before .before .before .before .before .before .before .pre .room .heads, c .before .before .before .before .before .before .slot .ensures .below, c .before .before .push .kept .0)
+slice-write-work c = omega (arith, c .before .before .before .before .before .before .before .before .before .before .before .before .pre .room .heads, c .before .before .before .before .before .before .before .before .before .before .slot .ensures .below, c .before .before .before .before .before .before .push .kept .0, c .before .before .raise .kept .0)
 
 same-length : tie.Need-same-length
-same-length c = search needs
+same-length c = simp length-set ((c .before .before .raise .kept .0) ∙ (c .before .before .before .before .before .before .push .kept .0))
 
 returns : tie.Need-returns
-returns c = enter-law _ _ _ _ _ (c .before .before .before .before .before .before .before .before .pre .room) (c .before .before .before .before .before .before .before .before .pre .index) (c .before .before .before .before .before .before .before .before .pre .key) _ (c .before .before .before .before .before .before .slot .ensures) _ (c .before .before .before .before .head .ensures .same) _ (c .before .before .push .kept .0) (c .before .before .push .ensures)
+returns c = enter-law _ _ _ _ _ (c .before .before .before .before .before .before .before .before .before .before .before .before .pre .room) (c .before .before .before .before .before .before .before .before .before .before .before .before .pre .index) (c .before .before .before .before .before .before .before .before .before .before .before .before .pre .key) _ (c .before .before .before .before .before .before .before .before .before .before .slot .ensures) _ (c .before .before .before .before .before .before .before .before .head .ensures .same) _ (c .before .before .before .before .before .before .push .kept .0) (c .before .before .before .before .before .before .push .ensures) _ (c .before .before .raise .kept .0) (c .before .before .raise .ensures)
 
 pub enter-spec : {M : Type 1} → statement M
 enter-spec =
@@ -50,10 +49,9 @@ enter-spec =
     (tie.spec
     slot-requires
     head-requires
-    cast-work
-    cast-t14
     push-requires
-    cast-work-2
+    raise-requires
+    cast-work
     add-work
     mul-work
     slice-write-work

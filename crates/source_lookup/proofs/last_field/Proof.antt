@@ -6,10 +6,11 @@ use Rattle.source_lookup.proofs.last_field.Reads as reads
 use Rattle.source_lookup.proofs.last_field.Lts as lts
 use Rattle.sheet_lookup.proofs.rows.select.Reads as select-reads
 use Rattle.source_directory.proofs.number.Reads as number-reads
-use Rattle.words_lent.proofs.wide.Reads as wide-reads
 use Rattle.source_names.proofs.named.Reads as named-reads
+use Rattle.source_names.proofs.place_of.Reads as place-of-reads
 use Rattle.source_names.proofs.walked.Reads as walked-reads
-use Rattle.source_lookup.proofs.SourcedLaws.{node-below, last-of, table-at, table-within, table-tells}
+use Rattle.words_lent.proofs.wide.Reads as wide-reads
+use Rattle.source_lookup.proofs.SourcedLaws.{node-below, node-small, last-of, table-at, table-within, table-tells}
 use native.Mathlib.Omega.{arith}
 
 number-requires : tie.Need-number-requires
@@ -17,6 +18,9 @@ number-requires c κs = search needs
 
 select-requires : tie.Need-select-requires
 select-requires c κs = search needs
+
+place-of-requires : tie.Need-place-of-requires
+place-of-requires c κs = (c .before .before .before .before .before .before .pre .0 .directory .rootSmall, node-small (c .before .before .before .before .before .before .pre .0) (c .before .before .before .before .before .before .args .slot) (c .select .ensures) (c .before .number .ensures) (c .before .before .before .before .before .before .pre .2))
 
 shared-slice-read-wide : tie.Need-shared-slice-read-wide
 shared-slice-read-wide c = search needs
@@ -46,7 +50,7 @@ mul-wide-2 : tie.Need-mul-wide-2
 mul-wide-2 c = search needs
 
 shared-slice-read-wide-4 : tie.Need-shared-slice-read-wide-4
-shared-slice-read-wide-4 c = let t = table-at (c .before .before .before .before .before .before .before .before .before .before .before .before .before .before .before .before .pre .0) (c .before .before .before .before .before .before .before .before .before .before .before .before .before .before .before .before .args .slot) (c .before .before .before .before .before .before .before .before .before .before .select .ensures) (c .before .before .before .before .before .before .before .before .before .before .before .number .ensures) (c .before .before .before .before .before .before .before .before .before .if1 .taken) (c .before .before .before .before .wide2 .ensures .same) (c .before .before .before .before .before .before .before .wide .ensures .same) (c .before .before .before .before .before .before .if2 .taken) (c .before .before .wide3 .ensures .same) (c .before .if3 .taken) in omega (arith, table-within (c .before .before .before .before .before .before .before .before .before .before .before .before .before .before .before .before .pre .0) (c .before .before .before .before .before .before .before .before .before .before .before .before .before .before .before .before .args .slot) (c .before .before .before .before .before .before .before .before .before .before .select .ensures) (c .before .before .before .before .before .before .before .before .before .before .before .number .ensures) t)
+shared-slice-read-wide-4 c = let t = table-at (c .before .before .before .before .before .before .before .before .before .before .before .before .before .before .before .before .pre .0) (c .before .before .before .before .before .before .before .before .before .before .before .before .before .before .before .before .args .slot) (c .before .before .before .before .before .before .before .before .before .before .select .ensures) (c .before .before .before .before .before .before .before .before .before .before .before .number .ensures) (c .before .before .before .before .before .before .before .before .before .before .before .before .before .before .before .before .pre .2) (c .before .before .before .before .before .before .before .before .before .place-of .ensures) (c .before .before .before .before .wide2 .ensures .same) (c .before .before .before .before .before .before .before .wide .ensures .same) (c .before .before .before .before .before .before .if1 .taken) (c .before .before .wide3 .ensures .same) (c .before .if2 .taken) in omega (arith, table-within (c .before .before .before .before .before .before .before .before .before .before .before .before .before .before .before .before .pre .0) (c .before .before .before .before .before .before .before .before .before .before .before .before .before .before .before .before .args .slot) (c .before .before .before .before .before .before .before .before .before .before .select .ensures) (c .before .before .before .before .before .before .before .before .before .before .before .number .ensures) t)
 
 wide-requires-4 : tie.Need-wide-requires-4
 wide-requires-4 c κs = search needs
@@ -61,24 +65,24 @@ mul-wide-3 : tie.Need-mul-wide-3
 mul-wide-3 c = search needs
 
 shared-slice-read-wide-5 : tie.Need-shared-slice-read-wide-5
-shared-slice-read-wide-5 c = let t = table-at (c .before .before .before .before .before .before .before .before .before .before .before .before .before .before .before .before .before .before .before .pre .0) (c .before .before .before .before .before .before .before .before .before .before .before .before .before .before .before .before .before .before .before .args .slot) (c .before .before .before .before .before .before .before .before .before .before .before .before .before .select .ensures) (c .before .before .before .before .before .before .before .before .before .before .before .before .before .before .number .ensures) (c .before .before .before .before .before .before .before .before .before .before .before .before .if1 .taken) (c .before .before .before .before .before .before .before .wide2 .ensures .same) (c .before .before .before .before .before .before .before .before .before .before .wide .ensures .same) (c .before .before .before .before .before .before .before .before .before .if2 .taken) (c .before .before .before .before .before .wide3 .ensures .same) (c .before .before .before .before .if3 .taken) in omega (arith, table-within (c .before .before .before .before .before .before .before .before .before .before .before .before .before .before .before .before .before .before .before .pre .0) (c .before .before .before .before .before .before .before .before .before .before .before .before .before .before .before .before .before .before .before .args .slot) (c .before .before .before .before .before .before .before .before .before .before .before .before .before .select .ensures) (c .before .before .before .before .before .before .before .before .before .before .before .before .before .before .number .ensures) t)
+shared-slice-read-wide-5 c = let t = table-at (c .before .before .before .before .before .before .before .before .before .before .before .before .before .before .before .before .before .before .before .pre .0) (c .before .before .before .before .before .before .before .before .before .before .before .before .before .before .before .before .before .before .before .args .slot) (c .before .before .before .before .before .before .before .before .before .before .before .before .before .select .ensures) (c .before .before .before .before .before .before .before .before .before .before .before .before .before .before .number .ensures) (c .before .before .before .before .before .before .before .before .before .before .before .before .before .before .before .before .before .before .before .pre .2) (c .before .before .before .before .before .before .before .before .before .before .before .before .place-of .ensures) (c .before .before .before .before .before .before .before .wide2 .ensures .same) (c .before .before .before .before .before .before .before .before .before .before .wide .ensures .same) (c .before .before .before .before .before .before .before .before .before .if1 .taken) (c .before .before .before .before .before .wide3 .ensures .same) (c .before .before .before .before .if2 .taken) in omega (arith, table-within (c .before .before .before .before .before .before .before .before .before .before .before .before .before .before .before .before .before .before .before .pre .0) (c .before .before .before .before .before .before .before .before .before .before .before .before .before .before .before .before .before .before .before .args .slot) (c .before .before .before .before .before .before .before .before .before .before .before .before .before .select .ensures) (c .before .before .before .before .before .before .before .before .before .before .before .before .before .before .number .ensures) t)
 
 wide-requires-5 : tie.Need-wide-requires-5
 wide-requires-5 c κs = search needs
 
 named-requires : tie.Need-named-requires
 named-requires c κs =
-    let t = table-at (c .before .before .before .before .before .before .before .before .before .before .before .before .before .before .before .before .before .before .before .before .pre .0) (c .before .before .before .before .before .before .before .before .before .before .before .before .before .before .before .before .before .before .before .before .args .slot) (c .before .before .before .before .before .before .before .before .before .before .before .before .before .before .select .ensures) (c .before .before .before .before .before .before .before .before .before .before .before .before .before .before .before .number .ensures) (c .before .before .before .before .before .before .before .before .before .before .before .before .before .if1 .taken) (c .before .before .before .before .before .before .before .before .wide2 .ensures .same) (c .before .before .before .before .before .before .before .before .before .before .before .wide .ensures .same) (c .before .before .before .before .before .before .before .before .before .before .if2 .taken) (c .before .before .before .before .before .before .wide3 .ensures .same) (c .before .before .before .before .before .if3 .taken) in
-    ((node-below (c .before .before .before .before .before .before .before .before .before .before .before .before .before .before .before .before .before .before .before .before .pre .0) (c .before .before .before .before .before .before .before .before .before .before .before .before .before .before .before .before .before .before .before .before .args .slot) (c .before .before .before .before .before .before .before .before .before .before .before .before .before .before .select .ensures) (c .before .before .before .before .before .before .before .before .before .before .before .before .before .before .before .number .ensures) (c .before .before .before .before .before .before .before .before .before .before .before .before .before .before .before .before .before .before .before .before .pre .2), omega (arith, c .wide5 .ensures .same, t .wide), omega (arith, c .wide5 .ensures .same, table-within (c .before .before .before .before .before .before .before .before .before .before .before .before .before .before .before .before .before .before .before .before .pre .0) (c .before .before .before .before .before .before .before .before .before .before .before .before .before .before .before .before .before .before .before .before .args .slot) (c .before .before .before .before .before .before .before .before .before .before .before .before .before .before .select .ensures) (c .before .before .before .before .before .before .before .before .before .before .before .before .before .before .before .number .ensures) t)), table-tells (c .before .before .before .before .before .before .before .before .before .before .before .before .before .before .before .before .before .before .before .before .pre .0) (c .before .before .before .before .before .before .before .before .before .before .before .before .before .before .before .before .before .before .before .before .args .slot) (c .before .before .before .before .before .before .before .before .before .before .before .before .before .before .select .ensures) (c .before .before .before .before .before .before .before .before .before .before .before .before .before .before .before .number .ensures) t (c .before .before .before .wide4 .ensures .same) (c .before .before .if4 .taken) (c .wide5 .ensures .same))
+    let t = table-at (c .before .before .before .before .before .before .before .before .before .before .before .before .before .before .before .before .before .before .before .before .pre .0) (c .before .before .before .before .before .before .before .before .before .before .before .before .before .before .before .before .before .before .before .before .args .slot) (c .before .before .before .before .before .before .before .before .before .before .before .before .before .before .select .ensures) (c .before .before .before .before .before .before .before .before .before .before .before .before .before .before .before .number .ensures) (c .before .before .before .before .before .before .before .before .before .before .before .before .before .before .before .before .before .before .before .before .pre .2) (c .before .before .before .before .before .before .before .before .before .before .before .before .before .place-of .ensures) (c .before .before .before .before .before .before .before .before .wide2 .ensures .same) (c .before .before .before .before .before .before .before .before .before .before .before .wide .ensures .same) (c .before .before .before .before .before .before .before .before .before .before .if1 .taken) (c .before .before .before .before .before .before .wide3 .ensures .same) (c .before .before .before .before .before .if2 .taken) in
+    (omega (arith, c .wide5 .ensures .same, table-within (c .before .before .before .before .before .before .before .before .before .before .before .before .before .before .before .before .before .before .before .before .pre .0) (c .before .before .before .before .before .before .before .before .before .before .before .before .before .before .before .before .before .before .before .before .args .slot) (c .before .before .before .before .before .before .before .before .before .before .before .before .before .before .select .ensures) (c .before .before .before .before .before .before .before .before .before .before .before .before .before .before .before .number .ensures) t), table-tells (c .before .before .before .before .before .before .before .before .before .before .before .before .before .before .before .before .before .before .before .before .pre .0) (c .before .before .before .before .before .before .before .before .before .before .before .before .before .before .before .before .before .before .before .before .args .slot) (c .before .before .before .before .before .before .before .before .before .before .before .before .before .before .select .ensures) (c .before .before .before .before .before .before .before .before .before .before .before .before .before .before .before .number .ensures) t (c .before .before .before .wide4 .ensures .same) (c .before .before .if3 .taken) (c .wide5 .ensures .same))
 
 returns : tie.Need-returns
 returns c = last-of (c .before .before .before .before .before .before .before .before .before .before .before .before .before .before .before .before .before .before .before .before .before .pre .0) (c .before .before .before .before .before .before .before .before .before .before .before .before .before .before .before .before .before .before .before .before .before .args .slot) (c .before .before .before .before .before .before .before .before .before .before .before .before .before .before .before .select .ensures) (c .before .before .before .before .before .before .before .before .before .before .before .before .before .before .before .before .number .ensures) (c .named .ensures)
 
 walked-requires : tie.Need-walked-requires
-walked-requires c κs = node-below (c .before .before .before .before .before .before .before .pre .0) (c .before .before .before .before .before .before .before .args .slot) (c .before .select .ensures) (c .before .before .number .ensures) (c .before .before .before .before .before .before .before .pre .2)
+walked-requires c κs = node-below (c .before .before .before .before .before .before .before .before .before .before .pre .0) (c .before .before .before .before .before .before .before .before .before .before .args .slot) (c .before .before .before .before .select .ensures) (c .before .before .before .before .before .number .ensures) (c .before .before .before .before .before .before .before .before .before .before .pre .2)
 
 returns-2 : tie.Need-returns-2
-returns-2 c = last-of (c .before .before .before .before .before .before .before .before .pre .0) (c .before .before .before .before .before .before .before .before .args .slot) (c .before .before .select .ensures) (c .before .before .before .number .ensures) (c .walked .ensures)
+returns-2 c = last-of (c .before .before .before .before .before .before .before .before .before .before .before .pre .0) (c .before .before .before .before .before .before .before .before .before .before .before .args .slot) (c .before .before .before .before .before .select .ensures) (c .before .before .before .before .before .before .number .ensures) (c .walked .ensures)
 
 pub last-field-spec : {M : Type 1} → statement M
 last-field-spec =
@@ -86,6 +90,7 @@ last-field-spec =
     (tie.spec
     number-requires
     select-requires
+    place-of-requires
     shared-slice-read-wide
     wide-requires
     shared-slice-read-wide-2

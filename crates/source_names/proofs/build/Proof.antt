@@ -3,9 +3,9 @@ use Rattle.source_names.proofs.build.Statement.{statement}
 use Rattle.source_names.proofs.build.Tie as tie
 use Rattle.source_names.proofs.build.Reads as reads
 use Rattle.source_names.proofs.build.Lts as lts
+use Rattle.sheet_lookup.proofs.rows.select.Reads as select-reads
 use Rattle.sheet_walks.proofs.walk.seek.Reads as seek-reads
 use Rattle.source_names.proofs.add.Reads as add-reads
-use Rattle.words_lent.proofs.clear.Reads as clear-reads
 use Prim.Native.Nat.{_+_, _-_}
 use denote.Ref.{now}
 use lib.ListN.{length}
@@ -14,27 +14,24 @@ use Rattle.sheet_rows.specs.Rows.{rows}
 use Rattle.sheet_rows.proofs.RowLaws.{rows-length}
 use Rattle.sheet_walks.proofs.WalkLaws.{stands}
 use Rattle.source_names.specs.Names.{TablesGrown}
-use Rattle.source_names.proofs.NameLaws.{listed-clear, grown-none, grown-on, grown-all}
+use Rattle.source_names.proofs.NameLaws.{sheet-above, sheet-small, grown-none, grown-on}
 use native.Mathlib.Omega.{arith}
 use borrow.Author.Needs.{needs}
 
 abbrev Inv-loop : tie.InvT-loop
-Inv-loop sheet work₀ at many end place₀ from₀ work place from = TablesGrown (rows sheet) at many (at + many) end place work₀ work
+Inv-loop root library number row work₀ free at many place end sheet next₀ from₀ work next from = TablesGrown root library free at many place end next work₀ work
 
 abbrev μ-loop : tie.MeasureT-loop
-μ-loop sheet work₀ at many end place₀ from₀ work place from = length (rows sheet) - from
+μ-loop root library number row work₀ free at many place end sheet next₀ from₀ work next from = length (rows sheet) - from
 
-add-clear : tie.Need-add-clear Inv-loop μ-loop
-add-clear c = omega arith
+select-requires : tie.Need-select-requires Inv-loop μ-loop
+select-requires c κs = search needs
 
-clear-requires : tie.Need-clear-requires Inv-loop μ-loop
-clear-requires c κs = search needs
-
-add-place : tie.Need-add-place Inv-loop μ-loop
-add-place c = omega arith
+add-from : tie.Need-add-from Inv-loop μ-loop
+add-from c = omega (arith, c .before .before .before .before .pre .0 .2)
 
 loop-holds : tie.Need-loop-holds Inv-loop μ-loop
-loop-holds c = grown-none (listed-clear (c .before .before .clear .ensures)) (c .before .before .before .before .before .before .pre .1)
+loop-holds c = grown-none (c .before .before .before .before .pre .1) (c .before .before .before .before .pre .0 .4)
 
 seek-requires : tie.Need-seek-requires Inv-loop μ-loop
 seek-requires c κs = search needs
@@ -46,19 +43,19 @@ enum-told : tie.Need-enum-told Inv-loop μ-loop
 enum-told c = search needs
 
 same-length : tie.Need-same-length Inv-loop μ-loop
-same-length c = omega (arith, c .before .before .before .loop .inv .stays .long, c .before .before .before .before .before .before .clear .ensures .stays .long)
+same-length c = c .before .before .before .loop .inv .stays .long
 
 returns : tie.Need-returns Inv-loop μ-loop
-returns c = grown-all (c .before .before .before .before .before .before .clear .ensures) (c .before .before .before .loop .inv)
+returns c = c .before .before .before .loop .inv
 
 add-requires : tie.Need-add-requires Inv-loop μ-loop
-add-requires c κs = ((stands Nodes (rows (now (c .before .before .before .before .before .before .before .before .before .before .before .before .args .sheet))) (c .before .before .before .before .before .loop .from) (c .before .before .before .before .seek .ensures) (c .before .before .node .given .1) .below, c .before .before .before .before .before .before .before .before .before .before .before .before .pre .0, c .before .before .before .before .before .loop .inv .upto, omega (arith, c .before .before .before .before .before .loop .inv .stays .long, c .before .before .before .before .before .before .before .before .clear .ensures .stays .long), c .before .before .before .before .before .before .before .before .before .before .before .before .pre .3), c .before .before .before .before .before .loop .inv .listed)
+add-requires c κs = let s = stands Nodes (rows (now (c .before .before .before .before .before .before .select .result))) (c .before .before .before .before .before .loop .from) (c .before .before .before .before .seek .ensures) (c .before .before .node .given .1) in ((c .before .before .before .before .before .before .before .before .before .before .pre .0 .0, c .before .before .before .before .before .before .before .before .before .before .pre .0 .1, sheet-above (now (c .before .before .before .before .before .before .before .before .before .before .args .root)) (now (c .before .before .before .before .before .before .before .before .before .before .args .library)) (c .before .before .before .before .before .before .before .before .before .before .args .number) (c .before .before .before .before .before .before .select .ensures) (s .below), c .before .before .before .before .before .before .before .before .before .before .pre .0 .3, c .before .before .before .before .before .loop .inv .upto, omega (arith, c .before .before .before .before .before .before .before .before .before .before .pre .0 .5, c .before .before .before .before .before .loop .inv .stays .long), c .before .before .before .before .before .before .before .before .before .before .pre .0 .6), c .before .before .before .before .before .loop .inv .listed)
 
-add-from : tie.Need-add-from Inv-loop μ-loop
-add-from c = omega (arith, stands Nodes (rows (now (c .before .before .before .before .before .before .before .before .before .before .before .before .before .before .before .args .sheet))) (c .before .before .before .before .before .before .before .before .loop .from) (c .before .before .before .before .before .before .before .seek .ensures) (c .before .before .before .before .before .node .given .1) .below, rows-length (now (c .before .before .before .before .before .before .before .before .before .before .before .before .before .before .before .args .sheet)))
+add-from-2 : tie.Need-add-from-2 Inv-loop μ-loop
+add-from-2 c = omega (arith, stands Nodes (rows (now (c .before .before .before .before .before .before .before .before .before .select .result))) (c .before .before .before .before .before .before .before .before .loop .from) (c .before .before .before .before .before .before .before .seek .ensures) (c .before .before .before .before .before .node .given .1) .below, rows-length (now (c .before .before .before .before .before .before .before .before .before .select .result)), sheet-small (now (c .before .before .before .before .before .before .before .before .before .before .before .before .before .args .root)) (now (c .before .before .before .before .before .before .before .before .before .before .before .before .before .args .library)) (c .before .before .before .before .before .before .before .before .before .before .before .before .before .args .number) (c .before .before .before .before .before .before .before .before .before .select .ensures) (c .before .before .before .before .before .before .before .before .before .before .before .before .before .pre .0 .0) (c .before .before .before .before .before .before .before .before .before .before .before .before .before .pre .0 .1))
 
 loop-less : tie.Need-loop-less Inv-loop μ-loop
-loop-less c = let s = stands Nodes (rows (now (c .before .before .before .before .before .before .before .before .before .before .before .before .before .before .before .args .sheet))) (c .before .before .before .before .before .before .before .before .loop .from) (c .before .before .before .before .before .before .before .seek .ensures) (c .before .before .before .before .before .node .given .1) in omega (arith, s .from, s .below)
+loop-less c = let s = stands Nodes (rows (now (c .before .before .before .before .before .before .before .before .before .select .result))) (c .before .before .before .before .before .before .before .before .loop .from) (c .before .before .before .before .before .before .before .seek .ensures) (c .before .before .before .before .before .node .given .1) in omega (arith, s .from, s .below)
 
 loop-again : tie.Need-loop-again Inv-loop μ-loop
 loop-again c = grown-on (c .before .before .before .before .before .before .before .before .loop .inv) (c .before .before .add .ensures)
@@ -69,9 +66,8 @@ build-spec =
     (tie.spec
     Inv-loop
     μ-loop
-    add-clear
-    clear-requires
-    add-place
+    select-requires
+    add-from
     loop-holds
     seek-requires
     enum-known-node
@@ -79,6 +75,6 @@ build-spec =
     same-length
     returns
     add-requires
-    add-from
+    add-from-2
     loop-less
     loop-again)

@@ -3,8 +3,8 @@ use Rattle.source_names.proofs.walked.Statement.{statement}
 use Rattle.source_names.proofs.walked.Tie as tie
 use Rattle.source_names.proofs.walked.Reads as reads
 use Rattle.source_names.proofs.walked.Lts as lts
-use Rattle.sheet_walks.proofs.walk.seek.Reads as seek-reads
 use Rattle.sheet_rows.proofs.row.row_at.Reads as row-at-reads
+use Rattle.sheet_walks.proofs.walk.seek.Reads as seek-reads
 use mathlib.Core.Logic.{⊎-elim}
 use mathlib.Core.Path.{subst}
 use Prim.Native.Nat.{ℕ, _-_, _+_}

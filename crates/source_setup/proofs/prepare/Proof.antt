@@ -22,14 +22,8 @@ add-end c = search needs
 index-all-requires : tie.Need-index-all-requires
 index-all-requires c κs = (c .before .before .before .before .before .before .write-directory .ensures .directory, omega arith, omega (arith, c .before .before .before .before .before .before .before .before .before .before .before .before .before .pre .within, c .before .before .before .before .before .before .write-directory .ensures .stays .long), c .before .before .before .before .before .before .before .before .before .before .before .before .before .pre .words)
 
-sub-half : tie.Need-sub-half
-sub-half c = search needs
-
-add-list : tie.Need-add-list
-add-list c = search needs
-
 list-requires : tie.Need-list-requires
-list-requires c κs = (c .before .before .before .before .before .before .before .before .before .before .before .before .before .before .before .before .before .before .before .before .pre .rootSmall, c .before .before .before .before .before .before .index-all .ensures .indexing .directory .long, omega arith, omega (arith, c .before .before .before .before .before .before .index-all .ensures .upto, c .before .before .before .before .before .before .before .before .before .before .before .before .before .before .before .before .before .before .before .before .pre .within, c .before .before .before .before .before .before .index-all .ensures .workStays .long, c .before .before .before .before .before .before .before .before .before .before .before .before .before .write-directory .ensures .stays .long), omega (arith, c .before .before .before .before .before .before .index-all .ensures .upto, c .before .before .before .before .before .before .before .before .before .before .before .before .before .before .before .before .before .before .before .before .pre .words))
+list-requires c κs = (c .before .before .before .before .before .before .before .before .before .before .before .before .before .before .before .before .before .before .before .before .pre .rootSmall, c .before .before .before .before .before .before .before .before .before .before .before .before .before .before .before .before .before .before .before .before .pre .librarySmall, c .before .before .before .before .before .before .index-all .ensures .indexing .directory .long, c .before .before .before .before .before .before .index-all .ensures .indexing .directory .few, c .before .before .before .before .before .before .index-all .ensures .indexing .after, c .before .before .before .before .before .before .index-all .ensures .upto, omega (arith, c .before .before .before .before .before .before .before .before .before .before .before .before .before .before .before .before .before .before .before .before .pre .within, c .before .before .before .before .before .before .index-all .ensures .workStays .long, c .before .before .before .before .before .before .before .before .before .before .before .before .before .write-directory .ensures .stays .long), c .before .before .before .before .before .before .before .before .before .before .before .before .before .before .before .before .before .before .before .before .pre .words)
 
 cast-dir : tie.Need-cast-dir
 cast-dir c = search needs
@@ -41,7 +35,7 @@ slice-write-dir-2 : tie.Need-slice-write-dir-2
 slice-write-dir-2 c = simp length-set (omega (arith, c .before .before .before .before .list .ensures .dirStays .long, c .before .before .before .before .before .before .before .before .before .before .before .index-all .ensures .indexing .directory .long))
 
 remember-requires : tie.Need-remember-requires
-remember-requires c κs = started (c .before .before .before .before .before .before .before .before .before .before .before .before .before .before .before .before .before .before .before .before .write-directory .ensures) (c .before .before .before .before .before .before .before .before .before .before .before .before .before .index-all .ensures) (c .before .before .before .before .before .before .list .ensures) (omega (arith, c .before .before .before .before .before .before .before .before .before .before .before .before .before .index-all .ensures .upto)) (c .before .before .before .before .before .before .before .before .before .before .before .before .before .before .before .before .before .before .before .before .before .before .before .before .before .before .before .pre .within)
+remember-requires c κs = started (c .before .before .before .before .before .before .before .before .before .before .before .before .before .before .before .before .before .before .before .before .write-directory .ensures) (c .before .before .before .before .before .before .before .before .before .before .before .before .before .index-all .ensures) (c .before .before .before .before .before .before .list .ensures) (c .before .before .before .before .before .before .before .before .before .before .before .before .before .before .before .before .before .before .before .before .before .before .before .before .before .before .before .pre .within)
 
 same-length : tie.Need-same-length
 same-length c = search needs
@@ -50,7 +44,7 @@ same-length-2 : tie.Need-same-length-2
 same-length-2 c = (simp length-set at (c .before .before .before .before .remember .ensures .dirStays .long)) ∙ (c .before .before .before .before .before .before .before .before .before .before .before .list .ensures .dirStays .long) ∙ (c .before .before .before .before .before .before .before .before .before .before .before .before .before .before .before .before .before .before .index-all .ensures .dirStays .long) ∙ (c .before .before .before .before .before .before .before .before .before .before .before .before .before .before .before .before .before .before .before .before .before .before .before .before .before .write-directory .kept .1 .1 .1 .1 .1 .0)
 
 returns : tie.Need-returns
-returns c = prepared (c .before .before .before .before .before .before .before .before .before .before .before .before .before .before .before .before .before .before .before .before .before .before .before .before .before .write-directory .ensures) (c .before .before .before .before .before .before .before .before .before .before .before .before .before .before .before .before .before .before .index-all .ensures) (c .before .before .before .before .before .before .before .before .before .before .before .list .ensures) (omega (arith, c .before .before .before .before .before .before .before .before .before .before .before .before .before .before .before .before .before .before .index-all .ensures .upto)) (c .before .before .before .before .remember .ensures)
+returns c = prepared (c .before .before .before .before .before .before .before .before .before .before .before .before .before .before .before .before .before .before .before .before .before .before .before .before .before .write-directory .ensures) (c .before .before .before .before .before .before .before .before .before .before .before .before .before .before .before .before .before .before .index-all .ensures) (c .before .before .before .before .before .before .before .before .before .before .before .list .ensures) (c .before .before .before .before .remember .ensures)
 
 pub prepare-spec : {M : Type 1} → statement M
 prepare-spec =
@@ -59,8 +53,6 @@ prepare-spec =
     write-directory-requires
     add-end
     index-all-requires
-    sub-half
-    add-list
     list-requires
     cast-dir
     slice-write-dir
