@@ -9,7 +9,7 @@ ghost use Prim.Native.Nat.{_*_, _≤_, _<_};
 ghost use lib.ListN.{length, drop};
 ghost use Rattle.sheet_rows.specs.Rows.{rows};
 ghost use Rattle.pick_table.specs.Table.{TableSound};
-ghost use Rattle.source_directory.specs.Directory.{size, numberOf, baseCount, Copy, TableStored, SlotFor};
+ghost use Rattle.source_directory.specs.Directory.{size, numberOf, TableStored};
 
 // Where the words of the directory stand. The row where each slot's document begins:
 pub const ROWS: usize = 65;
@@ -19,10 +19,10 @@ pub const BASES: usize = 130;
 pub const COUNT: usize = 194;
 // how many elements a word of an index stands for;
 pub const STRIDE: usize = 195;
-// where the cache of picks begins, and how many it has;
+// where the cache of picks begins, and where it ends;
 pub const CACHE: usize = 196;
 
-pub const CACHED: usize = 197;
+pub const CACHE_END: usize = 197;
 // where the region of work begins, and where it ends;
 pub const FROM: usize = 198;
 
@@ -37,8 +37,12 @@ pub const ROOT_EXTERNS: usize = GROUPS + 5;
 pub const NAMES: usize = 590;
 
 pub const SPREAD: usize = 591;
+// for each slot where its picks begin in the cache, and how many of them it has;
+pub const PICKS: usize = 592;
+
+pub const CACHED: usize = 657;
 // how many words there are.
-pub const SIZE: usize = 592;
+pub const SIZE: usize = 722;
 
 // The number of a slot's document.
 pub fn number(dir: &[u32], slot: u32) -> u32
@@ -76,38 +80,4 @@ pub fn store(library: &[u32], table: Table, dir: &mut [u32])
         dir[BASES + j] = table.bases[j];
         j += 1;
     }
-}
-
-// The table of bases.
-pub fn table_of(dir: &[u32]) -> Table
-    requires { ⌜ (size ≤ length (now dir)) × (baseCount (now dir) ≤ 64) ⌝ }
-    ensures { λ t. ⌜ Copy (now (dir .entry)) t ⌝ }
-{
-    let mut t = pick_table::table::empty();
-    let mut j = 0;
-    while j < 64 {
-        let slot = j + 1;
-        t.bases[j] = dir[BASES + j];
-        t.files[j] = dir[slot];
-        t.rows[j] = wide(dir[ROWS + slot]);
-        j += 1;
-    }
-    t.count = wide(dir[COUNT]);
-    t
-}
-
-// The slot of a document's number, 0 where no base has it.
-pub fn slot_of(dir: &[u32], number: u32) -> u32
-    requires { ⌜ (size ≤ length (now dir)) × (baseCount (now dir) ≤ 64) ⌝ }
-    ensures { λ s. ⌜ SlotFor (now (dir .entry)) number s ⌝ }
-{
-    let count = wide(dir[COUNT]);
-    let mut s = 1;
-    while s <= count {
-        if dir[s] == number {
-            return s as u32;
-        }
-        s += 1;
-    }
-    0
 }
