@@ -84,7 +84,7 @@ unfolding walkFiles
 walk-past library zero k T h = refl
 walk-past library (suc n) k T h = rw (none-past T k h) (walk-past library n (suc k) T (omega arith))
 
-some-below : (T : Bases) (k b : ℕ) → getElem? T k ≡ some b → k < length T
+pub some-below : (T : Bases) (k b : ℕ) → getElem? T k ≡ some b → k < length T
 some-below [] k b e = let z : _≡_ {A = ℕ} 0 1 = cc in absurd (omega arith)
 some-below (x ∷ T) zero b e = omega arith
 some-below (x ∷ T) (suc k) b e = let h = some-below T k b e in omega arith
@@ -221,10 +221,14 @@ module _ (root : Document) (library : List File) where
           let b = file-at (f .base) 1 library d (f .file) (f .is) .1 in
           cc
 
-  others : (d x : ℕ) → 0 < d → (Fetched library F d → ⊥) → pickOf root library d x ≡ none
+  -- a document that was not walked has no pick
+  none-there : (d x : ℕ) (p : Pick) → picks root library d ≡ [] → pickOf root library d x ≡ some p → ⊥
   unfolding pickOf
-  others d x h unfetched =
-      rw (past d h) (found library F d (λ l. andThen (getElem? l x) (λ p. p) ≡ none) (λ f U g. absurd (unfetched f)) 64 0 T walked-is (λ r. refl))
+  none-there d x p i e = let h : _≡_ {A = Option Pick} none (some p) = rw i at e in let z : _≡_ {A = ℕ} 0 1 = cc in omega arith
+
+  only : (d x : ℕ) (p : Pick) → 0 < d → pickOf root library d x ≡ some p → Fetched library F d
+  only d x p h e =
+      found library F d (λ l. picks root library d ≡ l → Fetched library F d) (λ f U g i. f) 64 0 T walked-is (λ r i. absurd (none-there d x p i e)) (past d h)
 
   -- what is picked, of a document with these externs
   leads : (d : ℕ) (l : List ExternProtoDecl) (x : ℕ) (p : Pick) → PickedBy root library d l → pickOf root library d x ≡ some p → Fetched library F (p .document)
@@ -235,18 +239,11 @@ module _ (root : Document) (library : List File) where
       go (some y) i h = rw (w .settled x y i) at (urls-into library 0 (y .urls) F p h)
 
   into : (d x : ℕ) (p : Pick) → pickOf root library d x ≡ some p → Fetched library F (p .document)
-  unfolding pickOf
   into zero x p e = leads 0 (root .externProtos) x p first e
   into (suc d) x p e =
-      found library F (suc d) (λ l. picks root library (suc d) ≡ l → Fetched library F (p .document))
-      (λ f U g i. leads (suc d) (f .file .document .externProtos) x p (picked (suc d) (f .file .document .externProtos) U i g) e)
-      64 0 T walked-is
-      (λ r i. none-there i)
-      (past (suc d) (omega arith))
-    where
-      none-there : picks root library (suc d) ≡ [] → Fetched library F (p .document)
-      none-there i = let h : _≡_ {A = Option Pick} none (some p) = rw i at e in let z : _≡_ {A = ℕ} 0 1 = cc in absurd (omega arith)
+      let f = only (suc d) x p (omega arith) e in
+      leads (suc d) (f .file .document .externProtos) x p (file (suc d) f) e
 
   -- the law of the walk
   pub walked-whole : WalkedWhole root library
-  walked-whole = record { few = few; first = first; fetched = file; others = others; into = into }
+  walked-whole = record { few = few; first = first; fetched = file; only = only; into = into }

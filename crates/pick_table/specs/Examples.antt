@@ -4,9 +4,9 @@ use mathlib.Core.Bool.{false}
 use mathlib.Core.List.{List, [], _∷_, map}
 use mathlib.Core.Option.{Option, none, some}
 use Prim.Native.Nat.{ℕ, zero, suc}
-use Rattle.ast.specs.Ast.{Statement, Url, Document, File}
+use Rattle.ast.specs.Ast.{NodeOrigin, Statement, Url, Document, File}
 use Rattle.pick_file.specs.PickIn.{topProtos, firstNamed, pickIn}
-use Rattle.pick_table.specs.Picks.{Pick, libraryFile, pickUrl, member, remember, pickUrls, picksFrom, basesFrom, walkFiles, walk, finalBases, picksUnder, picks, pickOf}
+use Rattle.pick_table.specs.Picks.{Pick, libraryFile, pickUrl, member, remember, pickUrls, picksFrom, basesFrom, walkFiles, walk, finalBases, picksUnder, picks, pickOf, prototypeIn}
 
 -- a root with an extern for each list of urls
 abbrev root : List (List Url) → Document
@@ -111,7 +111,9 @@ pub record Examples : Type 0 where
   pub whole-run : (picks (root (below 63 ∷ (url 90 ∷ []) ∷ [])) last 1 ≡ none ∷ pick 1 2 1 ∷ []) × (picks (root (below 62 ∷ (url 90 ∷ []) ∷ [])) last 1 ≡ pick 2 3 0 ∷ pick 2 3 0 ∷ [])
   -- "in order of first fetch": the extern of the second file comes before that of the first file's file; its base is the 64th, the other's is skipped
   pub breadth : (picks (root (below 61 ∷ (url 65 ∷ []) ∷ (url 66 ∷ []) ∷ [])) tree 2 ≡ none ∷ []) × (picks (root (below 60 ∷ (url 65 ∷ []) ∷ (url 66 ∷ []) ∷ [])) tree 2 ≡ pick 4 4 0 ∷ []) × (picks (root (below 60 ∷ (url 65 ∷ []) ∷ (url 66 ∷ []) ∷ [])) tree 3 ≡ none ∷ [])
+  -- ".. and an instance is now also ExternProto with a pick in any document."
+  pub instances : (prototypeIn (root ((url 5 ∷ []) ∷ [])) chain 1 (NodeOrigin.ExternProto 0) ≡ some (record { document = 2; proto = 2 })) × (prototypeIn (root ((url 5 ∷ []) ∷ [])) chain 3 (NodeOrigin.ExternProto 0) ≡ none) × (prototypeIn (root ((url 5 ∷ []) ∷ [])) chain 3 (NodeOrigin.Proto 4) ≡ some (record { document = 3; proto = 4 }))
 
 computed : Examples
-unfolding pickOf picks picksUnder finalBases walk walkFiles basesFrom picksFrom pickUrls remember member pickUrl libraryFile pickIn topProtos firstNamed
-computed = record { last-of-three = refl; last-of-two = refl; dangling = refl; next-url = refl; full = refl; last-place = refl; untried = refl; same-base = refl; by-document = (refl, refl, refl, refl, refl); round = (refl, refl, refl); twice = (refl, refl, refl, refl); no-pick = (refl, refl); unfetched = refl; older = (refl, refl); whole-run = (refl, refl); breadth = (refl, refl, refl) }
+unfolding prototypeIn pickOf picks picksUnder finalBases walk walkFiles basesFrom picksFrom pickUrls remember member pickUrl libraryFile pickIn topProtos firstNamed
+computed = record { last-of-three = refl; last-of-two = refl; dangling = refl; next-url = refl; full = refl; last-place = refl; untried = refl; same-base = refl; by-document = (refl, refl, refl, refl, refl); round = (refl, refl, refl); twice = (refl, refl, refl, refl); no-pick = (refl, refl); unfetched = refl; older = (refl, refl); whole-run = (refl, refl); breadth = (refl, refl, refl); instances = (refl, refl, refl) }

@@ -2,7 +2,7 @@
 use mathlib.Core.Path.{_≡_}
 use mathlib.Core.Bool.{true}
 use mathlib.Core.List.{List}
-use mathlib.Core.Option.{Option, none, some}
+use mathlib.Core.Option.{Option, some}
 use Prim.Native.Nat.{ℕ, _≤_, _<_}
 use lib.ListN.{length, getElem?}
 use Rattle.ast.specs.Ast.{ExternProtoDecl, Document, File}
@@ -37,6 +37,6 @@ pub record WalkedWhole (root : Document) (library : List File) : Type 0 where
   -- and for every fetched file: "An EXTERNPROTO in a fetched file .. is now picked too."
   pub fetched : (d : ℕ) (f : Fetched library (finalBases root library) d) → PickedBy root library d (f .file .document .externProtos)
   -- no other document's extern has a pick
-  pub others : (d x : ℕ) → 0 < d → (Fetched library (finalBases root library) d → ⊥) → pickOf root library d x ≡ none
+  pub only : (d x : ℕ) (p : Pick) → 0 < d → pickOf root library d x ≡ some p → Fetched library (finalBases root library) d
   -- what is picked stands in a fetched file
   pub into : (d x : ℕ) (p : Pick) → pickOf root library d x ≡ some p → Fetched library (finalBases root library) (p .document)

@@ -1,4 +1,4 @@
--- The directory: for each slot the document and where its indexes and its cache of picks stand; the table of bases.
+-- The directory: for each slot the document and where its indexes stand; the table of bases; where the cache of picks stands.
 -- Slot 0 is the root, slot j + 1 the file of base j.
 use mathlib.Core.Path.{_≡_}
 use mathlib.Core.List.{List}
@@ -20,7 +20,7 @@ use Rattle.pick_table.specs.Table.{IsFileOf}
 
 -- how many words it has at least
 abbrev pub size : ℕ
-size = 722
+size = 592
 
 -- a slot's document: its number, and the row where it begins
 abbrev pub numberOf : List ℕ → ℕ → ℕ
@@ -40,19 +40,12 @@ baseCount dir = getD dir 194 0
 abbrev pub strideOf : List ℕ → ℕ
 strideOf dir = getD dir 195 0
 
--- where the cache of picks begins, and where it ends
+-- where the cache begins, and how many picks it has
 abbrev pub cacheOf : List ℕ → ℕ
 cacheOf dir = getD dir 196 0
 
-abbrev pub cacheEnd : List ℕ → ℕ
-cacheEnd dir = getD dir 197 0
-
--- where a slot's picks begin in it, and how many there are
-abbrev pub picksPlace : List ℕ → ℕ → ℕ
-picksPlace dir s = getD dir (592 + s) 0
-
-abbrev pub picksCached : List ℕ → ℕ → ℕ
-picksCached dir s = getD dir (657 + s) 0
+abbrev pub cachedOf : List ℕ → ℕ
+cachedOf dir = getD dir 197 0
 
 -- where the list of the tables of names begins, and how many places it has
 abbrev pub namesOf : List ℕ → ℕ

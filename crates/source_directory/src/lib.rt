@@ -19,10 +19,10 @@ pub const BASES: usize = 130;
 pub const COUNT: usize = 194;
 // how many elements a word of an index stands for;
 pub const STRIDE: usize = 195;
-// where the cache of picks begins, and where it ends;
+// where the cache of picks begins, and how many it has;
 pub const CACHE: usize = 196;
 
-pub const CACHE_END: usize = 197;
+pub const CACHED: usize = 197;
 // where the region of work begins, and where it ends;
 pub const FROM: usize = 198;
 
@@ -37,12 +37,8 @@ pub const ROOT_EXTERNS: usize = GROUPS + 5;
 pub const NAMES: usize = 590;
 
 pub const SPREAD: usize = 591;
-// for each slot where its picks begin in the cache, and how many of them it has;
-pub const PICKS: usize = 592;
-
-pub const CACHED: usize = 657;
 // how many words there are.
-pub const SIZE: usize = 722;
+pub const SIZE: usize = 592;
 
 // The number of a slot's document.
 pub fn number(dir: &[u32], slot: u32) -> u32
