@@ -9,10 +9,12 @@ use native.Mathlib.Numerals.{add-one}
 use native.Mathlib.Decide.{ℕ-discrete}
 use lib.ListN.{length, getD, take, drop, getElem?, length-drop}
 use lib.Seq.{length-take-le, getD-take, getD-drop}
+use lib.Dec.{eqb}
 use borrow.Author.Tests.{eq-eqb, ne-eqb}
+use Rattle.sheet_rows.proofs.RowLaws.{rows-length}
 use Rattle.ast.specs.declared.ProtoId.{ProtoId}
 use Rattle.ast.specs.Ast.{Url, ExternProtoDecl, File}
-use Rattle.ast.specs.Choice.{andThen}
+use Rattle.ast.specs.Choice.{choose, andThen}
 use Rattle.sheet_rows.specs.declared.row.Row.{Row}
 use Rattle.sheet_rows.specs.declared.part.Part.the-variants.{Urls}
 use Rattle.sheet_rows.specs.Rows.{rows, blank}
@@ -54,6 +56,15 @@ lead-number R s fragment d id l = go (ℕ-discrete (s .number) 0)
         absurd (omega arith)
     go (no z) = (with-file (pickIn (documentAt R (s .row)) (optional fragment)) (rw (ne-eqb _ _ z) at (l 0 false)), z)
 
+-- ---- the urls of the extern at a row of a sheet: n before row `at` led to no pick
+
+pub record Trying (root library : List ℕ) (sheet : List Row) (row at n : ℕ) : Type 0 where
+  pub is : urlsPicked root library sheet row ≡ pickUrls (filesOf (rows library)) n (urlsFrom sheet at) (basesFound root library)
+  pub few : n < at
+
+pub try-start : (root library : List ℕ) (sheet : List Row) (row : ℕ) → Trying root library sheet row (row + 1) 0
+try-start root library sheet row = record { is = rw (extern-urls sheet row); few = omega arith }
+
 -- ---- the bases that the directory holds
 
 absent : (base : ℕ) (F : Bases) → ((k b : ℕ) → getElem? F k ≡ some b → b ≡ base → ⊥) → member base F ≡ false
@@ -67,6 +78,13 @@ module _ {root library dir : List ℕ} (d : Directory root library dir) where
   abbrev F : Bases
   F = basesFound root library
 
+  pub sheet-small : (doc : ℕ) {sheet : List ℕ} → sheet ≡ sheetOf root library doc → length (rows sheet) ≤ 1048576
+  sheet-small doc {sheet} e = go (eqb doc 0) e
+    where
+      go : (b : Bool) → sheet ≡ choose b root library → length (rows sheet) ≤ 1048576
+      go true e = rw e (omega (arith, rows-length root, d .rootSmall))
+      go false e = rw e (omega (arith, rows-length library, d .small))
+
   -- the words of the bases, as they are lent
   abbrev pub lent : List ℕ
   lent = take (length dir - 130) (drop 130 dir)
@@ -77,21 +95,13 @@ module _ {root library dir : List ℕ} (d : Directory root library dir) where
   lent-at : (k : ℕ) → k < baseCount dir → getD lent k 0 ≡ baseOf dir k
   lent-at k h = getD-take (length dir - 130) (drop 130 dir) k 0 (omega (arith, d .few, d .long)) ∙ getD-drop 130 dir k 0
 
-  -- ---- the urls of the extern at a row of a sheet: n before row `at` led to no pick
-
-  pub record Trying (sheet : List Row) (row at n : ℕ) : Type 0 where
-    pub is : urlsPicked root library sheet row ≡ pickUrls (filesOf (rows library)) n (urlsFrom sheet at) F
-    pub few : n < at
-
-  pub try-start : (sheet : List Row) (row : ℕ) → Trying sheet row (row + 1) 0
-  try-start sheet row = record { is = rw (extern-urls sheet row); few = omega arith }
-
-  module _ {sheet : List Row} {row at n : ℕ} (w : Trying sheet row at n) where
+  module _ {sheet : List Row} {row at n : ℕ} (w : Trying root library sheet row at n) where
     -- no url is left
     pub try-none : elements Urls (drop at sheet) ≡ [] → PickedAs dir (urlsPicked root library sheet row .0) Plain 0
     unfolding pickUrls
     try-none e =
-        let z : urlsPicked root library sheet row .0 ≡ none = ap (λ (p : Picked). p .0) (w .is ∙ rw (urls-none sheet at e)) in
+        let y : _≡_ {A = Picked} (urlsPicked root library sheet row) (none, F) = w .is ∙ rw (urls-none sheet at e) in
+        let z : urlsPicked root library sheet row .0 ≡ none = ap (λ (p : Picked). p .0) y in
         rw z (record { target = record { is = refl; valid = tt }; mark = refl })
 
     module _ {q : ℕ} {r : Row} (h : Stands Urls sheet at q) (is : r ≡ getD sheet q blank) {j : ℕ} (p : Position lent (baseCount dir) (r .a) j) where
@@ -109,23 +119,24 @@ module _ {root library dir : List ℕ} (d : Directory root library dir) where
         step : urlsPicked root library sheet row ≡ orNext n (pickUrls (filesOf (rows library)) (suc n) next) F (prototypeBy x)
         step =
             here ∙ tried-known (filesOf (rows library)) n (urlIn r) next F (member-here (r .a) F j (d .bases j k ∙ ap some base-is)) ∙
-            ap (orNext n (pickUrls (filesOf (rows library)) (suc n) next) F) (url-leads (rows library) _ r x (rw base-is at (d .sources j k)) l)
+            ap (orNext n (pickUrls (filesOf (rows library)) (suc n) next) F) (url-leads (rows library) (record { number = numberOf dir (j + 1); row = rowOf dir (j + 1) }) r x (rw base-is at (d .sources j k)) l)
 
         pub try-proto : (document : ℕ) (id : ProtoId) (m : ℕ) → x ≡ Proto document id → m ≡ n + 1 → PickedAs dir (urlsPicked root library sheet row .0) (Of (j + 1) id) m
         try-proto document id m e isMark =
             let y : Leads (rows library) (record { number = numberOf dir (j + 1); row = rowOf dir (j + 1) }) (r .b) (Proto document id) = rw e at l in
             let f = lead-number (rows library) (record { number = numberOf dir (j + 1); row = rowOf dir (j + 1) }) (r .b) document id y in
-            let z : urlsPicked root library sheet row .0 ≡ some (record { document = document; proto = id .0; url = n }) = ap (λ (o : Picked). o .0) (step ∙ rw e) in
+            let g : _≡_ {A = Picked} (urlsPicked root library sheet row) (some (record { document = document; proto = id .0; url = n }), F) = step ∙ rw e in
+            let z : urlsPicked root library sheet row .0 ≡ some (record { document = document; proto = id .0; url = n }) = ap (λ (o : Picked). o .0) g in
             rw z (record {
               target = record { is = rw (f .0); valid = record { upto = omega arith; real = λ i. omega (arith, f .1) } };
               mark = omega (arith, isMark);
             })
 
-        pub try-next : x ≡ Nothing → Trying sheet row (q + 1) (n + 1)
+        pub try-next : x ≡ Nothing → Trying root library sheet row (q + 1) (n + 1)
         try-next e = record { is = step ∙ rw (e, add-one n); few = omega (arith, w .few, h .from) }
 
       -- it is none of them: it was skipped
-      pub try-skip : baseCount dir ≤ j → urlsPicked root library sheet row .1 ≡ F → Trying sheet row (q + 1) (n + 1)
+      pub try-skip : baseCount dir ≤ j → urlsPicked root library sheet row .1 ≡ F → Trying root library sheet row (q + 1) (n + 1)
       try-skip k s = record {
         is = here ∙ tried-unknown (filesOf (rows library)) n (urlIn r) next F new (ap (λ (o : Picked). o .1) (sym here) ∙ s) ∙ rw (add-one n);
         few = omega (arith, w .few, h .from);

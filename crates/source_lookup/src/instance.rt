@@ -63,7 +63,7 @@ pub fn pick_row<'a>(
     let sheet = rows::select(root, library, source_directory::number(dir, slot));
     let mut memo = memo;
     let mut at = row + 1;
-    let mut url = 0;
+    let mut url: usize = 0;
     loop {
         let Found::At(q) = walk::seek(sheet, Part::Urls, at) else {
             return PickedTarget {
