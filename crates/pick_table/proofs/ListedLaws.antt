@@ -134,7 +134,7 @@ module _ (R : List Row) (w : List ℕ) (base : ℕ) {from n : ℕ} (l : FilesLis
       search-here e =
           let i : j - 1 + 1 ≡ j = omega arith in
           let f = newer-counts (filesOf R) .used base (j - 1) (fileOf (drop q R))
-              (record { here = file-here; is = base-here ∙ e; last = λ k g a. s .none k g (omega arith) }) in
+          (record { here = file-here; is = base-here ∙ e; last = λ k g a. s .none k g (omega arith) }) in
           f ∙ rw (i, ne-eqb j 0 (λ z. omega arith), base-here, e, rest-drop R q)
 
       pub search-next : (r .a ≡ base → ⊥) → Searching R base n (j - 1)

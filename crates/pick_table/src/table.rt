@@ -95,13 +95,7 @@ fn walked(library: &[u32], base: u32) -> Source
 }
 
 // The same by the list of the files, from the last one back.
-pub fn library_file(
-    library: &[u32],
-    slots: &[u32],
-    from: usize,
-    count: usize,
-    base: u32,
-) -> Source
+pub fn library_file(library: &[u32], slots: &[u32], from: usize, count: usize, base: u32) -> Source
     requires { ⌜ Capped (now library) × FilesListed (rows (now library)) (now slots) from count ⌝ }
     ensures { λ s. ⌜ IsFileOf (rows (now (library .entry))) base s ⌝ }
 {
