@@ -4,7 +4,7 @@ use std::collections::{HashMap, HashSet};
 
 use crate::call::{Call, Expanded};
 use crate::mutants::Mutant;
-use crate::picks::{choose, picks, Pick, MOST_BASES};
+use crate::picks::{choose, picks, Picks, MOST_BASES};
 use crate::reckon::{self, Reckoned};
 use crate::rows::*;
 use crate::scenes::MOST_CHARGES;
@@ -143,7 +143,7 @@ fn endless_by_is(call: &Call) -> bool {
 struct Sheets<'a> {
     docs: Vec<&'a Doc>,
     files: &'a [File],
-    picks: Vec<Option<Pick>>,
+    picks: Picks,
 }
 
 type Seen = HashSet<&'static str>;
@@ -157,7 +157,7 @@ impl<'a> Sheets<'a> {
     fn prototype(&self, document: usize, node: &Node) -> Option<&'a Proto> {
         let (document, id) = match node.origin {
             Origin::Proto(id) => (document, id),
-            Origin::Extern(id) if document == 0 => self.picks.get(id as usize).copied().flatten()?.prototype(),
+            Origin::Extern(id) => self.picks.get(document, id)?.prototype(),
             _ => return None,
         };
         self.docs[document].protos.get(id as usize)
@@ -315,9 +315,9 @@ impl<'a> Sheets<'a> {
                 seen.insert("no pick by the last file of a base, one by an older file of it");
             }
         }
-        for (declared, pick) in self.docs[0].externs.iter().zip(&self.picks) {
+        for (id, declared) in self.docs[0].externs.iter().enumerate() {
             bases.extend(declared.urls.iter().map(|(base, _)| *base));
-            let Some(pick) = pick else {
+            let Some(pick) = self.picks.get(0, id as u32) else {
                 seen.insert("an extern without a pick");
                 continue;
             };

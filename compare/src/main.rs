@@ -19,6 +19,7 @@ mod held;
 mod library;
 mod linked;
 mod memory;
+mod merged;
 mod moving;
 mod mutants;
 mod operation;
