@@ -390,7 +390,9 @@ impl<'a> Steps<'a> {
         for statement in &node.statements {
             let copy = match statement {
                 Statement::Route(route) => Some(Statement::Route(self.remap(scope, route))),
-                Statement::Extern(id) => Some(Statement::Extern(self.declare(document, *id, "a mark by a statement in a node")?)),
+                Statement::Extern(id) => {
+                    Some(Statement::Extern(self.declare(document, *id, "a mark by a statement in a node")?))
+                }
                 _ => None,
             };
             kept.push(copy.is_some());
