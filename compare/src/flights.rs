@@ -4,7 +4,7 @@ use original::ast::FieldType;
 
 use crate::call::{Answer, Call, Expanded};
 use crate::reckon;
-use crate::rows::{words_of, Row, NODE, NONE, TAGS};
+use crate::rows::{words_of, Row, EXTERN, NODE, NONE, TAGS};
 use crate::scenes::MOST_CHARGES;
 use crate::{spoil, versus};
 
@@ -290,6 +290,16 @@ fn flights() -> Vec<Flight> {
                 vec![0, 2, 8, 62, 8],
             ),
         ),
+        with(
+            [naming(1, 1, 9), naming(2, 2, 4), naming(4, 4, 9)].concat(),
+            flight(
+                "the last place for a file's base without a file",
+                behind_bases(61, NONE),
+                free,
+                documents,
+                vec![0, 1, 2, 61, 8, 62, 8],
+            ),
+        ),
         with(marked(), flight("a mark in a file", one_base(), free, whole, mark)),
     ]
 }
@@ -300,9 +310,9 @@ pub fn calls(most_rows: u32) -> Vec<Call> {
     flights().into_iter().map(call).collect()
 }
 
-/// The pod whose field leads back to it, from the pod.
-pub fn pod_from_itself(max_rows: u32) -> Call {
-    Call::new(pod(0), Vec::new(), 400, 64, max_rows)
+/// The calls of wish 12's flights alone.
+pub fn of_wish_12(most_rows: u32) -> Vec<Call> {
+    calls(most_rows).into_iter().filter(|c| c.library.chunks(8).any(|row| row[0] == EXTERN)).collect()
 }
 
 /// Every flight, against its words and against the original. The number that fail.

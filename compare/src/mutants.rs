@@ -141,6 +141,21 @@ pub const FRAMES_ONLY: &[(Mutant, &str)] = &[
     (Mutant::UnresolvedBasesOfFilesDoNotCount, "a file's bases without a file do not count toward the 64"),
 ];
 
+/// Of these, the mutants of wish 12.
+pub const OF_WISH_12: &[Mutant] = &[
+    Mutant::PicksByExternIdAlone,
+    Mutant::BasesCountedPerDocument,
+    Mutant::FetchedDepthFirst,
+    Mutant::FetchedAtOnce,
+    Mutant::FetchedInLibraryOrder,
+    Mutant::FileWithoutPickPassedOver,
+    Mutant::FilesExternsPlain,
+    Mutant::NoMarkInFiles,
+    Mutant::OneLevelOfFiles,
+    Mutant::UnfetchedFilesWalked,
+    Mutant::UnresolvedBasesOfFilesDoNotCount,
+];
+
 /// The mutant of a name, as `compare mutants` prints it.
 pub fn named(name: &str) -> Result<Mutant, String> {
     let found = ALL.iter().chain(FRAMES_ONLY).find(|(mutant, _)| format!("{mutant:?}") == name);

@@ -65,8 +65,9 @@ const FAMILIES: [(&str, Family); 14] = [
     ("equal ids", equal_ids),
 ];
 
-/// The families of document 01.
+/// The families of document 01, and all before those of wish 12.
 const OF_DOCUMENT_01: usize = 9;
+const BEFORE_WISH_12: usize = 11;
 
 /// Name and size of each family.
 pub fn sizes() -> &'static [(&'static str, u64)] {
@@ -100,6 +101,11 @@ pub fn scene(mut number: u64) -> Scene {
 /// The number of scenes in the families of document 01; those of the wishes' families come behind them.
 pub fn of_document_01() -> u64 {
     sizes()[..OF_DOCUMENT_01].iter().map(|(_, size)| size).sum()
+}
+
+/// The number of scenes in the families before those of wish 12.
+pub fn of_wishes_before_12() -> u64 {
+    sizes()[..BEFORE_WISH_12].iter().map(|(_, size)| size).sum()
 }
 
 /// Some scene of the families, each of them as likely as any other.
