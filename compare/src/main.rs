@@ -2,6 +2,7 @@
 
 mod automaton;
 mod bench;
+mod bench_files;
 mod bound;
 mod call;
 mod charges;
