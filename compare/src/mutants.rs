@@ -2,10 +2,11 @@
 
 use crate::call::Call;
 use crate::closure;
+use crate::merged::merged;
 use crate::reckon::{self, Reckoned};
 use crate::scenes::families;
 use crate::shrink::shrink;
-use crate::versus;
+use crate::versus::{self, By};
 
 #[derive(Clone, Copy, Debug, PartialEq, Eq)]
 pub enum Mutant {
@@ -171,14 +172,24 @@ struct Notice {
     smallest: Option<Call>,
 }
 
-/// How a mutant's answer parts from the original's on an input for which that is the reference.
+/// Whether the original answers a call, as it is or as one document.
+fn answers(truth: &Reckoned) -> bool {
+    match versus::by(truth) {
+        By::Original => true,
+        By::OneDocument => !truth.bound.takes_default(),
+        By::Nothing | By::Absent => false,
+    }
+}
+
+/// How a mutant's answer parts from the original's, where that answers.
 fn parts(mutant: Mutant, call: &Call, truth: &Reckoned) -> Option<String> {
     let answer = reckon::expand(call, Some(mutant));
     // Where nothing changes there is nothing to notice.
-    if !versus::has_original(truth) || versus::stands_before(&answer) || answer == truth.answer {
+    if !answers(truth) || versus::stands_before(&answer) || answer == truth.answer {
         return None;
     }
-    versus::as_original(call, &answer).err()
+    let asked = if truth.linked { merged(call)? } else { call.clone() };
+    versus::as_original(&asked, &answer).err()
 }
 
 /// Every mutant over all families and `count` random cases. The number of mutants that nothing noticed.
@@ -188,7 +199,7 @@ pub fn run(count: u64, seed: u64) -> u64 {
     for number in 0..families::total() + count {
         let call = versus::case(seed, number);
         let truth = reckon::reckon(&call, None);
-        if !versus::has_original(&truth) {
+        if !answers(&truth) {
             continue;
         }
         compared += 1;
