@@ -1,5 +1,5 @@
 #!/usr/bin/env python3
-"""Makes the scenes from flights.txt: NAME.lines, NAME.expected, the library's files, and the lists in README.md; and
+"""Makes the scenes from flights.txt: NAME.lines, NAME.expected, the library's files with those of the chain, and the lists in README.md; and
 season.expected, the table of season.counts; logbook/, the expanded document of a scene, its ledger and their page; and count/, the
 expanded documents of two scenes and the table of what they count.
 
@@ -16,6 +16,7 @@ from reading import line
 
 FOLDER = Path(__file__).resolve().parent
 LIMITS = 400, 64, 400  # N, D and K of the program expand
+CHAIN, CHAIN_LEGS, CHAIN_BASE, CHAIN_LIMITS = "chain-of-files", 65, 1000, (400, 512, 1000)
 MOST_ROWS = 500
 HEADER = 5
 TAGS = (
@@ -29,6 +30,8 @@ LIBRARIES = {
     "extern-kept": [("whaleFile", "whales")],
     "corrected-file": [("whaleFile", "whales"), ("belugaFile", "belugas"), ("whaleFile", "whales-corrected")],
     "which-address": [("whaleFile", "whales"), ("belugaFile", "belugas")],
+    "shared-library": [("surveyFile", "surveys"), ("animalFile", "animals"), ("flukeFile", "flukes")],
+    "circle-of-files": [("portFile", "port"), ("starboardFile", "starboard")],
 }
 SEASON_WIDTH = 3
 LOGBOOK = "defaults"
@@ -135,7 +138,8 @@ class Scene:
         rows = [row(8, self.names[head[1]])]
         for words in lines:
             if words[0] == "url":
-                base, *fragment = [self.names[word] for word in words[1:] if word != "#"]
+                number = lambda word: int(word) if word.isdigit() else self.names[word]
+                base, *fragment = [number(word) for word in words[1:] if word != "#"]
                 rows.append(row(10, base, *(fragment or [NONE])))
             else:
                 rows += self.interface(words)
@@ -168,6 +172,17 @@ def read_flights(names):
     return scenes
 
 
+def leg(number, names):
+    """A file of the chain: the prototype of a leg, which holds the next one."""
+    scene = Scene("library", f"chain/leg-{number:02}", names)
+    scene.part(["EXTERNPROTO", "Leg"]).append(["url", str(CHAIN_BASE + number + 1)])
+    scene.part(["PROTO", "Leg"]).extend([["body"], ["track"]])
+    scene.part(["node", "track", "Shape"]).append(["children", "MFNode", "[", "next", "]"])
+    scene.part(["node", "next", "Leg"])
+    scene.part(["top"]).append(["PROTO", "Leg"])
+    return scene.rows()
+
+
 def lines_of(rows):
     return b"".join(line(r) for r in rows)
 
@@ -176,9 +191,9 @@ def words_of(rows):
     return [number for r in rows for number in r]
 
 
-def printed(root, library=()):
+def printed(root, library=(), limits=LIMITS):
     """What the program expand prints, and its answer."""
-    answer, out, _, _ = expand(words_of(root), words_of(library), *LIMITS)
+    answer, out, _, _ = expand(words_of(root), words_of(library), *limits)
     refusal, first, second, nodes, scopes, charges, _ = answer
     return lines_of([[refusal, first, second, 0, nodes, scopes, charges, 0]] + out), answer
 
@@ -286,7 +301,17 @@ def main():
         for file in before:
             answers.setdefault(file, f"{len(sheets[file])} rows")
         behind = f", behind {' and '.join(before)}," if before else ""
-        answers[last] = f"{len(sheets[last])} rows; with it{behind} {name} gives {in_words(answer)}"
+        answers[last] = f"{len(sheets[last])} rows; with it{behind} {name} {'is' if answer[0] else 'gives'} {in_words(answer)}"
+
+    (FOLDER / "library" / "chain").mkdir(exist_ok=True)
+    library = []
+    for number in range(1, CHAIN_LEGS + 1):
+        rows = leg(number, names)
+        (FOLDER / "library" / "chain" / f"leg-{number:02}.lines").write_bytes(lines_of(rows))
+        library += [row(12, CHAIN_BASE + number)] + rows
+    text, answer = printed(sheets[CHAIN], library, CHAIN_LIMITS)
+    (FOLDER / "library" / f"{CHAIN}.expected").write_bytes(text)
+    answers[CHAIN] += f"; with its library {in_words(answer)}"
 
     counts = [int(count) for count in (FOLDER / "season.counts").read_text().split()]
     (FOLDER / "season.expected").write_text(season(counts, SEASON_WIDTH))

@@ -202,23 +202,27 @@ def pick_in(document, fragment):
     return None
 
 
-def picks_of(root, files):
-    """For each extern of the root the document number and PROTO id that stand for it and the index of the url taken, or None."""
-    newest = {f.base: n for n, f in enumerate(files, 1)}  # of several files with the same base the last
-    bases, picks = set(), []
-    for extern in root.externs:
-        pick = None
-        for at, url in enumerate(extern.rest):
-            base, fragment = url[1:3]
-            if base not in bases and len(bases) == MOST_BASES:
-                continue
-            bases.add(base)
-            number = newest.get(base)
-            proto = None if number is None else pick_in(files[number - 1], fragment)
-            if proto is not None:
-                pick = (number, proto, at)
-                break
-        picks.append(pick)
+def picks_of(documents):
+    """By document number and extern id: the document number and PROTO id that stand for it and the index of the url taken. Root
+    externs come first, then those of each fetched document in order of first fetch (document 02, wish 12)."""
+    newest = {d.base: n for n, d in enumerate(documents) if n > 0}  # of several files with the same base the last
+    bases, picks, fetched = set(), {}, [0]
+    for document in fetched:  # grows as it goes
+        for number, extern in enumerate(documents[document].externs):
+            for at, url in enumerate(extern.rest):
+                base, fragment = url[1:3]
+                if base not in bases and len(bases) == MOST_BASES:
+                    continue
+                bases.add(base)
+                if base not in newest:
+                    continue
+                file = newest[base]
+                if file not in fetched:
+                    fetched.append(file)
+                proto = pick_in(documents[file], fragment)
+                if proto is not None:
+                    picks[document, number] = (file, proto, at)
+                    break
     return picks
 
 
@@ -282,7 +286,7 @@ class Expansion:
             extern = externs[number]
             self.charge(1 + len(extern.interfaces) + len(extern.rest))
             self.declared[document, number] = len(self.externs)
-            pick = self.picks[number] if document == 0 else None
+            pick = self.picks.get((document, number))
             self.externs.append((extern, pick and pick[2]))
         return self.declared[document, number]
 
@@ -290,10 +294,8 @@ class Expansion:
         """Document and id of the PROTO that a node is an instance of; None for a plain node."""
         if node.origin == PROTO:
             return document, node.origin_id
-        if node.origin == EXTERN and document == 0 and node.origin_id < len(self.picks):
-            pick = self.picks[node.origin_id]
-            return pick and pick[:2]
-        return None
+        pick = self.picks.get((document, node.origin_id)) if node.origin == EXTERN else None
+        return pick and pick[:2]
 
     def copy(self, scope, number, depth):
         """The output's id of a node in a scope. `depth` nodes are open around it."""
@@ -473,9 +475,8 @@ def expand(root, library, max_nodes, max_depth, max_rows, lent=None):
             refusal, place = check(sheet, form)
             if refusal:
                 raise Refused(3, number, place)
-        files = Reader(rows_of(library)).files()
-        document = Reader(rows_of(root)).document()
-        run = Expansion([document] + files, picks_of(document, files), max_nodes, max_depth, max_rows)
+        documents = [Reader(rows_of(root)).document()] + Reader(rows_of(library)).files()
+        run = Expansion(documents, picks_of(documents), max_nodes, max_depth, max_rows)
         run.run()
     except Refused as refused:
         return (*refused.answer, 0, 0, 0, 0), [], [], []

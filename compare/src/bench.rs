@@ -12,7 +12,7 @@ use crate::frames::{GARBAGE, LEDGER, OUT, SCOPES};
 use crate::linked::{self, Lent, LINKED};
 use crate::memory::{faults, now, Fresh};
 use crate::scenes::{large, Scene, MOST_CHARGES};
-use crate::{checks, count, moving, pages, reckon, rust};
+use crate::{bench_files, checks, count, moving, pages, reckon, rust};
 
 /// A scene, the same at half its size, and how many times the original's speed is wanted.
 struct Bench {
@@ -78,7 +78,7 @@ fn benches() -> Vec<Bench> {
 }
 
 /// The slices lent to the library, reused from call to call.
-struct Slices {
+pub struct Slices {
     out: Vec<u32>,
     ledger: Vec<u32>,
     scopes: Vec<u32>,
@@ -91,7 +91,7 @@ fn filled(length: u64, word: impl Fn(u32) -> u32) -> Vec<u32> {
 }
 
 impl Slices {
-    fn new(lent: [u64; 4]) -> Slices {
+    pub fn new(lent: [u64; 4]) -> Slices {
         Slices {
             out: filled(lent[0], |i| OUT.wrapping_add(i)),
             ledger: filled(lent[1], |i| LEDGER.wrapping_add(i)),
@@ -101,7 +101,7 @@ impl Slices {
         }
     }
 
-    fn time(&mut self, call: &Call) -> Duration {
+    pub fn time(&mut self, call: &Call) -> Duration {
         let Slices { out, ledger, scopes, work, answer } = self;
         let mut lent = Lent { out, ledger, scopes, work, answer };
         let start = now();
@@ -110,7 +110,7 @@ impl Slices {
     }
 
     /// The words written are the reckoning's.
-    fn right(&self, e: &Expanded) -> bool {
+    pub fn right(&self, e: &Expanded) -> bool {
         let begins = |slice: &[u32], words: &[u32]| slice.starts_with(words);
         self.answer == [0, 0, 0, e.nodes, e.scopes.len() as u32, e.charges, e.out.len() as u32]
             && begins(&self.out, e.out.as_flattened())
@@ -176,7 +176,7 @@ struct Measured {
 }
 
 /// A call with N and K just enough, and its answer.
-fn just_enough(scene: &Scene) -> (Call, Expanded) {
+pub fn just_enough(scene: &Scene) -> (Call, Expanded) {
     let generous = scene.call(MOST_CHARGES);
     let e = reckon::expand(&generous, None).unwrap_or_else(|r| panic!("a scene of the benchmark is refused: {r:?}"));
     (Call::new(generous.root, generous.library, e.nodes, MOST_DEPTH, e.charges), e)
@@ -415,6 +415,7 @@ pub fn run(part: &str) -> u64 {
         println!();
     }
     let wrong = all.iter().filter(|m| m.library.as_ref().is_some_and(|l| !l.right)).count() as u64;
+    let wrong = wrong + bench_files::run(part);
     let wrong = wrong + moving::bench(part) + pages::bench(part) + checks::bench(part) + count::bench(part);
     println!("{wrong} wrong answers");
     wrong

@@ -7,7 +7,7 @@ use std::collections::{HashMap, HashSet};
 use crate::call::{Call, Expanded};
 use crate::grammar;
 use crate::output;
-use crate::picks::{picks, Pick};
+use crate::picks::{picks, Pick, Picks};
 use crate::tree::*;
 
 /// What the check saw on the way, for the summary.
@@ -25,7 +25,7 @@ pub struct Seen {
 
 struct Sheets<'a> {
     docs: Vec<&'a Doc>,
-    picks: Vec<Option<Pick>>,
+    picks: Picks,
 }
 
 impl<'a> Sheets<'a> {
@@ -33,7 +33,7 @@ impl<'a> Sheets<'a> {
     fn prototype(&self, document: usize, node: &Node) -> Option<(usize, u32)> {
         match node.origin {
             Origin::Proto(id) => Some((document, id)),
-            Origin::Extern(id) if document == 0 => self.picks.get(id as usize).copied().flatten().map(Pick::prototype),
+            Origin::Extern(id) => self.picks.get(document, id).map(Pick::prototype),
             _ => None,
         }
     }
@@ -147,10 +147,12 @@ struct Opened {
 pub fn check(call: &Call, answer: &Expanded) -> Result<Seen, String> {
     let root = grammar::root(&call.root).map_err(|_| "the root doesn't fit")?;
     let files = grammar::library(&call.library).map_err(|_| "the library doesn't fit")?;
-    let sheets = Sheets {
-        docs: std::iter::once(&root).chain(files.iter().map(|f| &f.doc)).collect(),
-        picks: picks(&root, &files, None),
-    };
+    let met = picks(&root, &files, None);
+    let picks = met.by_table(&root, &files);
+    if picks != met {
+        return Err("a pick as it is met, and by the final table".into());
+    }
+    let sheets = Sheets { docs: std::iter::once(&root).chain(files.iter().map(|f| &f.doc)).collect(), picks };
     output::check(call, answer)?;
     for [_, document, id] in &answer.ledger {
         let document = *document as usize;

@@ -4,7 +4,7 @@ use std::collections::{HashMap, HashSet};
 
 use crate::call::{Call, Expanded};
 use crate::mutants::Mutant;
-use crate::picks::{choose, picks, Pick, MOST_BASES};
+use crate::picks::{choose, picks, Picks, MOST_BASES};
 use crate::reckon::{self, Reckoned};
 use crate::rows::*;
 use crate::scenes::MOST_CHARGES;
@@ -12,7 +12,7 @@ use crate::tree::*;
 use crate::{closure, grammar};
 
 /// What must be met at least once, by name.
-const SHAPES: [&str; 51] = [
+const SHAPES: [&str; 82] = [
     "a node mentioned twice",
     "a loop through an instance's fields",
     "a default with nodes",
@@ -64,6 +64,37 @@ const SHAPES: [&str; 51] = [
     "a mark behind another url of its base",
     "an extern declared without a mark",
     "3 at a marked url",
+    "an instance of a file's extern",
+    "  that takes a default",
+    "  with a field bound by IS that has a value",
+    "  as a body's root",
+    "a chain of three files, each opened by the one before",
+    "a file that a file and the root name",
+    "a file that two files name",
+    "an ExternProto node of a file without a pick, kept",
+    "equal extern ids of two documents with other picks",
+    "a file fetched without a pick, with externs",
+    "  without whose bases other files are found",
+    "a file that nothing fetches, with externs",
+    "  with whose bases other files are found",
+    "the last of two files of one base by a file's extern, with externs",
+    "63 bases over root and files",
+    "64 bases over root and files, none passed over",
+    "a 65th base, passed over in a file",
+    "  where no base of the root is passed over",
+    "another answer depth first",
+    "another answer where a file is walked at once",
+    "another answer in the library's order",
+    "a mark in a file, by a body's statement",
+    "a mark in a file, by a statement in a node",
+    "  of a file",
+    "6 by a file's extern",
+    "a circle of files, accepted",
+    "9 with every D, round a file that names itself",
+    "9 with every D, round a circle of two files",
+    "9 with every D, round a circle of three files",
+    "8 round a circle of files",
+    "10 round a circle of files",
 ];
 
 /// Counts of calls by shape.
@@ -110,10 +141,16 @@ impl Coverage {
                         let name = format!("{} in {}", refusal.number, if first == 0 { "the root" } else { "a file" });
                         seen.extend(SHAPES.iter().find(|shape| **shape == name));
                     }
-                    9 if reckoned.bound.takes_default() && endless_by_is(call) => {
-                        seen.insert("9 with every D, by a default that an IS to nothing takes");
-                    }
                     _ => {}
+                }
+                if refusal.number == 9 && reckoned.bound.takes_default() && endless_by_is(call) {
+                    seen.insert("9 with every D, by a default that an IS to nothing takes");
+                }
+                if reckoned.linked && matches!(refusal.number, 6 | 8..=10) {
+                    let (Ok(root), Ok(files)) = (grammar::root(&call.root), grammar::library(&call.library)) else {
+                        return;
+                    };
+                    Sheets::new(&root, &files).refused(call, refusal.number, &mut seen);
                 }
             }
         }
@@ -140,10 +177,13 @@ fn endless_by_is(call: &Call) -> bool {
     nine && reckon::expand(call, Some(Mutant::IsToNothingTakesNone)).is_ok()
 }
 
+/// Nodes enough for a circle of files 512 deep that does not branch.
+const MOST_DEEP: u32 = 4000;
+
 struct Sheets<'a> {
     docs: Vec<&'a Doc>,
     files: &'a [File],
-    picks: Vec<Option<Pick>>,
+    picks: Picks,
 }
 
 type Seen = HashSet<&'static str>;
@@ -157,7 +197,7 @@ impl<'a> Sheets<'a> {
     fn prototype(&self, document: usize, node: &Node) -> Option<&'a Proto> {
         let (document, id) = match node.origin {
             Origin::Proto(id) => (document, id),
-            Origin::Extern(id) if document == 0 => self.picks.get(id as usize).copied().flatten()?.prototype(),
+            Origin::Extern(id) => self.picks.get(document, id)?.prototype(),
             _ => return None,
         };
         self.docs[document].protos.get(id as usize)
@@ -181,6 +221,184 @@ impl<'a> Sheets<'a> {
         self.scopes(answer, seen);
         self.externs(seen);
         self.dangling(seen);
+        self.linked(call, answer, seen);
+    }
+
+    /// A refusal where files declare externs: circles without end, and 6 by a pick.
+    fn refused(&self, call: &Call, number: u32, seen: &mut Seen) {
+        // The same call is accepted where externs of files are not followed.
+        if reckon::expand(call, Some(Mutant::FilesExternsPlain)).is_err() {
+            return;
+        }
+        let circle = self.circles().into_iter().min();
+        match (number, circle) {
+            (6, _) => drop(seen.insert("6 by a file's extern")),
+            (8, Some(_)) => drop(seen.insert("8 round a circle of files")),
+            (10, Some(_)) => drop(seen.insert("10 round a circle of files")),
+            (9, Some(length)) => {
+                let deep = Call::new(call.root.clone(), call.library.clone(), MOST_DEEP, 512, MOST_CHARGES);
+                if matches!(reckon::expand(&deep, None), Err(r) if r.number == 9) {
+                    seen.insert(match length {
+                        1 => "9 with every D, round a file that names itself",
+                        2 => "9 with every D, round a circle of two files",
+                        _ => "9 with every D, round a circle of three files",
+                    });
+                }
+            }
+            _ => {}
+        }
+    }
+
+    /// The documents that the nodes of a document lead to.
+    fn leads_to(&self, document: usize) -> HashSet<usize> {
+        let nodes = self.docs[document].nodes.iter();
+        nodes
+            .filter_map(|n| if let Origin::Extern(id) = n.origin { self.picks.get(document, id) } else { None })
+            .map(|pick| pick.document)
+            .collect()
+    }
+
+    /// The lengths of the shortest circles through each document.
+    fn circles(&self) -> Vec<usize> {
+        let mut lengths = Vec::new();
+        for start in self.picks.fetched.iter().copied() {
+            let mut reached = self.leads_to(start);
+            for length in 1..=self.docs.len() {
+                if reached.contains(&start) {
+                    lengths.push(length);
+                    break;
+                }
+                let next: HashSet<usize> = reached.iter().flat_map(|d| self.leads_to(*d)).collect();
+                reached.extend(next);
+            }
+        }
+        lengths
+    }
+
+    /// What an accepted call has of externs in files (document 02, wish 12).
+    fn linked(&self, call: &Call, answer: &Expanded, seen: &mut Seen) {
+        let declares = |document: usize| !self.docs[document].externs.is_empty();
+        if !(1..self.docs.len()).any(declares) {
+            return;
+        }
+        self.instances_of_files(answer, seen);
+        if !self.circles().is_empty() {
+            seen.insert("a circle of files, accepted");
+        }
+        for [_, document, id] in answer.ledger.iter().filter(|entry| entry[1] > 0) {
+            if let Origin::Extern(_) = self.docs[*document as usize].nodes[*id as usize].origin {
+                seen.insert("an ExternProto node of a file without a pick, kept");
+            }
+        }
+        let walked: Vec<usize> = std::iter::once(0).chain(self.picks.fetched.iter().copied()).collect();
+        let picks_of = |document: usize| {
+            let count = self.docs[document].externs.len() as u32;
+            (0..count).filter_map(move |id| self.picks.get(document, id).map(|pick| (id, pick)))
+        };
+        let picked: Vec<(usize, u32, usize)> =
+            walked.iter().flat_map(|d| picks_of(*d).map(|(id, pick)| (*d, id, pick.document))).collect();
+        for (at, (document, id, to)) in picked.iter().enumerate() {
+            for (other, other_id, other_to) in &picked[..at] {
+                if other != document && to == other_to {
+                    seen.insert(match other {
+                        0 => "a file that a file and the root name",
+                        _ => "a file that two files name",
+                    });
+                }
+                if other != document && id == other_id && to != other_to {
+                    seen.insert("equal extern ids of two documents with other picks");
+                }
+            }
+            let of_base = |at: &usize| self.files[*at].base == self.files[to - 1].base;
+            if *document > 0 && declares(*to) && (0..to - 1).any(|at| of_base(&at)) {
+                seen.insert("the last of two files of one base by a file's extern, with externs");
+            }
+        }
+        for document in (1..self.docs.len()).filter(|d| declares(*d)) {
+            if !walked.contains(&document) {
+                seen.insert("a file that nothing fetches, with externs");
+            } else if !picked.iter().any(|(_, _, to)| *to == document) {
+                seen.insert("a file fetched without a pick, with externs");
+            }
+        }
+        self.table(call, answer, seen);
+    }
+
+    /// Instances of a file's extern, by the scopes that they open.
+    fn instances_of_files(&self, answer: &Expanded, seen: &mut Seen) {
+        let origin = |scope: usize| {
+            let opener = answer.scopes[answer.scopes[scope][4] as usize];
+            let document = opener[1] as usize;
+            (document, opener, &self.docs[document].nodes[answer.instances[scope] as usize])
+        };
+        for scope in 1..answer.scopes.len() {
+            let (document, opener, node) = origin(scope);
+            let Origin::Extern(_) = node.origin else { continue };
+            if document == 0 {
+                continue;
+            }
+            seen.insert("an instance of a file's extern");
+            if answer.scopes[scope][0] == 2 {
+                seen.insert("  that takes a default");
+                continue;
+            }
+            let body = || &self.docs[document].protos[opener[2] as usize].body;
+            if opener[0] == 1
+                && body().iter().find(|s| matches!(s, Statement::Node(_)))
+                    == Some(&Statement::Node(answer.instances[scope]))
+            {
+                seen.insert("  as a body's root");
+            }
+            let [_, inner, proto, ..] = answer.scopes[scope].map(|n| n as usize);
+            let interfaces = &self.docs[inner].protos[proto].interfaces;
+            let bound = |f: &Field| matches!(f.binding, Binding::Is(_)) && interfaces.iter().any(|i| i.name == f.name);
+            // Its target has a value where no default is taken for it.
+            let index = |name: u32| interfaces.iter().position(|i| i.name == name).unwrap() as u32;
+            for field in node.fields.iter().filter(|f| bound(f)) {
+                let entry = [2, inner as u32, proto as u32, index(field.name), answer.scopes[scope][4]];
+                if interfaces[index(field.name) as usize].value.is_some() && !answer.scopes.contains(&entry) {
+                    seen.insert("  with a field bound by IS that has a value");
+                }
+            }
+            let before = answer.scopes[scope][4] as usize;
+            let (outer, _, around) = origin(before);
+            let another = HashSet::from([outer, document, inner]).len() == 3 && outer > 0;
+            if opener[0] == 1 && another && matches!(around.origin, Origin::Extern(_)) {
+                seen.insert("a chain of three files, each opened by the one before");
+            }
+        }
+    }
+
+    /// The table of bases over root and files.
+    fn table(&self, call: &Call, answer: &Expanded, seen: &mut Seen) {
+        let by_files = self.docs[1..].iter().any(|d| !d.externs.is_empty());
+        let (bases, passed) = (self.picks.bases.len(), &self.picks.passed_over);
+        if !by_files || bases + 1 < MOST_BASES {
+            return;
+        }
+        if bases + 1 == MOST_BASES {
+            seen.insert("63 bases over root and files");
+        } else if passed.is_empty() {
+            seen.insert("64 bases over root and files, none passed over");
+        }
+        if passed.iter().any(|document| *document > 0) {
+            seen.insert("a 65th base, passed over in a file");
+            if !passed.contains(&0) {
+                seen.insert("  where no base of the root is passed over");
+            }
+        }
+        let mutants = [
+            (Mutant::FetchedDepthFirst, "another answer depth first"),
+            (Mutant::FetchedAtOnce, "another answer where a file is walked at once"),
+            (Mutant::FetchedInLibraryOrder, "another answer in the library's order"),
+            (Mutant::FileWithoutPickPassedOver, "  without whose bases other files are found"),
+            (Mutant::UnfetchedFilesWalked, "  with whose bases other files are found"),
+        ];
+        for (mutant, shape) in mutants {
+            if reckon::expand(call, Some(mutant)).as_ref() != Ok(answer) {
+                seen.insert(shape);
+            }
+        }
     }
 
     fn output(&self, answer: &Expanded, seen: &mut Seen) {
@@ -315,9 +533,9 @@ impl<'a> Sheets<'a> {
                 seen.insert("no pick by the last file of a base, one by an older file of it");
             }
         }
-        for (declared, pick) in self.docs[0].externs.iter().zip(&self.picks) {
+        for (id, declared) in self.docs[0].externs.iter().enumerate() {
             bases.extend(declared.urls.iter().map(|(base, _)| *base));
-            let Some(pick) = pick else {
+            let Some(pick) = self.picks.get(0, id as u32) else {
                 seen.insert("an extern without a pick");
                 continue;
             };

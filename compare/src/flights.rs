@@ -1,10 +1,10 @@
-//! The ten flights of document 01, its example, the examples of its readings, of wish 6 and of wish 4, by their words.
+//! The ten flights of document 01, its example, the examples of its readings, of wish 6, wish 4 and wish 12, by their words.
 
 use original::ast::FieldType;
 
 use crate::call::{Answer, Call, Expanded};
 use crate::reckon;
-use crate::rows::{words_of, Row, NODE, NONE, TAGS};
+use crate::rows::{words_of, Row, EXTERN, NODE, NONE, TAGS};
 use crate::scenes::MOST_CHARGES;
 use crate::{spoil, versus};
 
@@ -136,6 +136,65 @@ fn corrected() -> Vec<u32> {
     [file(1, 5), file(2, 5), file(3, 4), file(4, 5)].concat()
 }
 
+/// Wish 12: a file of a base, whose PROTO's body is a node of type 60 + n with an instance of the base that it names in turn.
+fn naming(n: u32, base: u32, next: u32) -> Vec<u32> {
+    sheet(&[
+        &[12, base],
+        &[1, 5],
+        &[2, 60 + n, NONE],
+        CHILD,
+        &[9, 1],
+        &[2, 8, NONE, 2, 0],
+        &[7, 8],
+        &[5, 0, 0],
+        &[8, 8],
+        &[10, next, NONE],
+        &[11],
+        &[5, 1, 0],
+    ])
+}
+
+/// Wish 12: file 1 names base 2; file 2 names a base without a file.
+fn chain() -> Vec<u32> {
+    [naming(1, 1, 2), naming(2, 2, 9)].concat()
+}
+
+/// An instance of base 1's prototype.
+fn one_base() -> Vec<u32> {
+    sheet(&[&[1, 5], &[2, 8, NONE, 2, 0], &[8, 8], &[10, 1, NONE], &[11], &[5, 0, 0]])
+}
+
+/// Wish 12: an instance of base 1's prototype, by a fragment or not, and one of base 2's, behind so many bases without a file.
+fn behind_bases(count: u32, fragment: u32) -> Vec<u32> {
+    let mut words = sheet(&[&[1, 5], &[2, 8, NONE, 2, 0], &[2, 8, NONE, 2, 1], &[8, 8], &[10, 1, fragment], &[8, 8]]);
+    (0..count).for_each(|i| words.extend(sheet(&[&[10, 100 + i, NONE]])));
+    words.extend(sheet(&[&[10, 2, NONE], &[11], &[5, 0, 0], &[5, 0, 1]]));
+    words
+}
+
+/// Wish 12: file 1 names base 3, file 2 base 4; files 3 and 4 name a base without a file.
+fn two_by_two() -> Vec<u32> {
+    [naming(1, 1, 3), naming(2, 2, 4), naming(3, 3, 9), naming(4, 4, 9)].concat()
+}
+
+/// Wishes 1 and 12: a file whose PROTO's body declares the file's extern; its second url leads to base 2.
+fn marked() -> Vec<u32> {
+    let rows: [&[u32]; 11] = [
+        &[12, 1],
+        &[1, 5],
+        &[2, 61, NONE],
+        &[7, 8],
+        &[5, 0, 0],
+        &[5, 2, 0],
+        &[8, 8],
+        &[10, 9, NONE],
+        &[10, 2, NONE],
+        &[11],
+        &[5, 1, 0],
+    ];
+    [sheet(&rows), naming(2, 2, 9)].concat()
+}
+
 fn flights() -> Vec<Flight> {
     let free = [400, 64, MOST_CHARGES];
     let flight =
@@ -155,6 +214,13 @@ fn flights() -> Vec<Flight> {
     example.extend(&one);
     // Charges: 3 at the start, 3 scopes, 2 stored values, 2 of a plain copy, an association, a field, 2 map entries, 2 records
     // and a statement.
+    let with = |library: Vec<u32>, flight: Flight| Flight { library, ..flight };
+    let circle = || [naming(1, 1, 2), naming(2, 2, 1)].concat();
+    // Charges: 3 at the start, a scope, 2 of a plain copy, a map entry, 3 of the extern, a record and a statement.
+    let mut mark = vec![1, 2, 12];
+    let rows: [&[u32]; 8] =
+        [&[1, 5], &[2, 61, NONE], &[13, 8], &[8, 8], &[10, 9, NONE], &[10, 2, NONE, 1], &[11], &[5, 0, 0]];
+    mark.extend(sheet(&rows));
     let mut kept_start = vec![1, 4, 17];
     kept_start.extend(sheet(&[&[1, 5], PLAIN, &[3, 1, 0, 0, 0, 4, 1, 3], &[13, 9], &[11], &[5, 0, 0]]));
     vec![
@@ -183,10 +249,58 @@ fn flights() -> Vec<Flight> {
         flight("an event-driven counter keeps its start", counter(), free, whole, kept_start),
         flight("a default that holds its own PROTO", default_of_itself(), free, refusal, vec![9, 0, 0]),
         flight("the same at the cap of D", default_of_itself(), [400, 512, MOST_CHARGES], refusal, vec![9, 0, 0]),
-        Flight {
-            library: corrected(),
-            ..flight("the last of three files of one base", two_bases(), free, documents, vec![0, 4, 3, 64, 63])
-        },
+        with(
+            corrected(),
+            flight("the last of three files of one base", two_bases(), free, documents, vec![0, 4, 3, 64, 63]),
+        ),
+        with(chain(), flight("a file that names another", one_base(), free, documents, vec![0, 1, 2, 61, 62, 8])),
+        with(circle(), flight("a circle of two files", one_base(), free, refusal, vec![9, 0, 0])),
+        with(circle(), flight("the same, few nodes", one_base(), [20, 64, MOST_CHARGES], refusal, vec![8, 0, 0])),
+        with(circle(), flight("the same, few charges", one_base(), [400, 64, 60], refusal, vec![10, 0, 0])),
+        with(
+            circle(),
+            flight("the same at the cap of D", one_base(), [400, 512, MOST_CHARGES], refusal, vec![9, 0, 0]),
+        ),
+        with(naming(1, 1, 1), flight("a file that names itself", one_base(), free, refusal, vec![9, 0, 0])),
+        with(
+            two_by_two(),
+            flight("one place left", behind_bases(61, NONE), free, documents, vec![0, 1, 3, 2, 61, 63, 8, 62, 8]),
+        ),
+        with(
+            two_by_two(),
+            flight(
+                "two places left, for both files of the root",
+                behind_bases(60, NONE),
+                free,
+                documents,
+                vec![0, 1, 3, 2, 4, 61, 63, 8, 62, 64, 8],
+            ),
+        ),
+        with(
+            two_by_two(),
+            flight("no place left", behind_bases(62, NONE), free, documents, vec![0, 1, 2, 61, 8, 62, 8]),
+        ),
+        with(
+            two_by_two(),
+            flight(
+                "the last place for a file without a pick",
+                behind_bases(61, 99),
+                free,
+                documents,
+                vec![0, 2, 8, 62, 8],
+            ),
+        ),
+        with(
+            [naming(1, 1, 9), naming(2, 2, 4), naming(4, 4, 9)].concat(),
+            flight(
+                "the last place for a file's base without a file",
+                behind_bases(61, NONE),
+                free,
+                documents,
+                vec![0, 1, 2, 61, 8, 62, 8],
+            ),
+        ),
+        with(marked(), flight("a mark in a file", one_base(), free, whole, mark)),
     ]
 }
 
@@ -196,23 +310,24 @@ pub fn calls(most_rows: u32) -> Vec<Call> {
     flights().into_iter().map(call).collect()
 }
 
-/// The pod whose field leads back to it, from the pod.
-pub fn pod_from_itself(max_rows: u32) -> Call {
-    Call::new(pod(0), Vec::new(), 400, 64, max_rows)
+/// The calls of wish 12's flights alone.
+pub fn of_wish_12(most_rows: u32) -> Vec<Call> {
+    calls(most_rows).into_iter().filter(|c| c.library.chunks(8).any(|row| row[0] == EXTERN)).collect()
 }
 
 /// Every flight, against its words and against the original. The number that fail.
 pub fn run() -> u64 {
     let flights = flights();
     let mut wrong = (FieldType::ALL.len() != TAGS as usize) as u64;
-    let (mut compared, mut by_is) = (0, 0);
+    let (mut compared, mut by_is, mut linked) = (0, 0, 0);
     for f in &flights {
         let [nodes, depth, rows] = f.limits;
         let call = Call::new(f.rows.clone(), f.library.clone(), nodes, depth, rows);
         let reckoned = reckon::reckon(&call, None);
         let got = (f.look)(&reckoned.answer);
-        let original = versus::against_original(&call, &reckoned);
-        compared += original.is_some() as u64;
+        let original = versus::held(&call, &reckoned);
+        compared += versus::has_original(&reckoned) as u64;
+        linked += reckoned.linked as u64;
         by_is += reckoned.bound.takes_default() as u64;
         let original = original.unwrap_or(Ok(()));
         if got != f.expected || original.is_err() {
@@ -221,7 +336,10 @@ pub fn run() -> u64 {
         }
     }
     println!("{} flights, {compared} with the original, {wrong} wrong", flights.len());
-    println!("with a default because of an IS to nothing {by_is}");
-    let call = |rows| Call::new(rows, Vec::new(), 400, 64, MOST_CHARGES);
-    wrong + spoil::run(&call(pod(1)), spoil::POD) + spoil::run(&call(counter()), spoil::COUNTER)
+    println!("with a default because of an IS to nothing {by_is}, with externs in the library's files {linked}");
+    let call = |rows, library| Call::new(rows, library, 400, 64, MOST_CHARGES);
+    wrong
+        + spoil::run(&call(pod(1), Vec::new()), spoil::POD)
+        + spoil::run(&call(counter(), Vec::new()), spoil::COUNTER)
+        + spoil::run(&call(one_base(), chain()), spoil::CHAIN)
 }

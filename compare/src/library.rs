@@ -9,7 +9,8 @@ use crate::held::{Slices, ANSWER};
 use crate::reckon::{self, Reckoned};
 use crate::scenes::{families, large, lent, MOST_CHARGES};
 use crate::shrink::shrink;
-use crate::{flights, sweeps, versus};
+use crate::versus::{self, By};
+use crate::{flights, sweeps};
 
 /// K of the families' calls; their scenes take less.
 const FAMILY_ROWS: u32 = 400;
@@ -28,6 +29,10 @@ struct Counts {
     by_is: u64,
     /// Of these, held against the original without the fields so bound.
     absent: u64,
+    /// A file of the library declares an extern: not with the original.
+    linked: u64,
+    /// Of these, held against the original as one document.
+    merged: u64,
     differences: u64,
 }
 
@@ -38,6 +43,8 @@ impl Counts {
         counts.original -= before.original;
         counts.by_is -= before.by_is;
         counts.absent -= before.absent;
+        counts.linked -= before.linked;
+        counts.merged -= before.merged;
         counts.differences -= before.differences;
         counts.refused.iter_mut().zip(before.refused).for_each(|(now, then)| *now -= then);
         counts
@@ -48,6 +55,8 @@ impl Counts {
         self.original += more.original;
         self.by_is += more.by_is;
         self.absent += more.absent;
+        self.linked += more.linked;
+        self.merged += more.merged;
         self.differences += more.differences;
         self.refused.iter_mut().zip(more.refused).for_each(|(now, then)| *now += then);
     }
@@ -57,7 +66,9 @@ impl fmt::Display for Counts {
     fn fmt(&self, f: &mut fmt::Formatter<'_>) -> fmt::Result {
         write!(f, "{} calls, {} of them with the original", self.calls, self.original)?;
         write!(f, ", {} with a default because of an IS to nothing", self.by_is)?;
-        write!(f, " ({} of them with the original without it), accepted {}", self.absent, self.refused[0])?;
+        write!(f, " ({} of them with the original without it)", self.absent)?;
+        write!(f, ", {} with externs in the library's files", self.linked)?;
+        write!(f, " ({} of them with the original as one document), accepted {}", self.merged, self.refused[0])?;
         let mut before = ", refused";
         for (number, count) in self.refused.iter().enumerate().skip(1).filter(|(_, c)| **c > 0) {
             write!(f, "{before} {number}: {count}")?;
@@ -77,15 +88,12 @@ struct Run {
 }
 
 /// How the library parts from the reckoning or from the original on one call, and whether the original was asked. Where a
-/// default is taken because of an IS, it is asked without the fields so bound.
+/// default is taken because of an IS, it is asked without the fields so bound; where a file of the library declares an extern,
+/// the scene as one document.
 fn differs(slices: &mut Slices, call: &Call, expected: &Reckoned) -> (Option<String>, bool) {
     let words = slices.differs(call, &expected.answer, ANSWER);
     // Where every word is the reckoning's, the original may be held against either.
-    let original = match versus::has_original(expected) {
-        true => versus::against_original(call, expected),
-        false if versus::stands_before(&expected.answer) => None,
-        false => versus::as_if_absent(call, expected),
-    };
+    let original = versus::held(call, expected);
     let asked = original.is_some();
     (words.or_else(|| original.and_then(|o| o.err()).map(|o| format!("the original: {o}"))), asked)
 }
@@ -99,11 +107,20 @@ impl Run {
     /// One call with its answer.
     fn note(&mut self, call: &Call, expected: &Reckoned) {
         let (difference, asked) = differs(&mut self.slices, call, expected);
-        let by_is = expected.bound.takes_default() && !versus::stands_before(&expected.answer);
+        let asked = asked as u64;
         self.counts.calls += 1;
-        self.counts.original += (asked && !by_is) as u64;
-        self.counts.by_is += by_is as u64;
-        self.counts.absent += (asked && by_is) as u64;
+        match versus::by(expected) {
+            By::Nothing => {}
+            By::Original => self.counts.original += asked,
+            By::Absent => {
+                self.counts.by_is += 1;
+                self.counts.absent += asked;
+            }
+            By::OneDocument => {
+                self.counts.linked += 1;
+                self.counts.merged += asked;
+            }
+        }
         self.counts.refused[number(expected)] += 1;
         if let Some(what) = difference {
             self.found(call, what);

@@ -2,6 +2,7 @@
 
 mod automaton;
 mod bench;
+mod bench_files;
 mod bound;
 mod call;
 mod charges;
@@ -20,6 +21,7 @@ mod held;
 mod library;
 mod linked;
 mod memory;
+mod merged;
 mod moving;
 mod mutants;
 mod operation;

@@ -2,10 +2,11 @@
 
 use crate::call::Call;
 use crate::closure;
+use crate::merged::merged;
 use crate::reckon::{self, Reckoned};
 use crate::scenes::families;
 use crate::shrink::shrink;
-use crate::versus;
+use crate::versus::{self, By};
 
 #[derive(Clone, Copy, Debug, PartialEq, Eq)]
 pub enum Mutant {
@@ -25,7 +26,6 @@ pub enum Mutant {
     DepthBeforeMap,
     RepeatedNameOverwritesWithNothing,
     NestedAssociationsKept,
-    FetchedExternsFollowed,
     IsOutsideBodyDropped,
     NodesLimitAfterExtern,
     BasesWithoutEnd,
@@ -56,8 +56,19 @@ pub enum Mutant {
     UrlsOfTheBaseMarked,
     NoMark,
     NoMarkByBody,
-    FilesExternsMarked,
+    FilesMarkedAsTheRoot,
     MarkedSheetsAccepted,
+    PicksByExternIdAlone,
+    BasesCountedPerDocument,
+    FetchedDepthFirst,
+    FetchedAtOnce,
+    FetchedInLibraryOrder,
+    FileWithoutPickPassedOver,
+    FilesExternsPlain,
+    NoMarkInFiles,
+    OneLevelOfFiles,
+    UnfetchedFilesWalked,
+    UnresolvedBasesOfFilesDoNotCount,
 }
 
 /// Mutants that the comparison with the original must notice, with what each does wrong.
@@ -81,7 +92,6 @@ pub const ALL: &[(Mutant, &str)] = &[
     (Mutant::DepthBeforeMap, "depth is tested before the map"),
     (Mutant::RepeatedNameOverwritesWithNothing, "a repeated interface name without a value clears the earlier one"),
     (Mutant::NestedAssociationsKept, "a nested instance's associations are kept behind the outer's"),
-    (Mutant::FetchedExternsFollowed, "picks apply to externs of fetched files too"),
     (Mutant::IsOutsideBodyDropped, "an IS outside a body is dropped"),
     (Mutant::NodesLimitAfterExtern, "4 comes before 8"),
     (Mutant::BasesWithoutEnd, "bases past the 64th are looked for too"),
@@ -92,8 +102,8 @@ pub const ALL: &[(Mutant, &str)] = &[
     (Mutant::DanglingPickPassedOver, "without a fragment a dangling Proto statement is passed over"),
 ];
 
-/// Mutants of what the original doesn't show (charges, scopes, places, the default that an IS to nothing takes, marks): frames must
-/// notice them.
+/// Mutants of what the original doesn't show (charges, scopes, places, the default that an IS to nothing takes, marks, externs of files):
+/// frames must notice them.
 pub const FRAMES_ONLY: &[(Mutant, &str)] = &[
     (Mutant::IdChargedBeforeCopy, "an id is charged before its node is copied"),
     (Mutant::FieldChargedBeforeValue, "a field is charged before its value is copied"),
@@ -117,8 +127,34 @@ pub const FRAMES_ONLY: &[(Mutant, &str)] = &[
     (Mutant::UrlsOfTheBaseMarked, "every url of the picked file's base is marked"),
     (Mutant::NoMark, "no url is marked"),
     (Mutant::NoMarkByBody, "no url is marked where a body's statement declares the extern"),
-    (Mutant::FilesExternsMarked, "a file's extern is marked as the root's of the same id"),
+    (Mutant::FilesMarkedAsTheRoot, "a file's extern is marked as the root's of the same id"),
     (Mutant::MarkedSheetsAccepted, "a sheet with a marked url is accepted"),
+    (Mutant::PicksByExternIdAlone, "picks are kept by the extern id alone, whatever the document"),
+    (Mutant::BasesCountedPerDocument, "the 64 bases are counted anew for each document"),
+    (Mutant::FetchedDepthFirst, "the fetched documents are walked depth first"),
+    (Mutant::FetchedAtOnce, "a fetched document is walked at once, before the root's next url"),
+    (Mutant::FetchedInLibraryOrder, "the fetched documents are walked in the library's order"),
+    (Mutant::FileWithoutPickPassedOver, "a file that is fetched without a pick is not walked"),
+    (Mutant::FilesExternsPlain, "an ExternProto node of a file is copied as a plain node although it has a pick"),
+    (Mutant::NoMarkInFiles, "no url of a file's extern is marked"),
+    (Mutant::OneLevelOfFiles, "the files that a file fetches are not walked"),
+    (Mutant::UnfetchedFilesWalked, "files that nothing fetches are walked too"),
+    (Mutant::UnresolvedBasesOfFilesDoNotCount, "a file's bases without a file do not count toward the 64"),
+];
+
+/// Of these, the mutants of wish 12.
+pub const OF_WISH_12: &[Mutant] = &[
+    Mutant::PicksByExternIdAlone,
+    Mutant::BasesCountedPerDocument,
+    Mutant::FetchedDepthFirst,
+    Mutant::FetchedAtOnce,
+    Mutant::FetchedInLibraryOrder,
+    Mutant::FileWithoutPickPassedOver,
+    Mutant::FilesExternsPlain,
+    Mutant::NoMarkInFiles,
+    Mutant::OneLevelOfFiles,
+    Mutant::UnfetchedFilesWalked,
+    Mutant::UnresolvedBasesOfFilesDoNotCount,
 ];
 
 /// The mutant of a name, as `compare mutants` prints it.
@@ -136,14 +172,24 @@ struct Notice {
     smallest: Option<Call>,
 }
 
-/// How a mutant's answer parts from the original's on an input for which that is the reference.
+/// Whether the original answers a call, as it is or as one document.
+fn answers(truth: &Reckoned) -> bool {
+    match versus::by(truth) {
+        By::Original => true,
+        By::OneDocument => !truth.bound.takes_default(),
+        By::Nothing | By::Absent => false,
+    }
+}
+
+/// How a mutant's answer parts from the original's, where that answers.
 fn parts(mutant: Mutant, call: &Call, truth: &Reckoned) -> Option<String> {
     let answer = reckon::expand(call, Some(mutant));
     // Where nothing changes there is nothing to notice.
-    if !versus::has_original(truth) || versus::stands_before(&answer) || answer == truth.answer {
+    if !answers(truth) || versus::stands_before(&answer) || answer == truth.answer {
         return None;
     }
-    versus::as_original(call, &answer).err()
+    let asked = if truth.linked { merged(call)? } else { call.clone() };
+    versus::as_original(&asked, &answer).err()
 }
 
 /// Every mutant over all families and `count` random cases. The number of mutants that nothing noticed.
@@ -153,7 +199,7 @@ pub fn run(count: u64, seed: u64) -> u64 {
     for number in 0..families::total() + count {
         let call = versus::case(seed, number);
         let truth = reckon::reckon(&call, None);
-        if !versus::has_original(&truth) {
+        if !answers(&truth) {
             continue;
         }
         compared += 1;

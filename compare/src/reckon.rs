@@ -9,7 +9,7 @@ use crate::call::{refuse, Answer, Call, Expanded};
 use crate::grammar;
 use crate::mutants::Mutant;
 use crate::picks::picks;
-use crate::rows::{Row, MOST_ROWS, URL};
+use crate::rows::{Row, EXTERN, MOST_ROWS, URL};
 use crate::steps::Steps;
 use crate::tree::{print, Doc};
 
@@ -17,6 +17,8 @@ use crate::tree::{print, Doc};
 pub struct Reckoned {
     pub answer: Answer,
     pub bound: Bound,
+    /// A file of the library declares an extern, fetched or not: the original is no reference (document 02, wish 12).
+    pub linked: bool,
     /// What there is to tell of marks, by the names of coverage's shapes.
     #[cfg_attr(not(feature = "library"), allow(dead_code))]
     pub noted: HashSet<&'static str>,
@@ -35,7 +37,8 @@ pub fn reckon(call: &Call, mutant: Option<Mutant>) -> Reckoned {
     let mut noted = HashSet::new();
     let mut keys = Vec::new();
     let answer = answer(call, mutant, &mut bound, &mut noted, &mut keys);
-    Reckoned { answer, bound, noted, keys }
+    let linked = call.library.chunks(8).any(|row| row[0] == EXTERN);
+    Reckoned { answer, bound, linked, noted, keys }
 }
 
 fn answer(

@@ -45,6 +45,18 @@ pub const COUNTER: &[Spoil] = &[
     ("a body scope names another instance", |e| e.instances[3] = 0),
 ];
 
+/// What is done to the answer of `flights::chain`: scope 2 is the body of the file that the first file names.
+pub const CHAIN: &[Spoil] = &[
+    ("an ExternProto instance of a file is left", |e| e.ledger[1] = [1, 1, 1]),
+    ("the second file's scope is missing", |e| {
+        e.scopes.truncate(2);
+        e.instances.truncate(2);
+    }),
+    ("the second file's scope names the first", |e| e.scopes[2][1] = 1),
+    ("the second file's scope is opened by the root", |e| e.scopes[2][4] = 0),
+    ("a node of the second file is told of the first", |e| e.ledger[1][1] = 1),
+];
+
 /// The scope of a number stands at the end of the list once more.
 fn twice(answer: &mut Expanded, scope: usize) {
     answer.scopes.push(answer.scopes[scope]);

@@ -5,7 +5,7 @@ use std::collections::{HashMap, HashSet};
 use crate::bound::Bound;
 use crate::call::{refuse, Call, Refusal};
 use crate::mutants::Mutant;
-use crate::picks::Pick;
+use crate::picks::{Pick, Picks};
 use crate::rows::{MARK_FIELD, MARK_STATEMENT};
 use crate::tree::*;
 
@@ -43,7 +43,7 @@ const BY_ORIGIN: &str = "a mark by a node's origin";
 /// The state of the steps: what stands in the output so far, and the limits.
 pub struct Steps<'a> {
     docs: Vec<&'a Doc>,
-    picks: Vec<Option<Pick>>,
+    picks: Picks,
     /// Nodes, depth, rows.
     limits: [usize; 3],
     mutant: Option<Mutant>,
@@ -69,7 +69,7 @@ pub struct Steps<'a> {
 
 impl<'a> Steps<'a> {
     /// Before the first step. Document 0 is the root, document n the n-th file.
-    pub fn new(call: &Call, docs: Vec<&'a Doc>, picks: Vec<Option<Pick>>, mutant: Option<Mutant>) -> Steps<'a> {
+    pub fn new(call: &Call, docs: Vec<&'a Doc>, picks: Picks, mutant: Option<Mutant>) -> Steps<'a> {
         Steps {
             docs,
             picks,
@@ -171,9 +171,9 @@ impl<'a> Steps<'a> {
     fn prototype(&self, document: usize, node: &Node) -> Option<(usize, u32)> {
         match node.origin {
             Origin::Proto(id) => Some((document, id)),
-            Origin::Extern(id) if document == 0 || self.is(Mutant::FetchedExternsFollowed) => {
-                self.picks.get(id as usize).copied().flatten().map(Pick::prototype)
-            }
+            Origin::Extern(_) if document > 0 && self.is(Mutant::FilesExternsPlain) => None,
+            Origin::Extern(id) if self.is(Mutant::PicksByExternIdAlone) => self.picks.of_id(id).map(Pick::prototype),
+            Origin::Extern(id) => self.picks.get(document, id).map(Pick::prototype),
             _ => None,
         }
     }
@@ -229,10 +229,16 @@ impl<'a> Steps<'a> {
     /// Which urls of a declared extern are marked; `by` is what declares it.
     fn mark(&mut self, document: usize, id: u32, by: &'static str) -> Vec<bool> {
         let urls = &self.docs[document].externs[id as usize].urls;
-        let pick = self.picks.get(id as usize).copied().flatten();
-        let pick = pick.filter(|_| document == 0 || self.is(Mutant::FilesExternsMarked));
+        let pick = match document {
+            1.. if self.is(Mutant::FilesMarkedAsTheRoot) => self.picks.get(0, id),
+            1.. if self.is(Mutant::NoMarkInFiles) => None,
+            _ => self.picks.get(document, id),
+        };
         let Some(taken) = pick.map(|p| p.url).filter(|taken| *taken < urls.len()) else {
             self.noted.insert("an extern declared without a mark");
+            if document > 0 {
+                self.noted.insert("  of a file");
+            }
             return vec![false; urls.len()];
         };
         if self.is(Mutant::NoMark) || by == BY_BODY && self.is(Mutant::NoMarkByBody) {
@@ -257,6 +263,12 @@ impl<'a> Steps<'a> {
             self.noted.insert("a mark behind another url of its base");
         }
         self.noted.insert(by);
+        if document > 0 {
+            self.noted.insert(match by {
+                BY_BODY => "a mark in a file, by a body's statement",
+                _ => "a mark in a file, by a statement in a node",
+            });
+        }
         marks
     }
 
@@ -387,7 +399,9 @@ impl<'a> Steps<'a> {
         for statement in &node.statements {
             let copy = match statement {
                 Statement::Route(route) => Some(Statement::Route(self.remap(scope, route))),
-                Statement::Extern(id) => Some(Statement::Extern(self.declare(document, *id, "a mark by a statement in a node")?)),
+                Statement::Extern(id) => {
+                    Some(Statement::Extern(self.declare(document, *id, "a mark by a statement in a node")?))
+                }
                 _ => None,
             };
             kept.push(copy.is_some());

@@ -14,6 +14,10 @@ pub struct Tally {
     pub by_is: u64,
     /// Of these, the ones held against the original without the fields so bound.
     pub absent: u64,
+    /// Calls in which a file of the library declares an extern: the reckoning is alone with the picks.
+    pub linked: u64,
+    /// Of these, the ones held against the original as one document.
+    pub merged: u64,
     pub accepted: u64,
     pub refused: [u64; 11],
     pub loops: u64,
@@ -56,6 +60,11 @@ impl fmt::Display for Tally {
             f,
             "with a default because of an IS to nothing {}, {} of them compared without the fields so bound",
             self.by_is, self.absent
+        )?;
+        writeln!(
+            f,
+            "with externs in the library's files {}, {} of them compared as one document",
+            self.linked, self.merged
         )?;
         write!(f, "refused:")?;
         for (number, count) in self.refused.iter().enumerate().filter(|(_, c)| **c > 0) {

@@ -1,6 +1,7 @@
 //! The comparison of `reckon` with the original, case by case, and the checks that need no original.
 
-use crate::call::{Answer, Call};
+use crate::call::{Answer, Call, Expanded};
+use crate::merged::merged;
 use crate::random::Random;
 use crate::reckon::{self, Reckoned};
 use crate::rows::{self, rows_of, Row, URL};
@@ -35,16 +36,23 @@ pub fn check(call: &Call, tally: &mut Tally) -> Result<(), String> {
     let answer = &reckoned.answer;
     tally.note(answer);
     places(call)?;
-    if let Some(difference) = against_original(call, &reckoned) {
-        tally.compared += 1;
-        difference?;
-        round_trip(call)?;
-    } else if !stands_before(answer) {
-        tally.by_is += 1;
-        if let Some(difference) = as_if_absent(call, &reckoned) {
-            tally.absent += 1;
-            difference?;
+    let held = held(call, &reckoned);
+    let asked = held.is_some() as u64;
+    match by(&reckoned) {
+        By::Nothing => {}
+        By::Original => tally.compared += asked,
+        By::Absent => {
+            tally.by_is += 1;
+            tally.absent += asked;
         }
+        By::OneDocument => {
+            tally.linked += 1;
+            tally.merged += asked;
+        }
+    }
+    held.unwrap_or(Ok(()))?;
+    if asked > 0 {
+        round_trip(call)?;
     }
     if let Ok(expanded) = answer {
         let seen = closure::check(call, expanded).map_err(|e| format!("demand 3: {e}"))?;
@@ -92,14 +100,78 @@ pub fn stands_before(answer: &Answer) -> bool {
     matches!(answer, Err(r) if matches!(r.number, 1 | 2 | 3 | 10))
 }
 
-/// Whether the original is the reference of a call: nothing stands before it, and no default is taken because of an IS.
+/// What the original is asked for a call.
+#[derive(Clone, Copy, PartialEq)]
+pub enum By {
+    /// Nothing: a refusal stands before it.
+    Nothing,
+    /// The call itself.
+    Original,
+    /// A default is taken because of an IS: the call without the fields so bound.
+    Absent,
+    /// A file of the library declares an extern: the scene and its library as one document.
+    OneDocument,
+}
+
+pub fn by(reckoned: &Reckoned) -> By {
+    match reckoned {
+        _ if stands_before(&reckoned.answer) => By::Nothing,
+        _ if reckoned.linked => By::OneDocument,
+        _ if reckoned.bound.takes_default() => By::Absent,
+        _ => By::Original,
+    }
+}
+
+/// Whether the original is the reference of a call: nothing stands before it, no file of the library declares an extern, and no
+/// default is taken because of an IS.
 pub fn has_original(reckoned: &Reckoned) -> bool {
-    !stands_before(&reckoned.answer) && !reckoned.bound.takes_default()
+    by(reckoned) == By::Original
+}
+
+/// The answer held against what the original is asked; nothing where it is not asked.
+pub fn held(call: &Call, reckoned: &Reckoned) -> Option<Result<(), String>> {
+    match by(reckoned) {
+        By::Nothing if reckoned.linked => as_counted(call, reckoned).err().map(Err),
+        By::Nothing => None,
+        By::Original => Some(as_original(call, &reckoned.answer)),
+        By::Absent => as_if_absent(call, reckoned),
+        By::OneDocument => as_one_document(call, reckoned),
+    }
 }
 
 /// The answer held against the original's; nothing where that is no reference.
 pub fn against_original(call: &Call, reckoned: &Reckoned) -> Option<Result<(), String>> {
     has_original(reckoned).then(|| as_original(call, &reckoned.answer))
+}
+
+/// Where a file of the library declares an extern: the answer has the counts, the rows but for the marks, or the kind of refusal
+/// of the scene as one document, and so the original's. Nothing where that document has too many rows.
+fn as_one_document(call: &Call, reckoned: &Reckoned) -> Option<Result<(), String>> {
+    let whole = merged(call)?;
+    let truth = reckon::reckon(&whole, None);
+    let same = match (&reckoned.answer, &truth.answer) {
+        (Ok(a), Ok(b)) => {
+            let counts = |e: &Expanded| (e.nodes, e.charges, e.scopes.len());
+            counts(a) == counts(b) && unmarked(&a.out) == b.out
+        }
+        (Err(a), Err(b)) => a.number == b.number,
+        _ => false,
+    };
+    if !same {
+        return Some(Err("another answer than as one document".into()));
+    }
+    held(&whole, &truth)
+}
+
+/// Refusal 10 where a file of the library declares an extern: the scene as one document has it too.
+fn as_counted(call: &Call, reckoned: &Reckoned) -> Result<(), String> {
+    let ten = matches!(&reckoned.answer, Err(r) if r.number == 10);
+    match merged(call) {
+        Some(whole) if ten && reckon::expand(&whole, None) != reckoned.answer => {
+            Err("10, but not as one document".into())
+        }
+        _ => Ok(()),
+    }
 }
 
 /// Where a default is taken because of an IS: the answer held against that to the same call without those fields, every word
@@ -191,8 +263,12 @@ pub fn large() -> u64 {
             Some(refusal) => print!("{name}: refusal {refusal}"),
             None => print!("{name}: {} nodes, {} scopes", tally.most_nodes, tally.most_scopes),
         }
-        let result = result.and(if tally.compared > 0 { Ok(()) } else { Err("not held against the original".into()) });
-        println!("; {}", result.as_ref().map_or_else(String::as_str, |()| "as the original"));
+        let result = result.and(match tally.compared + tally.merged {
+            0 => Err("not held against the original".into()),
+            _ => Ok(()),
+        });
+        let how = if tally.merged > 0 { "as one document, as the original" } else { "as the original" };
+        println!("; {}", result.as_ref().map_or_else(String::as_str, |()| how));
         differences += result.is_err() as u64;
     }
     println!("{differences} differences");

@@ -18,7 +18,8 @@ in numbers, goes to standard error. SCENE.lines may be - for standard input.
   --nodes N             at most N nodes; without it 4000000, the cap
   --depth D             nested at most D deep; without it 512, the cap
   --rows K              at most K charges; without it as many as are needed, up to 16777216, the cap
-  --library BASE=FILE   a document that the scene's urls name by the base's number; may be given again, in the library's order;
+  --library BASE=FILE   a document that the urls of the scene, or of another document of the library, name by the base's number; at
+                        most 64 bases are looked for in all; may be given again, in the library's order;
                         of several with the same base the last counts, so a corrected file is added behind the old one:
                         --library 63=whales.lines --library 63=whales-corrected.lines
   --ledger FILE         write the ledger: scope, document and source id of each node
@@ -33,6 +34,13 @@ Which of several addresses a prototype came from is told by --urls; ids and inde
   $ cat urls.txt
   extern 0, name 79: none of 1 urls
   extern 1, name 59: url 3 of 5, base 63, fragment 64
+
+A shared library may be several files that name one another; a prototype of one is expanded with those of the others. For example:
+
+  $ luhetami --urls urls.txt --library 84=scenes/library/surveys.lines --library 85=scenes/library/animals.lines \\
+      --library 87=scenes/library/flukes.lines scenes/shared-library.lines > expanded.lines
+  $ cat urls.txt
+  extern 0, name 59: url 1 of 2, base 85, fragment 64
 
 luhetami moving prints, for each leg of a season, its count and, from the WIDTH-th leg on, the total of the last WIDTH counts,
 with the first of the largest totals marked. COUNTS has one count to a line, at most 4294967295 each; it may be - for standard

@@ -48,7 +48,7 @@ impl Digits {
 type Family = fn(&mut Digits) -> Scene;
 
 /// The families, each with its name: those of document 01, then those of the wishes.
-const FAMILIES: [(&str, Family); 11] = [
+const FAMILIES: [(&str, Family); 14] = [
     ("loops", loops),
     ("values", values),
     ("marks", marks),
@@ -60,10 +60,14 @@ const FAMILIES: [(&str, Family); 11] = [
     ("fetched", fetched),
     ("counters", counters),
     ("corrected", corrected),
+    ("linked", linked),
+    ("table", table),
+    ("equal ids", equal_ids),
 ];
 
-/// The families of document 01.
+/// The families of document 01, and all before those of wish 12.
 const OF_DOCUMENT_01: usize = 9;
+const BEFORE_WISH_12: usize = 11;
 
 /// Name and size of each family.
 pub fn sizes() -> &'static [(&'static str, u64)] {
@@ -99,9 +103,14 @@ pub fn of_document_01() -> u64 {
     sizes()[..OF_DOCUMENT_01].iter().map(|(_, size)| size).sum()
 }
 
-/// Some scene of document 01's families, each as likely as any other. A wish's family adds cases and changes none of these.
+/// The number of scenes in the families before those of wish 12.
+pub fn of_wishes_before_12() -> u64 {
+    sizes()[..BEFORE_WISH_12].iter().map(|(_, size)| size).sum()
+}
+
+/// Some scene of the families, each of them as likely as any other.
 pub fn any(r: &mut Random) -> Scene {
-    let at = r.below(OF_DOCUMENT_01);
+    let at = r.below(FAMILIES.len());
     FAMILIES[at].1(&mut Digits { rest: r.next() % sizes()[at].1, size: 1 })
 }
 
@@ -229,7 +238,7 @@ fn picks(d: &mut Digits) -> Scene {
     for base in [1, 2] {
         for top in [&[][..], &[0], &[1, 0], &[7], &[7, 0]] {
             let top = top.iter().map(|p| Statement::Proto(*p)).chain([Statement::Node(0)]).collect();
-            // The file's own instance of its own extern stays, and the extern is declared for that document.
+            // The file's own instance of its own extern: of base 1, so that a file may lead back to itself.
             let nodes = vec![node(60, Origin::Extern(0), vec![]), plain(61, vec![given(1, nodes(&[0]))])];
             let externs = vec![Extern { name: 4, interfaces: vec![], urls: vec![(1, None)] }];
             let proto = |name, root| Proto { name, interfaces: vec![declared(1, None)], body: mention(root) };
@@ -237,8 +246,15 @@ fn picks(d: &mut Digits) -> Scene {
             may.push(File { base, doc });
         }
     }
-    let files = d.list(&may, 2);
+    let mut files = d.list(&may, 2);
     let top = d.of(&[mention(&[0]), mention(&[1]), vec![Statement::Extern(0), Statement::Node(0)]]);
+    // Without externs in the files, so that the original is the reference too.
+    if d.of(&[false, true]) {
+        for file in &mut files {
+            file.doc.externs.clear();
+            file.doc.nodes[0].origin = Origin::Unknown;
+        }
+    }
     let mut list = vec![node(50, Origin::Extern(0), vec![given(1, payload(2))]), node(51, Origin::Proto(0), vec![])];
     list[0].def = Some(3);
     let protos = vec![Proto { name: 9, interfaces: vec![], body: mention(&[0]) }];
@@ -364,7 +380,7 @@ fn fetched(d: &mut Digits) -> Scene {
         Proto { name: 5, interfaces: vec![declared(1, default)], body },
         Proto { name: 6, interfaces: vec![], body: mention(second) },
     ];
-    let externs = vec![Extern { name: 4, interfaces: vec![], urls: vec![(1, Some(6))] }];
+    let externs = d.of(&[vec![Extern { name: 4, interfaces: vec![], urls: vec![(1, Some(6))] }], vec![]]);
     let list = vec![node(60, origin, vec![given(1, nodes(ids)), is(2, 1)]), node(61, inner, vec![])];
     let doc = Doc { header: 1, nodes: list, protos, externs, top: vec![Statement::Proto(0)] };
     let fields = d.of(&[vec![], vec![given(1, nodes(&[1]))]]);
@@ -437,4 +453,147 @@ fn corrected(d: &mut Digits) -> Scene {
     let externs = [urls, second].map(|urls| Extern { name: 3, interfaces: vec![], urls }).to_vec();
     let root = Doc { header: 5, nodes: list, protos: vec![], externs, top: mention(&[0, 1, 0]) };
     Scene { root, files, max_nodes: 40, max_depth: 7 }
+}
+
+/// An extern with these urls.
+fn extern_of(urls: Vec<(u32, Option<u32>)>) -> Extern {
+    Extern { name: 4, interfaces: vec![declared(1, None)], urls }
+}
+
+/// A file of one PROTO, 5, that takes a value: its body is a node with these children and what else a body may hold.
+fn file_of(base: u32, type_name: u32, children: &[u32], more: Vec<Statement>) -> File {
+    let root = plain(type_name, vec![given(2, nodes(children)), is(1, 1)]);
+    let body = mention(&[0]).into_iter().chain(more).collect();
+    let protos = vec![Proto { name: 5, interfaces: vec![declared(1, Some(payload(type_name)))], body }];
+    let top = vec![Statement::Proto(0)];
+    File { base, doc: Doc { header: 1, nodes: vec![root], protos, externs: vec![], top } }
+}
+
+/// Three files that name one another, themselves or nothing: chains, circles, a file reached twice, a file that is declared
+/// twice with one base (wish 12).
+fn linked(d: &mut Digits) -> Scene {
+    let mut files = Vec::new();
+    for n in 1..=3u32 {
+        let (next, after) = (n % 3 + 1, (n + 1) % 3 + 1);
+        let urls = d.of(&[
+            vec![],
+            vec![(next, None)],
+            vec![(after, Some(5))],
+            vec![(n, None)],
+            vec![(next, Some(99)), (9, None), (after, None)],
+            vec![(next, Some(99))],
+        ]);
+        // Its extern's node is a child of the body's root; a calf beside it.
+        let mut file = file_of(n, 60 + n, &[1, 2], vec![Statement::Extern(0)]);
+        let mut link = node(70 + n, Origin::Extern(0), vec![is(1, 1)]);
+        link.def = Some(3);
+        file.doc.nodes.extend([link, plain(80 + n, vec![])]);
+        file.doc.externs = vec![extern_of(urls)];
+        files.push(file);
+    }
+    // Some body's child is plain, so that a circle may end.
+    match d.choose(4) {
+        0 => {}
+        n => files[n - 1].doc.nodes[1].origin = Origin::Unknown,
+    }
+    // Another file of base 2, whose extern names base 1: the old one in front, or the corrected one behind.
+    let mut other = file_of(2, 66, &[1], vec![]);
+    other.doc.nodes.push(node(76, Origin::Extern(0), vec![]));
+    other.doc.externs = vec![extern_of(vec![(3, None)])];
+    match d.choose(3) {
+        0 => {}
+        1 => files.insert(0, other),
+        _ => files.push(other),
+    }
+    let urls = d.of(&[vec![(1, None)], vec![(9, None), (1, Some(5))], vec![(2, Some(99)), (3, None)]]);
+    let second = d.of(&[vec![(2, None)], vec![(1, Some(99))]]);
+    let externs = vec![extern_of(urls), extern_of(second)];
+    let list = vec![node(50, Origin::Extern(0), vec![given(1, payload(2))]), node(51, Origin::Extern(1), vec![])];
+    let root = Doc { header: 5, nodes: list, protos: vec![], externs, top: mention(&[0, 1]) };
+    Scene { root, files, max_nodes: 40, max_depth: 9 }
+}
+
+/// About 64 distinct bases over the root and its files together: 1 and 2 of the root, 3 of file 1, 4 of file 2, 5 of file 3
+/// and 6 of file 4, and so many without a file that some of these come too late, or one of them is just in time.
+fn table(d: &mut Digits) -> Scene {
+    // The places that are left for 3, 4, 5, 6 and three more without a file: none, too few, just enough, one too many.
+    let left = d.choose(9) as u32;
+    let unresolved: Vec<(u32, Option<u32>)> = (0..62 - left).map(|i| (100 + i, None)).collect();
+    let with_pick = d.of(&[None, Some(99)]);
+    let fifth = d.of(&[vec![(200, None), (6, Some(99)), (7, None)], vec![(200, None), (7, None), (6, None)]]);
+    let mut files: Vec<File> = Vec::new();
+    for n in 1..=6u32 {
+        let mut file = file_of(n, 60 + n, &[1], vec![]);
+        file.doc.nodes.push(node(70 + n, Origin::Extern(0), vec![]));
+        let urls = match n {
+            1 => vec![(3, with_pick)],
+            2 | 4 => vec![(n + 2, None)],
+            // Reached by two externs; the second time it costs no place.
+            3 => vec![(5, None), (1, None)],
+            5 => fifth.clone(),
+            _ => vec![(201, None), (4, Some(99))],
+        };
+        file.doc.externs = vec![extern_of(urls)];
+        files.push(file);
+    }
+    // Where the others stand: in the root, in file 1 before its own, in file 2, or in the root and file 1, some of them twice.
+    let mut first = vec![];
+    match d.choose(4) {
+        0 => first = unresolved,
+        1 => files[0].doc.externs[0].urls.splice(0..0, unresolved).for_each(drop),
+        2 => files[1].doc.externs[0].urls.splice(0..0, unresolved).for_each(drop),
+        _ => {
+            first = unresolved[..30].to_vec();
+            files[0].doc.externs[0].urls.splice(0..0, unresolved[20..].iter().copied()).for_each(drop);
+        }
+    }
+    // The library in order, or with the later files first.
+    match d.choose(3) {
+        0 => {}
+        1 => files.reverse(),
+        _ => files.rotate_left(3),
+    }
+    // A file that nothing fetches, with bases of its own.
+    if d.of(&[false, true]) {
+        let mut idle = file_of(8, 68, &[], vec![]);
+        idle.doc.externs = vec![extern_of((300..305).map(|base| (base, None)).collect())];
+        files.insert(0, idle);
+    }
+    first.push((1, None));
+    let externs = vec![extern_of(first), extern_of(vec![(2, None)])];
+    let list = vec![node(50, Origin::Extern(0), vec![]), node(51, Origin::Extern(1), vec![])];
+    let root = Doc { header: 5, nodes: list, protos: vec![], externs, top: mention(&[0, 1]) };
+    Scene { root, files, max_nodes: 60, max_depth: 14 }
+}
+
+/// Externs 0 and 1 in the root and in two files: each has a pick of its own, and a mark where a statement declares it.
+fn equal_ids(d: &mut Digits) -> Scene {
+    let to = |other: u32, d: &mut Digits| {
+        let first = d.of(&[vec![], vec![(other, None)], vec![(9, None), (other, Some(6)), (other, None)]]);
+        let second = d.of(&[vec![], vec![(other, Some(5))], vec![(other, Some(99)), (3, None)]]);
+        vec![extern_of(first), extern_of(second)]
+    };
+    // File 1 takes from file 2; file 2 from file 3, which takes nothing.
+    let mut files: Vec<File> = (1..=3).map(|n| file_of(n, 60 + n, &[1], vec![])).collect();
+    files[0].doc.externs = to(2, d);
+    files[1].doc.externs = to(3, d);
+    let origin = d.of(&[Origin::Extern(0), Origin::Extern(1), Origin::Extern(2)]);
+    let inner = d.of(&[Origin::Extern(0), Origin::Extern(1)]);
+    files[0].doc.nodes.push(node(71, origin, vec![given(1, nodes(&[]))]));
+    files[1].doc.nodes.push(node(72, inner, vec![]));
+    files[2].doc.nodes.push(plain(73, vec![]));
+    let (zero, one) = (Statement::Extern(0), Statement::Extern(1));
+    let body = d.of(&[vec![], vec![one.clone()], vec![zero.clone(), one.clone(), zero.clone()]]);
+    files[0].doc.protos[0].body.extend(body);
+    files[1].doc.nodes[0].statements = d.of(&[vec![], vec![one.clone(), zero.clone()]]);
+    files[1].doc.protos[0].body.extend(d.of(&[vec![], vec![zero.clone()]]));
+    let externs = d.of(&[
+        vec![extern_of(vec![(1, None)]), extern_of(vec![(2, Some(5))])],
+        vec![extern_of(vec![(2, None), (1, None)]), extern_of(vec![(9, None), (1, Some(5))])],
+        vec![extern_of(vec![(9, None)]), extern_of(vec![(1, Some(99)), (1, None)])],
+    ]);
+    let list = vec![node(50, Origin::Extern(0), vec![]), node(51, Origin::Extern(1), vec![])];
+    let top = vec![Statement::Node(0), one, Statement::Node(1)];
+    let root = Doc { header: 5, nodes: list, protos: vec![], externs, top };
+    Scene { root, files, max_nodes: 40, max_depth: 9 }
 }

@@ -21,6 +21,8 @@ struct Style {
     recursion: usize,
     is: usize,
     extras: usize,
+    /// The bases that urls name, from and to.
+    bases: [usize; 2],
 }
 
 impl Style {
@@ -39,6 +41,7 @@ impl Style {
             recursion: r.of(&[0, 0, 0, 3, 20]),
             is: r.of(&[0, 20, 50, 80]),
             extras: r.of(&[0, 10, 30, 60]),
+            bases: [1, 3],
         }
     }
 }
@@ -47,21 +50,57 @@ impl Style {
 pub fn scene(r: &mut Random, most_nodes: usize) -> Scene {
     let style = Style::random(r, most_nodes);
     let root = document(r, style);
-    let count = if root.externs.is_empty() && !r.percent(5) { 0 } else { r.of(&[0, 1, 1, 2, 3]) };
+    let kind = r.of(&[Files::Plain, Files::Plain, Files::Any, Files::Onward, Files::Onward]);
+    let count = match kind {
+        _ if root.externs.is_empty() && !r.percent(5) => 0,
+        Files::Onward => r.range(1, 5),
+        _ => r.of(&[0, 1, 1, 2, 3]),
+    };
     let mut files = Vec::new();
-    for _ in 0..count {
+    for n in 1..=count {
         let mut inner = Style::random(r, most_nodes);
         // One naming for all documents, so that fragments find names.
         inner.first_name = style.first_name;
         inner.protos = inner.protos.max(r.below(2));
-        files.push(File { base: base(r), doc: document(r, inner) });
+        let base = match kind {
+            Files::Plain => {
+                inner.externs = 0;
+                base(r)
+            }
+            Files::Any => base(r),
+            Files::Onward => {
+                inner.externs = inner.externs.max(1);
+                inner.fetched = r.of(&[20, 50, 90]);
+                inner.protos = inner.protos.max(1);
+                // Some lead back.
+                let back = r.percent(10);
+                inner.bases = [if back { 1 } else { n + 1 }, count.max(n + 1)];
+                n as u32
+            }
+        };
+        files.push(File { base, doc: document(r, inner) });
+    }
+    if count > 1 && r.percent(10) {
+        let at = r.below(count);
+        files.swap(0, at);
     }
     let mut scene = Scene { root, files, max_nodes: 0, max_depth: 0 };
     limits(r, &mut scene);
     if r.below(400) == 0 {
-        many_bases(r, &mut scene.root);
+        many_bases(r, &mut scene);
     }
     scene
+}
+
+/// What the files of a scene name.
+#[derive(Clone, Copy)]
+enum Files {
+    /// Nothing: no file declares an extern.
+    Plain,
+    /// Any of three bases.
+    Any,
+    /// Mostly the files behind them, so that chains end.
+    Onward,
 }
 
 /// Limits that mostly let the scene by.
@@ -71,12 +110,20 @@ fn limits(r: &mut Random, scene: &mut Scene) {
     scene.max_depth = if bites || r.percent(5) { r.below(9) } else { r.range(9, 24) } as u32;
 }
 
-/// Urls with about 64 distinct bases before the others.
-fn many_bases(r: &mut Random, root: &mut Doc) {
-    let Some(first) = root.externs.first_mut() else { return };
-    let count = r.range(61, 66) as u32;
-    let many = (0..count).map(|i| (100 + i, None));
-    first.urls = many.chain(first.urls.iter().copied()).collect();
+/// Urls with about 64 distinct bases before the others, in the root or divided between the root and a file.
+fn many_bases(r: &mut Random, scene: &mut Scene) {
+    let count = r.range(56, 66) as u32;
+    let mut many: Vec<(u32, Option<u32>)> = (0..count).map(|i| (100 + i, None)).collect();
+    if !scene.files.is_empty() && r.percent(60) {
+        let file = r.below(scene.files.len());
+        if let Some(first) = scene.files[file].doc.externs.first_mut() {
+            let own = many.split_off(r.below(count as usize));
+            first.urls.splice(0..0, own);
+        }
+    }
+    if let Some(first) = scene.root.externs.first_mut() {
+        first.urls.splice(0..0, many);
+    }
 }
 
 fn base(r: &mut Random) -> u32 {
@@ -215,7 +262,9 @@ impl Maker<'_> {
             interfaces.push(self.interface(None, is));
         }
         let count = self.r.of(&[0, 1, 1, 2, 3]);
-        let urls = (0..count).map(|_| (base(self.r), self.r.percent(45).then(|| self.name()))).collect();
+        let [from, to] = self.style.bases;
+        let urls =
+            (0..count).map(|_| (self.r.range(from, to) as u32, self.r.percent(45).then(|| self.name()))).collect();
         Extern { name: self.name(), interfaces, urls }
     }
 

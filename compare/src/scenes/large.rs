@@ -194,6 +194,57 @@ pub fn versions(count: u32) -> Scene {
     files(count, |i| i % BASES + 1)
 }
 
+/// What the externs of a file name.
+#[derive(Clone, Copy)]
+pub enum Named {
+    /// Nothing: they have no url.
+    Nothing,
+    /// One file each, all of them in turn.
+    Each,
+    /// The next file.
+    Next,
+}
+
+/// 64 files, each with so many externs (document 02, wish 12). The root has an instance from each of them; where each names the
+/// next, from the first, and each file an instance from the next.
+pub fn sources(externs: u32, named: Named) -> Scene {
+    let of = |urls| Extern { name: 9, interfaces: vec![], urls };
+    let chain = matches!(named, Named::Next);
+    let file = |n: u32| {
+        let url = |i: u32| match named {
+            Named::Nothing => vec![],
+            Named::Each => vec![((n + i) % BASES + 1, None)],
+            Named::Next => vec![(n + 1, None)],
+        };
+        let mut list = vec![node(Origin::Builtin, nodes(if chain { vec![1] } else { vec![] }))];
+        if chain {
+            list.push(node(Origin::Extern(externs - 1), vec![]));
+        }
+        let externs = (0..externs).map(|i| of(url(i))).collect();
+        let protos = vec![proto(mention([0]))];
+        File { base: n, doc: Doc { header: 5, nodes: list, protos, externs, top: vec![Statement::Proto(0)] } }
+    };
+    let count = if chain { 1 } else { BASES };
+    let externs = (1..=count).map(|base| of(vec![(base, None)])).collect();
+    let list = (0..count).map(|i| node(Origin::Extern(i), vec![])).collect();
+    let root = Doc { header: 5, nodes: list, protos: vec![], externs, top: mention(0..count) };
+    Scene { root, files: (1..=BASES).map(file).collect(), max_nodes: 4_000_000, max_depth: 512 }
+}
+
+/// The externs of `picked` in a file that the root picks: an instance of each, by fragment, of another file.
+pub fn relayed(count: u32) -> Scene {
+    let Scene { root: inner, mut files, max_nodes, max_depth } = picked(count);
+    let mut list = inner.nodes;
+    list.push(node(Origin::Builtin, nodes((0..count).collect())));
+    let protos = vec![proto(mention([count]))];
+    let doc = Doc { nodes: list, protos, top: vec![Statement::Proto(0)], ..inner };
+    files.push(File { base: 2, doc });
+    let externs = vec![Extern { name: 3, interfaces: vec![], urls: vec![(2, None)] }];
+    let nodes = vec![node(Origin::Extern(0), vec![])];
+    let root = Doc { header: 5, nodes, protos: vec![], externs, top: mention([0]) };
+    Scene { root, files, max_nodes, max_depth }
+}
+
 /// Plain nodes side by side in the root, and in the body of a PROTO of a file that the root picks by its name. Each sheet
 /// has this many rows, two or more filled with statements that are carried unread.
 pub fn full_sheets(rows: u32) -> Scene {
@@ -254,5 +305,9 @@ pub fn all() -> Vec<(&'static str, Scene)> {
         ("3,000 files, 64 bases behind them", behind(3_000)),
         ("3,000 files of 64 bases", versions(3_000)),
         ("100 instances of 1,000 nodes", most(100)),
+        ("64 files of 300 externs without urls", sources(300, Named::Nothing)),
+        ("64 files of 200 externs", sources(200, Named::Each)),
+        ("a chain of 64 files of 200 externs", sources(200, Named::Next)),
+        ("1,000 externs of a file by fragment", relayed(1_000)),
     ]
 }

@@ -4,7 +4,7 @@ use mathlib.Core.Logic.{_⊎_, inl, inr}
 use mathlib.Core.List.{List, [], _∷_, map, List·Memᴰ, List·Memᴰ·cases-cons, List·Memᴰ·not-nil}
 use mathlib.Core.Option.{Option, none, some}
 use mathlib.Core.Bool.{Bool, true, false}
-use Prim.Native.Nat.{ℕ, zero, suc, _+_}
+use Prim.Native.Nat.{ℕ, zero, suc, _+_, _-_}
 use native.Mathlib.Omega.{arith}
 use lib.ListN.{length, getElem?}
 use lib.Dec.{eqb}
@@ -12,7 +12,10 @@ use borrow.Author.Tests.{eq-eqb, eqb-true}
 use Rattle.ast.specs.Ast.{Url, ExternProtoDecl, Document, File}
 use Rattle.ast.specs.Choice.{andThen, mapO}
 use Rattle.ast.specs.Lookups.{documents, externProtoAt}
-use Rattle.pick_table.specs.Picks.{Prototype, Pick, prototypeOf, Bases, Picked, pickUrl, remember, orNext, tryUrl, pickUrls, picksFrom, picks, pickOf, urlTaken}
+use Rattle.pick_table.specs.Picks.{Prototype, Pick, prototypeOf, Bases, Picked, pickUrl, remember, orNext, tryUrl, pickUrls, finalBases, pickOf, urlTaken}
+use Rattle.pick_table.specs.Walked.{PickedBy}
+use Rattle.pick_table.proofs.NewerLaws.{file-at}
+use Rattle.pick_table.proofs.WalkedLaws.{walked-whole}
 use Rattle.expansion_definition.specs.Input.{Input, docs, usedUrl}
 use Rattle.expansion_definition.specs.Externs.{isUsed, marked, declared}
 use Rattle.expansion_definition.specs.Expanded.{address, Supplied}
@@ -107,24 +110,33 @@ record TakenOf (library : List File) (x : Option ExternProtoDecl) (p : Pick) : T
   here : getElem? (decl .urls) (p .url) ≡ some url
   leads : pickUrl library url ≡ some (prototypeOf p)
 
-all-taken : (library : List File) (l : List ExternProtoDecl) (T : Bases) (i : ℕ) (p : Pick) → getElem? (picksFrom library l T) i ≡ some (some p) → TakenOf library (getElem? l i) p
-unfolding picksFrom
-all-taken library [] T i p e = absurd (never e)
-all-taken library (x ∷ l) T zero p e =
-    let h : pickUrls library 0 (x .urls) T .0 ≡ some p = cc in
-    let t = urls-taken library 0 (x .urls) T p h in
-    let z : p .url ≡ t .index = omega (arith, t .is) in
-    record { decl = x; there = refl; url = t .url; here = ap (getElem? (x .urls)) z ∙ t .here; leads = t .leads }
-all-taken library (x ∷ l) T (suc i) p e = all-taken library l (pickUrls library 0 (x .urls) T .1) i p e
+-- of a document whose picks are those by the table
+picked-taken : (root : Document) (library : List File) (d id : ℕ) (p : Pick) (l : List ExternProtoDecl) → PickedBy root library d l → pickOf root library d id ≡ some p → TakenOf library (getElem? l id) p
+picked-taken root library d id p l w e = go (getElem? l id) (sym (w .is id) ∙ e)
+  where
+    F : Bases
+    F = finalBases root library
+
+    go : (o : Option ExternProtoDecl) → andThen o (λ x. pickUrls library 0 (x .urls) F .0) ≡ some p → TakenOf library o p
+    go none h = absurd (never h)
+    go (some x) h =
+        let t = urls-taken library 0 (x .urls) F p h in
+        let z : p .url ≡ t .index = omega (arith, t .is) in
+        record { decl = x; there = refl; url = t .url; here = ap (getElem? (x .urls)) z ∙ t .here; leads = t .leads }
+
+file-document : (l : List File) (k : ℕ) (f : File) → getElem? l k ≡ some f → getElem? (map (λ x. x .document) l) k ≡ some (f .document)
+file-document [] k f e = absurd (never e)
+file-document (x ∷ l) zero f e = let z : x ≡ f = cc in rw z
+file-document (x ∷ l) (suc k) f e = file-document l k f e
 
 pick-taken : (root : Document) (library : List File) (d id : ℕ) (p : Pick) → pickOf root library d id ≡ some p → TakenOf library (externProtoAt (documents root library) d id) p
-unfolding pickOf picks externProtoAt
-pick-taken root library zero id p = go (getElem? (picksFrom library (root .externProtos) []) id) refl
-  where
-    go : (o : Option (Option Pick)) → getElem? (picksFrom library (root .externProtos) []) id ≡ o → andThen o (λ q. q) ≡ some p → TakenOf library (getElem? (root .externProtos) id) p
-    go none i e = absurd (never e)
-    go (some q) i e = all-taken library (root .externProtos) [] id p (i ∙ ap some e)
-pick-taken root library (suc d) id p = λ e. absurd (never e)
+unfolding externProtoAt
+pick-taken root library zero id p e = picked-taken root library 0 id p (root .externProtos) (walked-whole root library .first) e
+pick-taken root library (suc d) id p e =
+    let f = walked-whole root library .only (suc d) id p (omega arith) e in
+    let z : suc d - 1 ≡ d = omega arith in
+    let h : getElem? library d ≡ some (f .file) = rw z at (file-at (f .base) 1 library (suc d) (f .file) (f .is) .1) in
+    rw (file-document library d (f .file) h) (picked-taken root library (suc d) id p (f .file .document .externProtos) (walked-whole root library .fetched (suc d) f) e)
 
 -- ---- the extern
 

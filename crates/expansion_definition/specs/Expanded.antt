@@ -79,7 +79,8 @@ pub record Expanded (I : Input) (e : Expansion) : Type 0 where
   pub steps : WholeRun (graph I) world
   pub opens : (w : World Known) (r : WholeRun (graph I) w) → world .scopes ≡ graph I .root ∷ opened r
   -- "No PROTO and no instance, as document 01 defines them, is left in its output."
-  -- An instance is left by a node of origin Proto, or by one whose ledger source is an instance.
+  -- An instance is left by a node of origin Proto, or by one whose ledger source is an instance. "Demand 3 uses this wider meaning of instance throughout." (document 02, wish 12):
+  -- what an instance is, `prototypeIn` says for every document; the graph, what is reached, the ledger, the pods and the defaults below go by it.
   pub noProto : NoProto (e .document)
   pub noInstance : (x : LedgerEntry) → List·Memᴰ x (e .ledger) → Instance (graph I) (scopeAt I world (x .scope)) (x .source) → ⊥
   -- "Every node id of the output is below the node count, and that count is at most the node limit."

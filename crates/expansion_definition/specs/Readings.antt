@@ -1,13 +1,13 @@
--- How open points of document 01 are read: a computed example for each reading that an answer shows.
+-- How open points of documents 01 and 02 are read: a computed example for each reading that an answer shows.
 -- A list of numbers is a refusal with its places, or 0, nodes, scopes, body scopes, charges.
 use mathlib.Core.Path.{_≡_, refl}
 use mathlib.Core.Bool.{Bool, true, false}
 use mathlib.Core.List.{List, [], _∷_, map}
 use mathlib.Core.Option.{Option, none, some}
 use Prim.Native.Nat.{ℕ}
-use Rattle.ast.specs.Ast.{NodeOrigin, BodyElement, FieldValue, FieldBinding, Field, InterfaceDecl, Statement, ProtoInstance, Node, ProtoDecl, Url}
+use Rattle.ast.specs.Ast.{NodeOrigin, BodyElement, FieldValue, FieldBinding, Field, InterfaceDecl, Statement, ProtoInstance, Node, ProtoDecl, Url, File}
 use Rattle.expansion_steps.specs.Lists.{countIf}
-use Rattle.expansion_definition.specs.Input.{Input}
+use Rattle.expansion_definition.specs.Input.{Limits, Input}
 use Rattle.expansion_definition.specs.Scopes.{Scope, isDefault, scopeEntry}
 use Rattle.expansion_definition.specs.State.{State, refusal}
 use Rattle.expansion_definition.specs.Expand.{expand}
@@ -387,7 +387,7 @@ url-marks :
     (marksOf (supplying [] [] (Statement.ExternProto 0 ∷ Statement.ExternProto 1 ∷ [])) ≡ some ((false ∷ false ∷ true ∷ false ∷ []) ∷ (false ∷ []) ∷ []))
     × (marksOf (supplying (plain [] [] (Statement.ExternProto 0 ∷ []) [] ∷ []) [] (Statement.Node 0 ∷ [])) ≡ some ((false ∷ false ∷ true ∷ false ∷ []) ∷ []))
     × (marksOf (supplying (instanceOfProto 0 [] ∷ leaf ∷ []) (proto [] (Statement.ExternProto 0 ∷ Statement.Node 1 ∷ []) ∷ []) (Statement.Node 0 ∷ [])) ≡ some ((false ∷ false ∷ true ∷ false ∷ []) ∷ []))
-    × (marksOf (supplying (node (NodeOrigin.ExternProto 0) [] ∷ []) [] (Statement.Node 0 ∷ [])) ≡ some ((false ∷ []) ∷ []))
+    × (marksOf (supplying (node (NodeOrigin.ExternProto 0) [] ∷ []) [] (Statement.Node 0 ∷ [])) ≡ some ((true ∷ []) ∷ []))
 unfolding computed
 url-marks = (refl, refl, refl, refl)
 
@@ -426,3 +426,45 @@ full = record { world = record { map = []; ledger = []; scopes = Scope.Root ∷ 
 charged-first : openIn 5 (single 1 1 1) Scope.Root full ≡ refusal 10 0 0
 unfolding computed pushIf pushIn openIn
 charged-first = refl
+
+-- ---- document 02, wish 12: "an instance is now also ExternProto with a pick in any document"
+
+-- a file of a base, whose PROTO 0 has this body, and whose extern 0 names another base
+abbrev whales : ℕ → ℕ → List Node → List Statement → File
+whales base other nodes body = record { base = base; document = document nodes (proto [] body ∷ []) (extern (urlTo other none ∷ []) ∷ []) (Statement.Proto 0 ∷ []) }
+
+-- a root whose node 0 is of its extern 0, which names base 20
+abbrev surveyed : Limits → List File → Input
+surveyed l library = record { root = document (node (NodeOrigin.ExternProto 0) [] ∷ []) [] (extern (urlTo 20 none ∷ []) ∷ []) (Statement.Node 0 ∷ []); library = library; limits = l }
+
+-- the body of the first file's PROTO is a node of that file's extern, which names the second file: two bodies, and a node of document 2
+abbrev calves : List File
+calves = whales 20 21 (node (NodeOrigin.ExternProto 0) [] ∷ []) (Statement.Node 0 ∷ []) ∷ whales 21 22 (leaf ∷ []) (Statement.Node 0 ∷ []) ∷ []
+
+extern-in-a-file :
+    (counts (expand (surveyed usual calves)) ≡ (0 ∷ 1 ∷ 3 ∷ 2 ∷ 12 ∷ []))
+    × (seen (λ e. map (λ x. x .document) (e .ledger)) (expand (surveyed usual calves)) ≡ some (2 ∷ []))
+unfolding computed
+extern-in-a-file = (refl, refl)
+
+-- its file is not there: the node is plain, and of document 1
+extern-without-pick :
+    (seen (λ e. e .scopeCount) (expand (surveyed usual (whales 20 21 (node (NodeOrigin.ExternProto 0) [] ∷ []) (Statement.Node 0 ∷ []) ∷ []))) ≡ some 2)
+    × (seen (λ e. map (λ x. x .document) (e .ledger)) (expand (surveyed usual (whales 20 21 (node (NodeOrigin.ExternProto 0) [] ∷ []) (Statement.Node 0 ∷ []) ∷ []))) ≡ some (1 ∷ []))
+unfolding computed
+extern-without-pick = (refl, refl)
+
+-- wish 1's mark, by an ExternProto statement of a file's body: the extern of that file has a pick, or none
+mark-in-a-file :
+    (marksOf (surveyed usual (whales 20 21 (leaf ∷ []) (Statement.ExternProto 0 ∷ Statement.Node 0 ∷ []) ∷ whales 21 22 [] [] ∷ [])) ≡ some ((true ∷ []) ∷ []))
+    × (marksOf (surveyed usual (whales 20 21 (leaf ∷ []) (Statement.ExternProto 0 ∷ Statement.Node 0 ∷ []) ∷ [])) ≡ some ((false ∷ []) ∷ []))
+unfolding computed
+mark-in-a-file = (refl, refl)
+
+-- "Instances without end round a circle of files are refused, at a limit or before it.": two files whose PROTOs hold each other, by D and by K
+abbrev round : List File
+round = whales 20 21 (node (NodeOrigin.ExternProto 0) [] ∷ []) (Statement.Node 0 ∷ []) ∷ whales 21 20 (node (NodeOrigin.ExternProto 0) [] ∷ []) (Statement.Node 0 ∷ []) ∷ []
+
+circle-of-files : (counts (expand (surveyed (limits 400 5 400) round)) ≡ (9 ∷ 0 ∷ 0 ∷ [])) × (counts (expand (surveyed (limits 400 64 7) round)) ≡ (10 ∷ 0 ∷ 0 ∷ []))
+unfolding computed
+circle-of-files = (refl, refl)

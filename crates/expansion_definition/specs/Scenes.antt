@@ -6,7 +6,7 @@ use Prim.Native.Nat.{ℕ}
 use Rattle.ast.specs.Ast.{NodeOrigin, BodyElement, FieldData, FieldValue, FieldBinding, Field, InterfaceDecl, Route, Statement, Node, ProtoDecl, ExternProtoDecl, Url, Document}
 use Rattle.ast.specs.Lookups.{nodeAt, protoAt, externProtoAt}
 use Rattle.pick_file.specs.PickIn.{topProtos, firstNamed, pickIn}
-use Rattle.pick_table.specs.Picks.{libraryFile, pickUrl, member, remember, pickUrls, picksFrom, picks, pickOf, prototypeIn}
+use Rattle.pick_table.specs.Picks.{libraryFile, pickUrl, member, remember, pickUrls, picksFrom, basesFrom, walkFiles, walk, picksUnder, picks, pickOf, prototypeIn}
 use Rattle.expansion_steps.specs.Lists.{countIf}
 use Rattle.expansion_definition.specs.Input.{Limits, Input, lastField}
 use Rattle.expansion_definition.specs.Scopes.{isBody}
@@ -98,5 +98,5 @@ seen g (Answer.Expanded e) = some (g e)
 
 -- a proof that unfolds this computes the definition
 unfoldable pub computed : Input → Answer
-unfolding nodeAt protoAt externProtoAt libraryFile topProtos firstNamed pickIn pickUrl member remember pickUrls picksFrom picks pickOf prototypeIn lastField bindR mapM foldM lookup chargeIf charge chargeEach paid valueNamed copyData value clone lookupExtern marked declare externProto reserveIf reserve copyOrigin associate isField copyBinding copyField isInterface copyTarget copyInterface copyRoute copyExtern copyStatement somes keptOrder contents copyPlain pushScope openScope takeDefault cloneOr interfaceValue store values place bodyStatement rootOf associationsOf recordInstance instantiate copyNode mappedOr copy statement statements answer expand
+unfolding nodeAt protoAt externProtoAt libraryFile topProtos firstNamed pickIn pickUrl member remember pickUrls picksFrom basesFrom walkFiles walk picksUnder picks pickOf prototypeIn lastField bindR mapM foldM lookup chargeIf charge chargeEach paid valueNamed copyData value clone lookupExtern marked declare externProto reserveIf reserve copyOrigin associate isField copyBinding copyField isInterface copyTarget copyInterface copyRoute copyExtern copyStatement somes keptOrder contents copyPlain pushScope openScope takeDefault cloneOr interfaceValue store values place bodyStatement rootOf associationsOf recordInstance instantiate copyNode mappedOr copy statement statements answer expand
 computed I = expand I

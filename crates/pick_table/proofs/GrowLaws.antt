@@ -1,5 +1,5 @@
--- The table only grows, and a base is skipped only when the table is full: so the final table gives each extern its pick.
-use mathlib.Core.Path.{_≡_, refl, sym, ap}
+-- The table only grows, and a base is skipped only when the table is full: so a later table gives each extern its pick.
+use mathlib.Core.Path.{_≡_, refl, sym, ap, _∙_}
 use mathlib.Core.Bool.{Bool, true, false}
 use mathlib.Core.List.{List, [], _∷_, _++_}
 use mathlib.Core.Option.{Option, none, some}
@@ -9,9 +9,10 @@ use native.Mathlib.Decide.{decLt}
 use lib.ListN.{length, getElem?, length-append}
 use lib.Dec.{ltb}
 use borrow.Author.Tests.{lt-ltb, le-ltb}
-use Rattle.ast.specs.Ast.{Url, ExternProtoDecl, Document, File}
+use Rattle.ast.specs.Ast.{Url, ExternProtoDecl, File}
 use Rattle.ast.specs.Choice.{choose, andThen, mapO}
-use Rattle.pick_table.specs.Picks.{Prototype, Bases, Picked, member, remember, pickUrl, orNext, tryUrl, pickUrls, picksFrom, picks, pickOf, basesFrom, finalBases}
+use Rattle.pick_table.specs.Picks.{Prototype, Bases, Picked, member, remember, pickUrl, orNext, tryUrl, pickUrls, picksFrom, basesFrom}
+use Rattle.pick_table.specs.Walked.{Settled}
 use Rattle.pick_table.specs.Table.{tableAfter}
 use Rattle.pick_table.proofs.MemberLaws.{member-more, member-last}
 
@@ -20,12 +21,20 @@ pub record Grows (T F : Bases) : Type 0 where
   pub known : (b : ℕ) → member b T ≡ true → member b F ≡ true
   pub full : 64 ≤ length T → (b : ℕ) → member b T ≡ false → member b F ≡ false
   pub longer : length T ≤ length F
+  pub front : (i : ℕ) → i < length T → getElem? F i ≡ getElem? T i
+  pub few : length T ≤ 64 → length F ≤ 64
 
-grows-same : (T : Bases) → Grows T T
-grows-same T = record { known = λ b h. h; full = λ l b h. h; longer = omega arith }
+pub grows-same : (T : Bases) → Grows T T
+grows-same T = record { known = λ b h. h; full = λ l b h. h; longer = omega arith; front = λ i h. refl; few = λ h. h }
 
-grows-on : {T U F : Bases} → Grows T U → Grows U F → Grows T F
-grows-on g h = record { known = λ b e. h .known b (g .known b e); full = λ l b e. h .full (omega (arith, g .longer)) b (g .full l b e); longer = omega (arith, g .longer, h .longer) }
+pub grows-on : {T U F : Bases} → Grows T U → Grows U F → Grows T F
+grows-on g h = record {
+  known = λ b e. h .known b (g .known b e);
+  full = λ l b e. h .full (omega (arith, g .longer)) b (g .full l b e);
+  longer = omega (arith, g .longer, h .longer);
+  front = λ i e. h .front i (omega (arith, g .longer)) ∙ g .front i e;
+  few = λ e. h .few (g .few e);
+}
 
 -- ---- one base
 
@@ -39,12 +48,27 @@ remember-cases P base T known new full = go (member base T) refl (decLt (length 
     go false e (yes h) = rw (lt-ltb _ _ h) (new e h)
     go false e (no h) = let l : 64 ≤ length T = omega arith in rw (le-ltb _ _ l) (full e l)
 
+-- a base more leaves those before it where they are
+more-at : (T : Bases) (base i : ℕ) → i < length T → getElem? (T ++ (base ∷ [])) i ≡ getElem? T i
+more-at [] base i h = absurd (omega arith)
+more-at (b ∷ T) base zero h = refl
+more-at (b ∷ T) base (suc i) h = more-at T base i (omega arith)
+
+more-length : (T : Bases) (base : ℕ) → length (T ++ (base ∷ [])) ≡ length T + 1
+more-length T base = simp length-append (omega arith)
+
 -- looking for a base makes the table grow, if anything
 grows-kept : (base : ℕ) (T : Bases) → Grows T (tableAfter T (remember base T))
 grows-kept base T =
     remember-cases (λ r. Grows T (tableAfter T r)) base T
     (λ e. grows-same T)
-    (λ e h. record { known = λ b i. member-more b base T i; full = λ l b i. absurd (omega arith); longer = simp length-append (omega arith) })
+    (λ e h. record {
+      known = λ b i. member-more b base T i;
+      full = λ l b i. absurd (omega arith);
+      longer = omega (arith, more-length T base);
+      front = λ i k. more-at T base i k;
+      few = λ k. omega (arith, more-length T base);
+    })
     (λ e h. grows-same T)
 
 -- a base that a table knows, and a new one that it has no place for
@@ -108,7 +132,7 @@ same-urls library n (u ∷ l) T F g =
     rw (e, settled (u .base) T F (grows-on (grows-next n next k p (grows-urls library (suc n) l)) h), try-final library n u next F (remember (u .base) T))
     (same-next n next k F p (same-urls library (suc n) l k F) h)
 
--- ---- the externs of the root
+-- ---- the externs of a document
 
 -- the externs make the table grow
 pub grows-all : (library : List File) (l : List ExternProtoDecl) (T : Bases) → Grows T (basesFrom library l T)
@@ -117,20 +141,56 @@ grows-all library [] T = grows-same T
 grows-all library (x ∷ l) T = grows-on (grows-urls library 0 (x .urls) T) (grows-all library l (pickUrls library 0 (x .urls) T .1))
 
 -- each pick of a list of externs is the one by F
-final : (library : List File) (l : List ExternProtoDecl) (T F : Bases) (i : ℕ) → Grows (basesFrom library l T) F → getElem? (picksFrom library l T) i ≡ mapO (λ x. pickUrls library 0 (x .urls) F .0) (getElem? l i)
+pub final : (library : List File) (l : List ExternProtoDecl) (T F : Bases) (i : ℕ) → Grows (basesFrom library l T) F → getElem? (picksFrom library l T) i ≡ mapO (λ x. pickUrls library 0 (x .urls) F .0) (getElem? l i)
 unfolding picksFrom basesFrom
 final library [] T F i g = refl
 final library (x ∷ l) T F zero g =
     ap (λ (p : Picked). some (p .0)) (sym (same-urls library 0 (x .urls) T F (grows-on (grows-all library l (pickUrls library 0 (x .urls) T .1)) g)))
 final library (x ∷ l) T F (suc i) g = final library l (pickUrls library 0 (x .urls) T .1) F i g
 
--- the law of the picks: the pick of an extern is the one that its urls lead to by the final table
-pub pick-final : (root : Document) (library : List File) (id : ℕ) → pickOf root library 0 id ≡ andThen (getElem? (root .externProtos) id) (λ x. pickUrls library 0 (x .urls) (finalBases root library) .0)
-unfolding pickOf picks finalBases
-pick-final root library id =
-    rw (final library (root .externProtos) [] (basesFrom library (root .externProtos) []) id (grows-same _))
-    (go (getElem? (root .externProtos) id))
-  where
-    go : (x : Option ExternProtoDecl) → andThen (mapO (λ x. pickUrls library 0 (x .urls) (basesFrom library (root .externProtos) []) .0) x) (λ p. p) ≡ andThen x (λ x. pickUrls library 0 (x .urls) (basesFrom library (root .externProtos) []) .0)
-    go none = refl
-    go (some x) = refl
+-- and F stays by them
+pub stays : (library : List File) (l : List ExternProtoDecl) (T F : Bases) → Grows (basesFrom library l T) F → Settled library F l
+unfolding basesFrom
+stays library [] T F g x e h = let z : _≡_ {A = ℕ} 0 1 = cc in absurd (omega arith)
+stays library (y ∷ l) T F g zero e h =
+    let z : y ≡ e = cc in
+    rw (sym z) (ap (λ (p : Picked). p .1) (same-urls library 0 (y .urls) T F (grows-on (grows-all library l (pickUrls library 0 (y .urls) T .1)) g)))
+stays library (y ∷ l) T F g (suc x) e h = stays library l (pickUrls library 0 (y .urls) T .1) F g x e h
+
+-- ---- urls by a table that stays
+
+module _ (library : List File) (n : ℕ) (u : Url) (l : List Url) (F : Bases) where
+  -- of a base that it knows
+  pub tried-known : member (u .base) F ≡ true → pickUrls library n (u ∷ l) F ≡ orNext n (pickUrls library (suc n) l) F (pickUrl library u)
+  unfolding pickUrls
+  tried-known e = rw (is-known (u .base) F e)
+
+  -- of a new one, where there is a place for it: as by the table that has it
+  pub tried-new : member (u .base) F ≡ false → length F < 64 → pickUrls library n (u ∷ l) F ≡ orNext n (pickUrls library (suc n) l) (F ++ (u .base ∷ [])) (pickUrl library u)
+  unfolding pickUrls remember
+  tried-new e h = rw (e, lt-ltb _ _ h)
+
+  -- where there is none: the url is skipped
+  pub tried-full : member (u .base) F ≡ false → 64 ≤ length F → pickUrls library n (u ∷ l) F ≡ pickUrls library (suc n) l F
+  unfolding pickUrls
+  tried-full e h = rw (is-full (u .base) F e h)
+
+  -- and so it is by a table that stays
+  pub tried-unknown : member (u .base) F ≡ false → pickUrls library n (u ∷ l) F .1 ≡ F → pickUrls library n (u ∷ l) F ≡ pickUrls library (suc n) l F
+  tried-unknown e s = go (decLt (length F) 64)
+    where
+      next : Bases → Picked
+      next = pickUrls library (suc n) l
+
+      go : Dec (length F < 64) → pickUrls library n (u ∷ l) F ≡ pickUrls library (suc n) l F
+      go (yes h) =
+          let m = F ++ (u .base ∷ []) in
+          let r : orNext n next m (pickUrl library u) .1 ≡ F = ap (λ (p : Picked). p .1) (sym (tried-new e h)) ∙ s in
+          let g = grows-next n next m (pickUrl library u) (grows-urls library (suc n) l) .longer in
+          absurd (omega (arith, g, ap length r, more-length F (u .base)))
+      go (no h) = tried-full e (omega arith)
+
+-- a url whose base has just come into the table
+pub tried-again : (library : List File) (n : ℕ) (u : Url) (l : List Url) (F : Bases) → member (u .base) F ≡ false → length F < 64 → pickUrls library n (u ∷ l) F ≡ pickUrls library n (u ∷ l) (F ++ (u .base ∷ []))
+tried-again library n u l F e h =
+    tried-new library n u l F e h ∙ sym (tried-known library n u l (F ++ (u .base ∷ [])) (member-last (u .base) F))

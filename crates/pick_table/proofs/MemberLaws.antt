@@ -1,10 +1,12 @@
 -- Whether a base stands in the table.
-use mathlib.Core.Path.{_≡_, refl}
+use mathlib.Core.Path.{_≡_, refl, ap}
 use mathlib.Core.Bool.{Bool, true, false, _||_}
 use mathlib.Core.List.{List, [], _∷_, _++_}
+use mathlib.Core.Option.{Option, some}
 use Prim.Native.Nat.{ℕ, zero, suc, _<_}
 use native.Mathlib.Omega.{arith}
-use lib.ListN.{length, getD, take}
+use native.Mathlib.Decide.{ℕ-discrete}
+use lib.ListN.{length, getD, getElem?, take}
 use lib.Dec.{eqb}
 use borrow.Author.Tests.{eq-eqb, ne-eqb}
 use Rattle.pick_table.specs.Picks.{Bases, member}
@@ -45,3 +47,20 @@ pub member-last : (base : ℕ) (T : Bases) → member base (T ++ (base ∷ [])) 
 unfolding member
 member-last base [] = rw (eq-eqb base base refl)
 member-last base (x ∷ T) = rw (member-last base T) (or-true (eqb x base))
+
+-- what stands in a table is known by it
+pub member-here : (b : ℕ) (T : Bases) (k : ℕ) → getElem? T k ≡ some b → member b T ≡ true
+unfolding member
+member-here b [] k e = let z : _≡_ {A = ℕ} 0 1 = cc in absurd (omega arith)
+member-here b (x ∷ T) zero e = let z : x ≡ b = cc in rw (eq-eqb x b z)
+member-here b (x ∷ T) (suc k) e = rw (member-here b T k e) (or-true (eqb x b))
+
+-- and what it knows stands somewhere
+pub member-index : (b : ℕ) (T : Bases) → member b T ≡ true → (k : ℕ) × (getElem? T k ≡ some b)
+unfolding member
+member-index b [] e = let z : _≡_ {A = ℕ} 0 1 = cc in absurd (omega arith)
+member-index b (x ∷ T) e = go (member-index b T) (ℕ-discrete x b)
+  where
+    go : (member b T ≡ true → (k : ℕ) × (getElem? T k ≡ some b)) → Dec (x ≡ b) → (k : ℕ) × (getElem? (x ∷ T) k ≡ some b)
+    go f (yes z) = (0, ap some z)
+    go f (no z) = let i = f (rw (ne-eqb x b z) at e) in (suc (i .0), i .1)

@@ -1,4 +1,4 @@
--- Picks (document 01, Modules: Picks): for each extern of the root, what its urls lead to.
+-- Picks (document 01, Modules: Picks; document 02, wish 12): for each extern of the root and of the fetched files, what its urls lead to.
 use mathlib.Core.Bool.{Bool, false, _||_}
 use mathlib.Core.List.{List, [], _∷_, _++_}
 use mathlib.Core.Option.{Option, none, some}
@@ -69,29 +69,66 @@ unfoldable pub picksFrom : List File → List ExternProtoDecl → Bases → List
 picksFrom library [] bases = []
 picksFrom library (x ∷ l) bases = pickUrls library 0 (x .urls) bases .0 ∷ picksFrom library l (pickUrls library 0 (x .urls) bases .1)
 
-unfoldable pub picks : Document → List File → List (Option Pick)
-picks root library = picksFrom library (root .externProtos) []
+-- the table once the urls of these externs were tried
+unfoldable pub basesFrom : List File → List ExternProtoDecl → Bases → Bases
+basesFrom library [] bases = bases
+basesFrom library (x ∷ l) bases = basesFrom library l (pickUrls library 0 (x .urls) bases .1)
 
--- what is picked for an extern of a document, by their numbers: the root's alone are picked
+-- ---- "An EXTERNPROTO in a fetched file (one found for a base in the table, pick or none) is now picked too." (document 02, wish 12)
+
+-- the picks of each document that was walked, under its number, and the table
+abbrev pub Walked : Type 0
+Walked = List (ℕ × List (Option Pick)) × Bases
+
+-- the externs of document d, then what comes next, from the table that they leave on
+abbrev pub under : ℕ → List (Option Pick) → Walked → Walked
+under d l w = ((d, l) ∷ w .0, w .1)
+
+abbrev pub walkDocument : List File → ℕ → List ExternProtoDecl → (Bases → Walked) → Bases → Walked
+walkDocument library d externs next bases = under d (picksFrom library externs bases) (next (basesFrom library externs bases))
+
+-- the file found for the k-th base of the table, with its number
+abbrev pub fetched : List File → Bases → ℕ → Option (ℕ × File)
+fetched library bases k = andThen (getElem? bases k) (λ base. libraryFile base 1 library)
+
+-- a base without a file, or none there, is passed over
+abbrev pub walkFetched : List File → (Bases → Walked) → Bases → Option (ℕ × File) → Walked
+walkFetched library next bases none = next bases
+walkFetched library next bases (some f) = walkDocument library (f .0) (f .1 .document .externProtos) next bases
+
+-- "those of each fetched document in order of first fetch": the files of n bases, from the k-th on, of the table as it stands then
+unfoldable pub walkFiles : List File → ℕ → ℕ → Bases → Walked
+walkFiles library zero k bases = ([], bases)
+walkFiles library (suc n) k bases = walkFetched library (walkFiles library n (suc k)) bases (fetched library bases k)
+
+-- "Root externs come first, then those of each fetched document in order of first fetch. The 64 bases are counted over the whole run."
+unfoldable pub walk : Document → List File → Walked
+walk root library = walkDocument library 0 (root .externProtos) (walkFiles library 64 0) []
+
+-- the table once the walk is done
+unfoldable pub finalBases : Document → List File → Bases
+finalBases root library = walk root library .1
+
+-- the picks of document d, one for each of its externs; none where it was not walked
+unfoldable pub picksUnder : ℕ → List (ℕ × List (Option Pick)) → List (Option Pick)
+picksUnder d [] = []
+picksUnder d (x ∷ l) = choose (eqb (x .0) d) (x .1) (picksUnder d l)
+
+unfoldable pub picks : Document → List File → ℕ → List (Option Pick)
+picks root library d = picksUnder d (walk root library .0)
+
+-- "A pick belongs to a document and an extern id"
 unfoldable pub pickOf : Document → List File → ℕ → ℕ → Option Pick
-pickOf root library zero x = andThen (getElem? (picks root library) x) (λ p. p)
-pickOf root library (suc d) x = none
+pickOf root library d x = andThen (getElem? (picks root library d) x) (λ p. p)
 
 -- the index of the url that was taken, if any
 abbrev pub urlTaken : Option Pick → Option ℕ
 urlTaken p = mapO (λ q. q .url) p
 
--- "An instance is a node of origin Proto, or ExternProto in document 0 with a pick. Every other node is plain.": the prototype of a node of document d
+-- "An instance is a node of origin Proto, or ExternProto .. with a pick" (document 01), ".. and an instance is now also ExternProto with a pick in any
+-- document" (document 02, wish 12). "Every other node is plain.": the prototype of a node of document d
 unfoldable pub prototypeIn : Document → List File → ℕ → NodeOrigin → Option Prototype
 prototypeIn root library d NodeOrigin.Builtin = none
 prototypeIn root library d (NodeOrigin.Proto p) = some (record { document = d; proto = p })
 prototypeIn root library d (NodeOrigin.ExternProto x) = mapO prototypeOf (pickOf root library d x)
 prototypeIn root library d NodeOrigin.Unknown = none
-
--- the table once the urls of all externs were tried
-unfoldable pub basesFrom : List File → List ExternProtoDecl → Bases → Bases
-basesFrom library [] bases = bases
-basesFrom library (x ∷ l) bases = basesFrom library l (pickUrls library 0 (x .urls) bases .1)
-
-unfoldable pub finalBases : Document → List File → Bases
-finalBases root library = basesFrom library (root .externProtos) []

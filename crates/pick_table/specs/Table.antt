@@ -3,17 +3,16 @@ use mathlib.Core.Path.{_≡_}
 use mathlib.Core.List.{List, []}
 use mathlib.Core.Option.{Option, none, some}
 use Prim.Native.Nat.{ℕ, _+_, _≤_, _<_}
-use lib.ListN.{length, getD, take, set}
+use lib.ListN.{length, getD, take, drop, set, getElem?}
 use lib.Dec.{eqb}
 use Rattle.ast.specs.Ast.{File}
-use Rattle.ast.specs.Choice.{choose, andThen}
+use Rattle.ast.specs.Choice.{choose}
 use Rattle.sheet_rows.specs.declared.row.Row.{Row}
-use Rattle.sheet_rows.specs.Parse.{filesOf}
+use Rattle.sheet_rows.specs.Parse.{fileOf, filesOf}
 use Rattle.sheet_lookup.specs.Lookup.{documentAt}
 use Rattle.pick_table.specs.declared.table.Source.{Source}
 use Rattle.pick_table.specs.declared.table.Table.{Table}
-use Rattle.pick_table.specs.declared.table.Looked.{Looked}
-use Rattle.pick_table.specs.Picks.{Bases, libraryFile, remember}
+use Rattle.pick_table.specs.Picks.{Bases, libraryFile}
 
 -- the bases that a table holds, in order
 abbrev pub basesOf : Table → Bases
@@ -43,11 +42,19 @@ pub record Empty (t : Table) : Type 0 where
   pub bases : basesOf t ≡ []
   pub sound : (R : List Row) → TableSound R t
 
--- j is where a base stands in the table, or the count if it doesn't
-pub record Position (t : Table) (base j : ℕ) : Type 0 where
-  pub upto : j ≤ t .count
-  pub here : j < t .count → getD (t .bases) j 0 ≡ base
-  pub before : (k : ℕ) → k < j → getD (t .bases) k 0 ≡ base → ⊥
+-- j is where a base stands among the first bases of a list, or their count if it doesn't
+pub record Position (bases : List ℕ) (count base j : ℕ) : Type 0 where
+  pub upto : j ≤ count
+  pub here : j < count → getD bases j 0 ≡ base
+  pub before : (k : ℕ) → k < j → getD bases k 0 ≡ base → ⊥
+
+-- the rows of the library's n files stand in w from a place on; of none where there is none, or they don't fit
+pub record FilesListed (R : List Row) (w : List ℕ) (from n : ℕ) : Type 0 where
+  pub within : from + n ≤ length w
+  pub few : n ≤ length R
+  pub row : (j : ℕ) → j < n → getElem? (filesOf R) j ≡ some (fileOf (drop (getD w (from + j) 0) R))
+  pub below : (j : ℕ) → j < n → getD w (from + j) 0 < length R
+  pub all : 0 < n → (j : ℕ) → n ≤ j → getElem? (filesOf R) j ≡ none
 
 -- t has one base more than before
 pub record BaseAdded (before : Table) (base : ℕ) (s : Source) (t : Table) : Type 0 where
@@ -60,9 +67,3 @@ pub record BaseAdded (before : Table) (base : ℕ) (s : Source) (t : Table) : Ty
 abbrev pub tableAfter : Bases → Option Bases → Bases
 tableAfter bases none = bases
 tableAfter bases (some table) = table
-
--- what looking for a base gives: the table after it, and the base's file, none where the base is skipped
-pub record BaseLooked (R : List Row) (t : Table) (base : ℕ) (x : Looked) : Type 0 where
-  pub sound : TableSound R (x .table)
-  pub bases : basesOf (x .table) ≡ tableAfter (basesOf t) (remember base (basesOf t))
-  pub source : andThen (remember base (basesOf t)) (λ _. libraryFile base 1 (filesOf R)) ≡ fileAt R base (x .source)

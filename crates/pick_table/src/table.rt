@@ -3,10 +3,14 @@ use sheet_rows::part::Part;
 use sheet_rows::row;
 use sheet_walks::walk;
 use sheet_walks::walk::Found;
-ghost use Prim.Native.Nat.{_≤_, _<_};
+use words_lent::wide;
+ghost use mathlib.Core.Path.{_≡_};
+ghost use Prim.Native.Nat.{_+_, _≤_, _<_};
+ghost use lib.ListN.{length};
 ghost use Rattle.sheet_rows.specs.Rows.{rows};
+ghost use Rattle.words_lent.specs.Words.{Outside};
 ghost use Rattle.pick_file.specs.File.{Capped};
-ghost use Rattle.pick_table.specs.Table.{Empty, Position, IsFileOf, TableSound, BaseAdded, BaseLooked};
+ghost use Rattle.pick_table.specs.Table.{Empty, Position, IsFileOf, FilesListed, BaseAdded};
 
 // A file of the library: its number, from 1, and the row where its document begins. Number 0 stands for no file.
 pub struct Source {
@@ -22,12 +26,6 @@ pub struct Table {
     pub count: usize,
 }
 
-// The file of a base, none where the base is skipped, beside the table.
-pub struct Looked {
-    pub source: Source,
-    pub table: Table,
-}
-
 pub fn empty() -> Table
     ensures { λ t. ⌜ Empty t ⌝ }
 {
@@ -39,14 +37,14 @@ pub fn empty() -> Table
     }
 }
 
-// Where a base stands in the table, or the count if it doesn't.
-fn position(table: Table, base: u32) -> usize
-    requires { ⌜ table .count ≤ 64 ⌝ }
-    ensures { λ j. ⌜ Position table base j ⌝ }
+// Where a base stands among the first bases of a list, or their count if it doesn't.
+pub fn position(bases: &[u32], count: usize, base: u32) -> usize
+    requires { ⌜ count ≤ length (now bases) ⌝ }
+    ensures { λ j. ⌜ Position (now (bases .entry)) count base j ⌝ }
 {
     let mut j = 0;
-    while j < table.count {
-        if table.bases[j] == base {
+    while j < count {
+        if bases[j] == base {
             return j;
         }
         j += 1;
@@ -54,8 +52,28 @@ fn position(table: Table, base: u32) -> usize
     j
 }
 
+// Writes the row of each file of the library to the words from a place on; how many there are, 0 if they don't fit.
+pub fn list(library: &[u32], slots: &mut [u32], from: usize) -> usize
+    requires { ⌜ Capped (now library) × (from ≤ length (now slots)) ⌝ }
+    ensures { λ n. ⌜ FilesListed (rows (now (library .entry))) (now (slots .exit)) from n ⌝ }
+{
+    let mut n = 0;
+    let mut at = 0;
+    loop {
+        let Found::At(q) = walk::seek(library, Part::Files, at) else {
+            return n;
+        };
+        if slots.len() - from <= n {
+            return 0;
+        }
+        slots[from + n] = q as u32;
+        n += 1;
+        at = q + 1;
+    }
+}
+
 // The library's file of a base, the last of several, by one walk over the files.
-fn library_file(library: &[u32], base: u32) -> Source
+fn walked(library: &[u32], base: u32) -> Source
     requires { ⌜ Capped (now library) ⌝ }
     ensures { λ s. ⌜ IsFileOf (rows (now (library .entry))) base s ⌝ }
 {
@@ -76,8 +94,30 @@ fn library_file(library: &[u32], base: u32) -> Source
     }
 }
 
+// The same by the list of the files, from the last one back.
+pub fn library_file(library: &[u32], slots: &[u32], from: usize, count: usize, base: u32) -> Source
+    requires { ⌜ Capped (now library) × FilesListed (rows (now library)) (now slots) from count ⌝ }
+    ensures { λ s. ⌜ IsFileOf (rows (now (library .entry))) base s ⌝ }
+{
+    if count == 0 {
+        return walked(library, base);
+    }
+    let mut j = count;
+    while 0 < j {
+        let q = wide(slots[from + (j - 1)]);
+        if row::row_at(library, q).a == base {
+            return Source {
+                number: j as u32,
+                row: q + 1,
+            };
+        }
+        j -= 1;
+    }
+    Source { number: 0, row: 0 }
+}
+
 // The table with one base more.
-fn add(table: Table, base: u32, source: Source) -> Table
+pub fn add(table: Table, base: u32, source: Source) -> Table
     requires { ⌜ table .count < 64 ⌝ }
     ensures { λ t. ⌜ BaseAdded table base source t ⌝ }
 {
@@ -88,26 +128,4 @@ fn add(table: Table, base: u32, source: Source) -> Table
     t.rows[at] = source.row;
     t.count = at + 1;
     t
-}
-
-// Looks for a base, in the table and else in the library. Unresolved bases count; a new one past the 64th is skipped.
-pub fn remember(library: &[u32], table: Table, base: u32) -> Looked
-    requires { ⌜ Capped (now library) × TableSound (rows (now library)) table ⌝ }
-    ensures { λ x. ⌜ BaseLooked (rows (now (library .entry))) table base x ⌝ }
-{
-    let at = position(table, base);
-    if at < table.count {
-        let source = Source {
-            number: table.files[at],
-            row: table.rows[at],
-        };
-        return Looked { source, table };
-    }
-    if at < 64 {
-        let source = library_file(library, base);
-        let table = add(table, base, source);
-        return Looked { source, table };
-    }
-    let source = Source { number: 0, row: 0 };
-    Looked { source, table }
 }

@@ -1,26 +1,29 @@
--- The directory: what of it the documents rest on, how the table of bases is written to it and read from it.
+-- The directory: what of it the documents rest on, and how the table of bases is written to it.
 use mathlib.Core.Path.{_≡_, sym, ap, subst, _∙_}
 use mathlib.Core.List.{List, [], _∷_, map}
 use mathlib.Core.Option.{none, some}
 use Prim.Native.Nat.{ℕ, zero, suc, _+_, _-_, _*_, _≤_, _<_}
 use native.Mathlib.Omega.{arith}
 use native.Mathlib.Decide.{ℕ-discrete}
-use lib.ListN.{length, getD, drop, set, getElem?, length-set}
-use lib.Seq.{ext-getD, getD-set-same, getD-set-other}
+use lib.ListN.{length, getD, drop, set, getElem?}
 use borrow.Author.Tests.{ne-eqb}
 use Rattle.ast.specs.Ast.{File}
 use Rattle.sheet_rows.specs.declared.row.Row.{Row}
 use Rattle.sheet_rows.specs.Rows.{rows}
-use Rattle.sheet_rows.specs.Parse.{filesOf}
-use Rattle.sheet_lookup.specs.Lookup.{rootAndFiles, documentAt}
+use Rattle.sheet_rows.specs.Parse.{documentOf, filesOf}
+use Rattle.sheet_lookup.specs.Lookup.{sheetOf, rootAndFiles, documentAt}
 use Rattle.sheet_lookup.proofs.DocLaws.{begins-root}
 use Rattle.pick_table.specs.declared.table.Table.{Table}
 use Rattle.pick_table.specs.Picks.{libraryFile}
-use Rattle.pick_table.specs.Table.{sourceAt, IsFileOf, Empty}
+use Rattle.pick_table.specs.Table.{IsFileOf}
+use Rattle.pick_table.specs.Walked.{PickedBy}
 use Rattle.pick_table.specs.Chosen.{Final}
+use Rattle.pick_table.proofs.MemberLaws.{member-here}
+use Rattle.pick_table.proofs.TableLaws.{count-is, base-at}
 use Rattle.pick_table.proofs.NewerLaws.{file-at}
+use Rattle.pick_table.proofs.WalkedLaws.{walked-whole}
 use Rattle.words_lent.specs.Words.{Outside}
-use Rattle.source_directory.specs.Directory.{size, numberOf, rowOf, baseOf, baseCount, Slot, DocumentBegins, TableEntries, Copy, TableStored, Directory, SlotFor}
+use Rattle.source_directory.specs.Directory.{size, numberOf, rowOf, baseOf, baseCount, Slot, DocumentBegins, TableStored, basesFound, Directory}
 use Rattle.words_lent.proofs.WordLaws.{three, three-first, three-second, three-third, three-other}
 
 -- ---- the documents rest on the first 195 words alone
@@ -29,17 +32,6 @@ module _ {dir dir′ : List ℕ} (same : (k : ℕ) → k < 195 → getD dir′ k
   pub slot-on : {s : ℕ} → Slot dir s → Slot dir′ s
   slot-on {s} h =
       record { upto = omega (arith, same 194 (omega arith), h .upto); real = λ z. omega (arith, same s (omega (arith, h .upto)), h .real z) }
-
-  pub copy-on : {t : Table} → Copy dir t → Copy dir′ t
-  copy-on c = record {
-    count = c .count ∙ sym (same 194 (omega arith));
-    entries = record {
-      long = c .entries .long;
-      bases = λ j h. c .entries .bases j h ∙ sym (same (130 + j) (omega arith));
-      files = λ j h. c .entries .files j h ∙ sym (same (j + 1) (omega arith));
-      rows = λ j h. c .entries .rows j h ∙ sym (same (65 + (j + 1)) (omega arith));
-    };
-  }
 
 module _ {root library dir dir′ : List ℕ} (d : Directory root library dir) (o : Outside 195 (length dir) dir dir′) where
   back : (k : ℕ) → k < 195 → getD dir k 0 ≡ getD dir′ k 0
@@ -60,7 +52,10 @@ module _ {root library dir dir′ : List ℕ} (d : Directory root library dir) (
     number = o .below 0 (omega arith) ∙ d .number;
     row = o .below 65 (omega arith) ∙ d .row;
     begins = λ s h. rw (o .below s (omega (arith, h .upto, few′)), o .below (65 + s) (omega (arith, h .upto, few′))) (d .begins s (slot-back h));
-    final = λ t c. d .final t (copy-on back few′ c);
+    count = d .count ∙ back 194 (omega arith);
+    bases = λ j h. rw (o .below (130 + j) (omega (arith, few′))) (d .bases j (rw (o .below 194 (omega arith)) at h));
+    sources = λ j h. rw (o .below (130 + j) (omega (arith, few′)), o .below (j + 1) (omega (arith, few′)), o .below (65 + (j + 1)) (omega (arith, few′))) (d .sources j (rw (o .below 194 (omega arith)) at h));
+    picked = λ s h. rw (o .below s (omega (arith, h .upto, few′)), o .below (65 + s) (omega (arith, h .upto, few′))) (d .picked s (slot-back h));
   }
 
 -- ---- the table is written
@@ -112,29 +107,6 @@ module _ (R : List Row) (t : Table) (dir : List ℕ) (long : size ≤ length dir
       rows = λ j i. row-at e j i (ℕ-discrete j n);
     }
 
--- ---- the table is read
-
-module _ (dir : List ℕ) (t : Table) where
-  pub entries-start : Empty t → TableEntries dir t 0
-  entries-start e =
-      record { long = e .sound [] .long; bases = λ j h. absurd (omega arith); files = λ j h. absurd (omega arith); rows = λ j h. absurd (omega arith) }
-
-  -- one word more of each of the three lists
-  more : (l : List ℕ) (g : ℕ → ℕ) (n : ℕ) → n < length l → ((j : ℕ) → j < n → getD l j 0 ≡ g j) → (j : ℕ) → j < n + 1 → Dec (j ≡ n) → getD (set l n (g n)) j 0 ≡ g j
-  more l g n h f j i (yes z) = rw z (getD-set-same l n (g n) 0 h)
-  more l g n h f j i (no z) = getD-set-other l n j (g n) 0 z ∙ f j (omega arith)
-
-  pub entries-more : (n : ℕ) → n < 64 → TableEntries dir t n → TableEntries dir (record { bases = set (t .bases) n (baseOf dir n); files = set (t .files) n (numberOf dir (n + 1)); rows = set (t .rows) n (rowOf dir (n + 1)); count = t .count }) (n + 1)
-  entries-more n h e = record {
-    long = (rw length-set (e .long .0), rw length-set (e .long .1), rw length-set (e .long .2));
-    bases = λ j i. more (t .bases) (baseOf dir) n (omega (arith, e .long .0)) (e .bases) j i (ℕ-discrete j n);
-    files = λ j i. more (t .files) (λ k. numberOf dir (k + 1)) n (omega (arith, e .long .1)) (e .files) j i (ℕ-discrete j n);
-    rows = λ j i. more (t .rows) (λ k. rowOf dir (k + 1)) n (omega (arith, e .long .2)) (e .rows) j i (ℕ-discrete j n);
-  }
-
-pub copied : {dir : List ℕ} (t : Table) {n : ℕ} → n ≡ baseCount dir → TableEntries dir t 64 → Copy dir (record { bases = t .bases; files = t .files; rows = t .rows; count = n })
-copied t e s = record { count = e; entries = record { long = s .long; bases = s .bases; files = s .files; rows = s .rows } }
-
 -- ---- a table that was written is the directory's
 
 document-at : (l : List File) (k : ℕ) (f : File) → getElem? l k ≡ some f → getElem? (map (λ x. x .document) l) k ≡ some (f .document)
@@ -170,22 +142,31 @@ module _ (root library dir : List ℕ) (t : Table) (f : Final (rows root) (rows 
       let z : j + 1 ≡ suc j = omega arith in
       subst (λ (k : ℕ). Slot dir k → DocumentBegins root library (numberOf dir k) (rowOf dir k)) z (begins-file j) h
 
-  final-copy : (u : Table) → Copy dir u → Final (rows root) R u
-  final-copy u c =
-      let same : u .bases ≡ t .bases = ext-getD 0 (u .bases) (t .bases) (c .entries .long .0 ∙ sym (f .sound .long .0)) (λ i h. c .entries .bases i (omega (arith, c .entries .long .0)) ∙ s .bases i (omega (arith, c .entries .long .0))) in
-      let count : u .count ≡ t .count = c .count ∙ s .count in
-      record {
-        sound = record {
-          room = omega (arith, count, f .sound .room);
-          long = c .entries .long;
-          sources = λ j h. source j (omega (arith, count)) (omega (arith, count, f .sound .room)) (ap (λ (l : List ℕ). getD l j 0) same);
-        };
-        bases = rw (same, count) (f .bases);
-      }
-    where
-      source : (j : ℕ) → j < t .count → j < 64 → getD (u .bases) j 0 ≡ getD (t .bases) j 0 → IsFileOf R (getD (u .bases) j 0) (sourceAt u j)
-      source j h i e =
-          rw (e, c .entries .files j i, s .files j i, c .entries .rows j i, s .rows j i) (f .sound .sources j h)
+  -- the table's j-th base
+  base-is : (j : ℕ) → j < baseCount dir → (j < t .count) × (j < 64)
+  base-is j h = (omega (arith, s .count), omega (arith, s .count, f .sound .room))
+
+  bases-are : (j : ℕ) → j < baseCount dir → getElem? (basesFound root library) j ≡ some (baseOf dir j)
+  bases-are j h = let i = base-is j h in rw (sym (f .bases), s .bases j (i .1)) (base-at (f .sound) j (i .0))
+
+  sources-are : (j : ℕ) → j < baseCount dir → IsFileOf R (baseOf dir j) (record { number = numberOf dir (j + 1); row = rowOf dir (j + 1) })
+  sources-are j h = let i = base-is j h in rw (s .bases j (i .1), s .files j (i .1), s .rows j (i .1)) (f .sound .sources j (i .0))
+
+  -- the picks of a file
+  picked-file : (j : ℕ) → Slot dir (j + 1) → PickedBy (documentOf (rows root)) (filesOf R) (numberOf dir (j + 1)) (documentAt (rows (sheetOf root library (numberOf dir (j + 1)))) (rowOf dir (j + 1)) .externProtos)
+  picked-file j h =
+      let k : j < baseCount dir = omega (arith, h .upto) in
+      let b = baseOf dir j in
+      let n = numberOf dir (j + 1) in
+      let x : n ≡ 0 → ⊥ = λ z. omega (arith, h .real (omega arith)) in
+      let e : libraryFile b 1 (filesOf R) ≡ some (n, record { base = b; document = documentAt R (rowOf dir (j + 1)) }) = sources-are j k ∙ rw (ne-eqb n 0 x) in
+      rw (ne-eqb n 0 x) (walked-whole (documentOf (rows root)) (filesOf R) .fetched n (record { base = b; file = record { base = b; document = documentAt R (rowOf dir (j + 1)) }; among = member-here b (basesFound root library) j (bases-are j k); is = e }))
+
+  picked-at : (k : ℕ) → Slot dir k → PickedBy (documentOf (rows root)) (filesOf R) (numberOf dir k) (documentAt (rows (sheetOf root library (numberOf dir k))) (rowOf dir k) .externProtos)
+  picked-at zero h = rw (s .number, s .row) (walked-whole (documentOf (rows root)) (filesOf R) .first)
+  picked-at (suc j) h =
+      let z : j + 1 ≡ suc j = omega arith in
+      subst (λ (k : ℕ). Slot dir k → PickedBy (documentOf (rows root)) (filesOf R) (numberOf dir k) (documentAt (rows (sheetOf root library (numberOf dir k))) (rowOf dir k) .externProtos)) z (picked-file j) h
 
   pub stored-directory : length library ≤ 8 * 1048576 → length root ≤ 8 * 1048576 → size ≤ length dir → Directory root library dir
   stored-directory small rootSmall long = record {
@@ -196,29 +177,8 @@ module _ (root library dir : List ℕ) (t : Table) (f : Final (rows root) (rows 
     number = s .number;
     row = s .row;
     begins = begins-at;
-    final = final-copy;
+    count = ap length (sym (f .bases)) ∙ count-is (f .sound) ∙ sym (s .count);
+    bases = bases-are;
+    sources = sources-are;
+    picked = picked-at;
   }
-
--- ---- the slot of a document's number
-
--- no slot below s but the root's has the number
-pub record Passed (dir : List ℕ) (number s : ℕ) : Type 0 where
-  pub from : 0 < s
-  pub none : (k : ℕ) → 0 < k → k < s → numberOf dir k ≡ number → ⊥
-
-pub pass-start : (dir : List ℕ) (number : ℕ) → Passed dir number 1
-pass-start dir number = record { from = omega arith; none = λ k h i e. omega arith }
-
-module _ {dir : List ℕ} {number s : ℕ} (p : Passed dir number s) where
-  pub pass-next : (numberOf dir s ≡ number → ⊥) → Passed dir number (s + 1)
-  pass-next n = record { from = omega arith; none = λ k h i e. go k h i e (ℕ-discrete k s) }
-    where
-      go : (k : ℕ) → 0 < k → k < s + 1 → numberOf dir k ≡ number → Dec (k ≡ s) → ⊥
-      go k h i e (yes z) = n (rw z at e)
-      go k h i e (no z) = p .none k h (omega arith) e
-
-  pub slot-here : s ≤ baseCount dir → numberOf dir s ≡ number → SlotFor dir number s
-  slot-here h e = record { upto = h; is = λ i. e; none = λ z. absurd (omega (arith, p .from)) }
-
-  pub slot-none : baseCount dir < s → SlotFor dir number 0
-  slot-none h = record { upto = omega arith; is = λ i. absurd (omega arith); none = λ z k i j e. p .none k i (omega arith) e }

@@ -155,9 +155,7 @@ module _ (root library : List ℕ) (d row : ℕ) (b : DocumentBegins root librar
   unfolding externProtoAt documentOf
   extern-at = located-at externProtoOf (λ y. y .externProtos) Externs (λ l. refl)
 
--- an extern of the root
-pub root-at : {root library dir : List ℕ} {id : ℕ} {x : Found} → Directory root library dir → Nth Externs (rows (sheetOf root library (numberOf dir 0))) (rowOf dir 0 + 1) id x → Looked externProtoOf (documentAt (rows root) 0 .externProtos) (rows root) id x
+-- an extern of the document that begins at a row
+pub extern-looked : (R : List Row) (row : ℕ) {id : ℕ} {x : Found} → Nth Externs R (row + 1) id x → Looked externProtoOf (documentAt R row .externProtos) R id x
 unfolding documentOf
-root-at {root} {library} {dir} {id} {x} d n =
-    let m : Nth Externs (rows root) (0 + 1) id x = rw (d .number, d .row) at n in
-    looked externProtoOf Externs (rows root) 0 id x (child-of Externs (rows root) 0 id x m)
+extern-looked R row {id} {x} n = looked externProtoOf Externs R row id x (child-of Externs R row id x n)

@@ -9,11 +9,14 @@ use Rattle.sheet_rows.specs.declared.row.Row.{Row}
 use Rattle.sheet_rows.specs.declared.part.Part.{Part}
 use Rattle.sheet_rows.specs.declared.part.Part.the-variants.{Nodes, Protos, Externs}
 use Rattle.sheet_rows.specs.Rows.{rows}
+use Rattle.sheet_rows.specs.Parse.{documentOf, filesOf}
 use Rattle.sheet_walks.specs.declared.walk.Found.the-variants.{At}
 use Rattle.sheet_walks.specs.Walk.{Nth}
 use Rattle.sheet_lookup.specs.Lookup.{sheetOf, rootAndFiles, documentAt}
 use Rattle.pick_table.specs.declared.table.Table.{Table}
-use Rattle.pick_table.specs.Chosen.{Final}
+use Rattle.pick_table.specs.Picks.{Bases, finalBases}
+use Rattle.pick_table.specs.Walked.{PickedBy}
+use Rattle.pick_table.specs.Table.{IsFileOf}
 
 -- how many words it has at least
 abbrev pub size : ℕ
@@ -83,18 +86,6 @@ abbrev pub DocumentBegins : List ℕ → List ℕ → ℕ → ℕ → Type 0
 DocumentBegins root library d row =
     getElem? (rootAndFiles root library) d ≡ some (documentAt (rows (sheetOf root library d)) row)
 
--- the first n entries of a table are those that the directory holds
-pub record TableEntries (dir : List ℕ) (t : Table) (n : ℕ) : Type 0 where
-  pub long : (length (t .bases) ≡ 64) × (length (t .files) ≡ 64) × (length (t .rows) ≡ 64)
-  pub bases : (j : ℕ) → j < n → getD (t .bases) j 0 ≡ baseOf dir j
-  pub files : (j : ℕ) → j < n → getD (t .files) j 0 ≡ numberOf dir (j + 1)
-  pub rows : (j : ℕ) → j < n → getD (t .rows) j 0 ≡ rowOf dir (j + 1)
-
--- t is the table of bases that the directory holds
-pub record Copy (dir : List ℕ) (t : Table) : Type 0 where
-  pub count : t .count ≡ baseCount dir
-  pub entries : TableEntries dir t 64
-
 -- the directory holds the root and the first n entries of a table; a row past the library's end may stand as another
 pub record TableStored (R : List Row) (t : Table) (dir : List ℕ) (n : ℕ) : Type 0 where
   pub count : baseCount dir ≡ t .count
@@ -103,6 +94,10 @@ pub record TableStored (R : List Row) (t : Table) (dir : List ℕ) (n : ℕ) : T
   pub bases : (j : ℕ) → j < n → baseOf dir j ≡ getD (t .bases) j 0
   pub files : (j : ℕ) → j < n → numberOf dir (j + 1) ≡ getD (t .files) j 0
   pub rows : (j : ℕ) → j < n → drop (rowOf dir (j + 1)) R ≡ drop (getD (t .rows) j 0) R
+
+-- the table once the walk over the two sheets is done
+abbrev pub basesFound : List ℕ → List ℕ → Bases
+basesFound root library = finalBases (documentOf (rows root)) (filesOf (rows library))
 
 -- what the directory says of the documents, in its first 195 words
 pub record Directory (root library dir : List ℕ) : Type 0 where
@@ -113,13 +108,11 @@ pub record Directory (root library dir : List ℕ) : Type 0 where
   pub number : numberOf dir 0 ≡ 0
   pub row : rowOf dir 0 ≡ 0
   pub begins : (s : ℕ) → Slot dir s → DocumentBegins root library (numberOf dir s) (rowOf dir s)
-  pub final : (t : Table) → Copy dir t → Final (rows root) (rows library) t
-
--- s is the slot of a document's number, or 0 where it has none
-pub record SlotFor (dir : List ℕ) (number s : ℕ) : Type 0 where
-  pub upto : s ≤ baseCount dir
-  pub is : 0 < s → numberOf dir s ≡ number
-  pub none : s ≡ 0 → (k : ℕ) → 0 < k → k ≤ baseCount dir → numberOf dir k ≡ number → ⊥
+  pub count : length (basesFound root library) ≡ baseCount dir
+  pub bases : (j : ℕ) → j < baseCount dir → getElem? (basesFound root library) j ≡ some (baseOf dir j)
+  pub sources : (j : ℕ) → j < baseCount dir → IsFileOf (rows library) (baseOf dir j) (record { number = numberOf dir (j + 1); row = rowOf dir (j + 1) })
+  -- the picks of a slot's document are those by the table
+  pub picked : (s : ℕ) → Slot dir s → PickedBy (documentOf (rows root)) (filesOf (rows library)) (numberOf dir s) (documentAt (rows (sheetOf root library (numberOf dir s))) (rowOf dir s) .externProtos)
 
 -- the index of a part from row p on stands in w at a place between lo and hi
 pub record PartHeld (t : Part) (R : List Row) (p stride : ℕ) (w : List ℕ) (lo hi place n : ℕ) : Type 0 where

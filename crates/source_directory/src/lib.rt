@@ -9,7 +9,7 @@ ghost use Prim.Native.Nat.{_*_, _≤_, _<_};
 ghost use lib.ListN.{length, drop};
 ghost use Rattle.sheet_rows.specs.Rows.{rows};
 ghost use Rattle.pick_table.specs.Table.{TableSound};
-ghost use Rattle.source_directory.specs.Directory.{size, numberOf, baseCount, Copy, TableStored, SlotFor};
+ghost use Rattle.source_directory.specs.Directory.{size, numberOf, TableStored};
 
 // Where the words of the directory stand. The row where each slot's document begins:
 pub const ROWS: usize = 65;
@@ -76,38 +76,4 @@ pub fn store(library: &[u32], table: Table, dir: &mut [u32])
         dir[BASES + j] = table.bases[j];
         j += 1;
     }
-}
-
-// The table of bases.
-pub fn table_of(dir: &[u32]) -> Table
-    requires { ⌜ (size ≤ length (now dir)) × (baseCount (now dir) ≤ 64) ⌝ }
-    ensures { λ t. ⌜ Copy (now (dir .entry)) t ⌝ }
-{
-    let mut t = pick_table::table::empty();
-    let mut j = 0;
-    while j < 64 {
-        let slot = j + 1;
-        t.bases[j] = dir[BASES + j];
-        t.files[j] = dir[slot];
-        t.rows[j] = wide(dir[ROWS + slot]);
-        j += 1;
-    }
-    t.count = wide(dir[COUNT]);
-    t
-}
-
-// The slot of a document's number, 0 where no base has it.
-pub fn slot_of(dir: &[u32], number: u32) -> u32
-    requires { ⌜ (size ≤ length (now dir)) × (baseCount (now dir) ≤ 64) ⌝ }
-    ensures { λ s. ⌜ SlotFor (now (dir .entry)) number s ⌝ }
-{
-    let count = wide(dir[COUNT]);
-    let mut s = 1;
-    while s <= count {
-        if dir[s] == number {
-            return s as u32;
-        }
-        s += 1;
-    }
-    0
 }

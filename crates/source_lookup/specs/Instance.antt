@@ -1,17 +1,20 @@
--- What a node is an instance of (document 01, Modules: Reached), and how a target says it.
+-- What a node is an instance of (document 01, Modules: Reached; document 02, wish 12), and how a target says it.
 use mathlib.Core.Path.{_≡_}
 use mathlib.Core.List.{List, [], _∷_}
 use mathlib.Core.Option.{Option, none, some}
 use Prim.Native.Nat.{ℕ, _+_, _-_, _<_}
-use lib.ListN.{getD}
+use lib.ListN.{getD, drop}
 use lib.Dec.{eqb}
 use Rattle.ast.specs.Ast.{NodeOrigin}
 use Rattle.ast.specs.Choice.{choose, mapO}
-use Rattle.pick_table.specs.Picks.{Prototype, Pick, prototypeOf, urlTaken}
+use Rattle.sheet_rows.specs.declared.row.Row.{Row}
+use Rattle.sheet_rows.specs.Rows.{rows}
+use Rattle.sheet_rows.specs.Parse.{externProtoOf, filesOf}
+use Rattle.pick_table.specs.Picks.{Prototype, Pick, Picked, pickUrls, prototypeOf, urlTaken}
 use Rattle.pick_table.specs.Chosen.{markOf}
 use Rattle.source_lookup.specs.declared.instance.Target.{Target}
 use Rattle.source_lookup.specs.declared.instance.Target.the-variants.{Plain, Of}
-use Rattle.source_directory.specs.Directory.{numberOf, Slot}
+use Rattle.source_directory.specs.Directory.{numberOf, Slot, basesFound}
 
 -- a node's origin, from its row's columns
 abbrev pub originFrom : ℕ → ℕ → NodeOrigin
@@ -44,3 +47,7 @@ targetAt w p = choose (eqb (getD w p 0) 0) Plain (Of (getD w p 0 - 1) (record { 
 abbrev pub SlotSmall : Target → Type 0
 SlotSmall Plain = Unit {0}
 SlotSmall (Of s p) = s < 65
+
+-- what the urls of the extern at a row of a sheet lead to, by the table of the whole walk
+abbrev pub urlsPicked : List ℕ → List ℕ → List Row → ℕ → Picked
+urlsPicked root library sheet row = pickUrls (filesOf (rows library)) 0 (externProtoOf (drop row sheet) .urls) (basesFound root library)

@@ -4,21 +4,25 @@ use ast::ExternProtoId;
 use ast::ProtoId;
 use pick_memo::Memo;
 use pick_table::Chosen;
-use pick_table::table::Table;
+use pick_table::table;
+use pick_table::table::Source;
+use sheet_lookup::rows;
+use sheet_rows::part::Part;
+use sheet_rows::row;
+use sheet_walks::walk;
 use sheet_walks::walk::Found;
 use source_directory;
 use words_lent::wide;
 ghost use mathlib.Core.Path.{_≡_};
-ghost use Prim.Native.Nat.{ℕ, _+_, _<_};
+ghost use Prim.Native.Nat.{_+_, _<_};
 ghost use lib.ListN.{length};
 ghost use Rattle.sheet_rows.specs.Rows.{rows};
 ghost use Rattle.sheet_rows.specs.Parse.{externProtoOf, documentOf, filesOf};
-ghost use Rattle.sheet_walks.specs.declared.walk.Found.the-variants.{At};
-ghost use Rattle.sheet_lookup.specs.Lookup.{documentAt, Looked};
+ghost use Rattle.sheet_lookup.specs.Lookup.{sheetOf, documentAt, Looked};
 ghost use Rattle.pick_table.specs.Picks.{pickOf};
 ghost use Rattle.pick_memo.specs.Memo.{MemoSound};
-ghost use Rattle.source_directory.specs.Directory.{Directory, Copy};
-ghost use Rattle.source_lookup.specs.Instance.{PickedAs, targetAt};
+ghost use Rattle.source_directory.specs.Directory.{numberOf, rowOf, Slot, basesFound, Directory};
+ghost use Rattle.source_lookup.specs.Instance.{PickedAs, targetAt, urlsPicked};
 ghost use Rattle.source_lookup.specs.Sourced.{Sourced};
 
 // A plain node, or an instance of a PROTO of a slot's document.
@@ -40,48 +44,74 @@ pub struct PickedTarget {
     pub memo: Memo,
 }
 
-// The pick of the root's extern at a row.
+// The pick of the extern at a row of a slot's document: its urls in order, by the bases of the directory. A url of another base
+// was skipped.
 pub fn pick_row<'a>(
     root: &'a [u32],
-    row: usize,
     library: &'a [u32],
     dir: &[u32],
-    table: Table,
+    slot: u32,
+    row: usize,
     memo: Memo,
     slots: &mut [u32],
 ) -> PickedTarget
-    requires { ⌜ (row < length (rows (now root))) × Directory (now root) (now library) (now dir) × Copy (now dir) table × MemoSound (rows (now library)) (now slots) memo ⌝ }
-    ensures { λ x. ⌜ ((id : ℕ) → Looked externProtoOf (documentAt (rows (now (root .entry))) 0 .externProtos) (rows (now (root .entry))) id (At row) → PickedAs (now (dir .entry)) (pickOf (documentOf (rows (now (root .entry)))) (filesOf (rows (now (library .entry)))) 0 id) (x .target) (x .mark)) ⌝ }
-    ensures { λ x. ⌜ MemoSound (rows (now (library .entry))) (now (slots .exit)) (x .memo) ⌝ }
+    requires { ⌜ Directory (now root) (now library) (now dir) × Slot (now dir) slot × (row < length (rows (sheetOf (now root) (now library) (numberOf (now dir) slot)))) ⌝ }
+    requires { ⌜ (urlsPicked (now root) (now library) (rows (sheetOf (now root) (now library) (numberOf (now dir) slot))) row .1 ≡ basesFound (now root) (now library)) × MemoSound (rows (now library)) (now slots) memo ⌝ }
+    ensures { λ x. ⌜ PickedAs (now (dir .entry)) (urlsPicked (now (root .entry)) (now (library .entry)) (rows (sheetOf (now (root .entry)) (now (library .entry)) (numberOf (now (dir .entry)) slot))) row .0) (x .target) (x .mark) × MemoSound (rows (now (library .entry))) (now (slots .exit)) (x .memo) ⌝ }
 {
-    let choice = pick_table::pick_urls(root, row, library, table, memo, slots);
-    let memo = choice.memo;
-    let chosen = choice.chosen;
-    let Chosen::Proto { document, id } = chosen else {
-        return PickedTarget {
-            target: Target::Plain,
-            mark: 0,
-            memo,
+    let count = wide(dir[source_directory::COUNT]);
+    let sheet = rows::select(root, library, source_directory::number(dir, slot));
+    let mut memo = memo;
+    let mut at = row + 1;
+    let mut url: usize = 0;
+    loop {
+        let Found::At(q) = walk::seek(sheet, Part::Urls, at) else {
+            return PickedTarget {
+                target: Target::Plain,
+                mark: 0,
+                memo,
+            };
         };
-    };
-    let slot = source_directory::slot_of(dir, document);
-    let target = Target::Of { slot, proto: id };
-    let mark = (choice.url + 1) as u32;
-    PickedTarget { target, mark, memo }
+        at = q + 1;
+        url += 1;
+        let r = row::row_at(sheet, q);
+        let j = table::position(&dir[source_directory::BASES..], count, r.a);
+        if j < count {
+            let source = Source {
+                number: dir[j + 1],
+                row: wide(dir[source_directory::ROWS + (j + 1)]),
+            };
+            let led = pick_table::pick_from(library, source, r.b, memo, slots);
+            memo = led.memo;
+            let chosen = led.chosen;
+            if let Chosen::Proto { document: _, id } = chosen {
+                let target = Target::Of {
+                    slot: (j + 1) as u32,
+                    proto: id,
+                };
+                return PickedTarget {
+                    target,
+                    mark: url as u32,
+                    memo,
+                };
+            }
+        }
+    }
 }
 
-// An extern of the root.
-pub fn root_extern<'a>(
+// An extern of a slot's document.
+pub fn slot_extern<'a>(
     root: &'a [u32],
     library: &'a [u32],
     dir: &[u32],
     work: &[u32],
+    slot: u32,
     id: ExternProtoId,
 ) -> Found
-    requires { ⌜ Sourced (now root) (now library) (now dir) (now work) ⌝ }
-    ensures { λ x. ⌜ Looked externProtoOf (documentAt (rows (now (root .entry))) 0 .externProtos) (rows (now (root .entry))) (id .0) x ⌝ }
+    requires { ⌜ Sourced (now root) (now library) (now dir) (now work) × Slot (now dir) slot ⌝ }
+    ensures { λ x. ⌜ Looked externProtoOf (documentAt (rows (sheetOf (now (root .entry)) (now (library .entry)) (numberOf (now (dir .entry)) slot))) (rowOf (now (dir .entry)) slot) .externProtos) (rows (sheetOf (now (root .entry)) (now (library .entry)) (numberOf (now (dir .entry)) slot))) (id .0) x ⌝ }
 {
-    group::locate(root, library, dir, work, 0, 2, id.0)
+    group::locate(root, library, dir, work, slot, 2, id.0)
 }
 
 // The target that stands in two words: its slot + 1, or 0 for a plain node, and the PROTO's id.
@@ -99,27 +129,30 @@ fn kept(work: &[u32], at: usize) -> Target
     }
 }
 
-// The pick of an extern of the root.
+// The pick of an extern of a slot's document.
 pub fn picked<'a>(
     root: &'a [u32],
     library: &'a [u32],
     dir: &[u32],
     work: &[u32],
+    slot: u32,
     id: ExternProtoId,
 ) -> Taken
-    requires { ⌜ Sourced (now root) (now library) (now dir) (now work) ⌝ }
-    ensures { λ x. ⌜ PickedAs (now (dir .entry)) (pickOf (documentOf (rows (now (root .entry)))) (filesOf (rows (now (library .entry)))) 0 (id .0)) (x .target) (x .mark) ⌝ }
+    requires { ⌜ Sourced (now root) (now library) (now dir) (now work) × Slot (now dir) slot ⌝ }
+    ensures { λ x. ⌜ PickedAs (now (dir .entry)) (pickOf (documentOf (rows (now (root .entry)))) (filesOf (rows (now (library .entry)))) (numberOf (now (dir .entry)) slot) (id .0)) (x .target) (x .mark) ⌝ }
 {
     let n = id.0;
-    if n < dir[source_directory::CACHED] {
-        let at = wide(dir[source_directory::CACHE]) + 3 * wide(n);
-        let target = kept(work, at);
-        return Taken {
-            target,
-            mark: work[at + 2],
-        };
+    if slot == 0 {
+        if n < dir[source_directory::CACHED] {
+            let at = wide(dir[source_directory::CACHE]) + 3 * wide(n);
+            let target = kept(work, at);
+            return Taken {
+                target,
+                mark: work[at + 2],
+            };
+        }
     }
-    let Found::At(row) = root_extern(root, library, dir, work, id) else {
+    let Found::At(row) = slot_extern(root, library, dir, work, slot, id) else {
         return Taken {
             target: Target::Plain,
             mark: 0,
@@ -127,8 +160,7 @@ pub fn picked<'a>(
     };
     let mut none = [0u32; 1];
     let memo = pick_memo::fresh(&mut none);
-    let table = source_directory::table_of(dir);
-    let aimed = pick_row(root, row, library, dir, table, memo, &mut none);
+    let aimed = pick_row(root, library, dir, slot, row, memo, &mut none);
     let target = aimed.target;
     Taken {
         target,

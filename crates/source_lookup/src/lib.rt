@@ -90,10 +90,8 @@ pub fn target<'a>(
         };
     }
     if origin == 2 {
-        if slot == 0 {
-            let picked = instance::picked(root, library, dir, work, ExternProtoId(id));
-            return picked.target;
-        }
+        let picked = instance::picked(root, library, dir, work, slot, ExternProtoId(id));
+        return picked.target;
     }
     Target::Plain
 }
@@ -110,11 +108,8 @@ pub fn mark<'a>(
     requires { ⌜ Sourced (now root) (now library) (now dir) (now work) × Slot (now dir) slot ⌝ }
     ensures { λ m. ⌜ m ≡ markOf (urlTaken (pickOf (documentOf (rows (now (root .entry)))) (filesOf (rows (now (library .entry)))) (numberOf (now (dir .entry)) slot) (id .0))) ⌝ }
 {
-    if slot == 0 {
-        let picked = instance::picked(root, library, dir, work, id);
-        return picked.mark;
-    }
-    0
+    let picked = instance::picked(root, library, dir, work, slot, id);
+    picked.mark
 }
 
 // The row of the last field of a name, of the node that stands at a row of a slot's document.

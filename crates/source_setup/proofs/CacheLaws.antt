@@ -1,5 +1,5 @@
 -- How the cache of picks grows.
-use mathlib.Core.Path.{_≡_, refl, sym, _∙_}
+use mathlib.Core.Path.{_≡_, refl, sym, ap, subst, _∙_}
 use mathlib.Core.List.{List, _++_}
 use mathlib.Core.Option.{Option}
 use Prim.Native.Nat.{ℕ, _+_, _-_, _*_, _≤_, _<_}
@@ -10,24 +10,27 @@ use lib.Seq.{length-take-le, getD-set-same, getD-set-other, getD-take}
 use borrow.Author.Tests.{ne-eqb}
 use Rattle.sheet_rows.specs.declared.row.Row.{Row}
 use Rattle.sheet_rows.specs.Rows.{rows}
-use Rattle.sheet_rows.specs.Parse.{documentOf, filesOf}
+use Rattle.sheet_rows.specs.Parse.{externProtoOf, documentOf, filesOf}
+use Rattle.sheet_walks.specs.declared.walk.Found.{Found}
+use Rattle.sheet_walks.specs.declared.walk.Found.the-variants.{At}
+use Rattle.sheet_lookup.specs.Lookup.{sheetOf, documentAt, Looked}
 use Rattle.pick_memo.specs.declared.Memo.{Memo}
-use Rattle.pick_table.specs.declared.table.Table.{Table}
 use Rattle.pick_table.specs.Picks.{Prototype, Pick, pickOf}
 use Rattle.source_lookup.specs.declared.instance.Target.{Target}
 use Rattle.source_lookup.specs.declared.instance.Target.the-variants.{Plain, Of}
 use Rattle.words_lent.specs.Words.{Outside}
 use Rattle.pick_memo.specs.Memo.{MemoSound}
-use Rattle.source_directory.specs.Directory.{size, baseCount, cacheOf, cachedOf, fromOf, endOf, groupOf, Slot, Copy, Directory, HeldAt}
-use Rattle.source_lookup.specs.Instance.{Targeted, PickedAs, targetAt, SlotSmall}
+use Rattle.source_directory.specs.Directory.{size, baseCount, cacheOf, cachedOf, fromOf, endOf, numberOf, rowOf, groupOf, Slot, Directory, HeldAt}
+use Rattle.source_lookup.specs.Instance.{Targeted, PickedAs, targetAt, SlotSmall, urlsPicked}
 use Rattle.source_lookup.specs.Sourced.{Sourced, Region}
 use Rattle.source_setup.specs.Prepared.{PickKept, PicksCached}
 use Rattle.pick_memo.proofs.MemoLaws.{kept-on}
 use Rattle.words_lent.proofs.WordLaws.{stays, stays-front, stays-set, stays-on, stays-wide}
-use Rattle.source_directory.proofs.DirectoryLaws.{slot-on, copy-on, slot-back, directory-kept}
+use Rattle.source_directory.proofs.DirectoryLaws.{slot-on, slot-back, directory-kept}
 use Rattle.source_setup.proofs.ListingLaws.{names-set}
 use Rattle.source_directory.proofs.GroupLaws.{held-on, held-dir}
-use Rattle.source_lookup.proofs.SourcedLaws.{sourced-kept}
+use Rattle.source_lookup.proofs.SourcedLaws.{slot-root, number-root, sourced-kept}
+use Rattle.source_lookup.proofs.PickedLaws.{row-picked}
 
 -- ---- a target in two words, and its mark
 
@@ -63,6 +66,12 @@ module _ (w : List ℕ) (at m : ℕ) (h : at + 2 < length w) where
 
   pub held-plain : PickKept w (set w₁ at 0) at Plain m
   held-plain = held-with (kept-plain w₁ at long)
+
+-- the pick of an extern of the root, by its row
+pub root-picked : {root library dir w : List ℕ} (s : Sourced root library dir w) {i : ℕ} {x : Found} (l : Looked externProtoOf (documentAt (rows (sheetOf root library (numberOf dir 0))) (rowOf dir 0) .externProtos) (rows (sheetOf root library (numberOf dir 0))) i x) {row : ℕ} → x ≡ At row → (t : Target) (m : ℕ) → PickedAs dir (urlsPicked root library (rows (sheetOf root library (numberOf dir 0))) row .0) t m → PickedAs dir (pickOf (documentOf (rows root)) (filesOf (rows library)) 0 i) t m
+root-picked {root} {library} {dir} s {i} l e t m p =
+    subst (λ (o : Option Pick). PickedAs dir o t m)
+    (row-picked (s .directory) (slot-root s) l e ∙ ap (λ (d : ℕ). pickOf (documentOf (rows root)) (filesOf (rows library)) d i) (number-root s)) p
 
 -- ---- the cache has one pick more
 
@@ -165,9 +174,6 @@ module _ {root library dir₀ dir w₀ w : List ℕ} {m : Memo} {lo hi i at : �
   add-within =
       let s = a .sourced in
       (omega (arith, a .isFrom, s .cache .from, s .cache .upto, s .within), omega (arith, a .isAt, a .isEnd, a .isCached, s .cache .upto), omega (arith, a .isEnd, s .within), s .directory .long)
-
-  pub add-copy : {t : Table} → Copy dir₀ t → Copy dir t
-  add-copy c = copy-on (λ k h. a .dirStays .below k (omega arith)) (omega (arith, a .dirStays .below 194 (omega arith), a .sourced .directory .few)) c
 
   pub add-more : {x : Target} {mark : ℕ} {m′ : Memo} (ys w₂ : List ℕ) → at + 3 ≤ hi → length ys ≡ lo → MemoSound (rows library) ys m′ → PickedAs dir (pickOf (documentOf (rows root)) (filesOf (rows library)) 0 i) x mark → PickKept (ys ++ drop lo w) w₂ at x mark → Adding root library dir₀ (set dir 197 (i + 1)) w₀ w₂ m′ lo hi (i + 1) (at + 3)
   add-more {x} {mark} ys w₂ h e n t k =

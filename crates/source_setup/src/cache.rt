@@ -31,18 +31,17 @@ pub fn remember<'a>(root: &'a [u32], library: &'a [u32], dir: &mut [u32], work: 
     requires { ⌜ Sourced (now root) (now library) (now dir) (now work) ⌝ }
     ensures { λ _. ⌜ PicksCached (now (root .entry)) (now (library .entry)) (now (dir .entry)) (now (dir .exit)) (now (work .entry)) (now (work .exit)) ⌝ }
 {
-    let table = source_directory::table_of(dir);
     let from = wide(dir[source_directory::FROM]);
     let end = wide(dir[source_directory::END]);
     let mut i = dir[source_directory::CACHED];
     let mut at = wide(dir[source_directory::CACHE]) + 3 * wide(i);
     let mut memo = pick_memo::fresh(&mut work[..from]);
     while at + 3 <= end {
-        let Found::At(row) = instance::root_extern(root, library, dir, work, ExternProtoId(i))
+        let Found::At(row) = instance::slot_extern(root, library, dir, work, 0, ExternProtoId(i))
         else {
             return;
         };
-        let aimed = instance::pick_row(root, row, library, dir, table, memo, &mut work[..from]);
+        let aimed = instance::pick_row(root, library, dir, 0, row, memo, &mut work[..from]);
         memo = aimed.memo;
         let x = aimed.target;
         keep(x, aimed.mark, work, at);

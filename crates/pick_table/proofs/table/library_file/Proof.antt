@@ -3,55 +3,70 @@ use Rattle.pick_table.proofs.table.library_file.Statement.{statement}
 use Rattle.pick_table.proofs.table.library_file.Tie as tie
 use Rattle.pick_table.proofs.table.library_file.Reads as reads
 use Rattle.pick_table.proofs.table.library_file.Lts as lts
+use Rattle.pick_table.proofs.table.walked.Reads as walked-reads
 use Rattle.sheet_rows.proofs.row.row_at.Reads as row-at-reads
-use Rattle.sheet_walks.proofs.walk.seek.Reads as seek-reads
+use Rattle.words_lent.proofs.wide.Reads as wide-reads
 use Prim.Native.Nat.{_-_}
-use mathlib.Core.Logic.{⊎-elim}
 use denote.Ref.{now}
-use lib.ListN.{length}
-use Rattle.sheet_rows.specs.declared.part.Part.the-variants.{Files}
 use Rattle.sheet_rows.specs.Rows.{rows}
 use Rattle.sheet_rows.proofs.RowLaws.{rows-length}
-use Rattle.sheet_walks.proofs.WalkLaws.{stands, missing}
-use Rattle.pick_table.proofs.SourceLaws.{Seeking, seek-start, seek-none, seek-here, seek-next}
+use Rattle.pick_table.proofs.ListedLaws.{Searching, search-start, search-none, search-here, search-next}
 use native.Mathlib.Omega.{arith}
 use borrow.Author.Needs.{needs}
 
 abbrev Inv-loop : tie.InvT-loop
-Inv-loop library base found₀ row₀ number₀ at₀ found row number at = Seeking (rows library) base (record { number = found; row = row }) number at
+Inv-loop library slots from count base j₀ j = Searching (rows library) base count j
 
 abbrev μ-loop : tie.MeasureT-loop
-μ-loop library base found₀ row₀ number₀ at₀ found row number at = length (rows library) - at
+μ-loop library slots from count base j₀ j = j
 
-loop-holds : tie.Need-loop-holds Inv-loop μ-loop
-loop-holds c = seek-start (rows (now (c .before .args .library))) (c .before .args .base)
-
-seek-requires : tie.Need-seek-requires Inv-loop μ-loop
-seek-requires c κs = search needs
-
-enum-known-q : tie.Need-enum-known-q Inv-loop μ-loop
-enum-known-q c = search needs
-
-enum-told : tie.Need-enum-told Inv-loop μ-loop
-enum-told c = search needs
+walked-requires : tie.Need-walked-requires Inv-loop μ-loop
+walked-requires c κs = c .before .before .before .pre .0
 
 returns : tie.Need-returns Inv-loop μ-loop
-returns c = seek-none _ _ (c .before .before .before .loop .inv) (missing Files (rows (now (c .before .before .before .before .before .args .library))) (c .before .before .before .loop .at) (c .before .before .seek .ensures) (c .enum-told .given .1))
+returns c = c .walked .ensures
 
-add-at : tie.Need-add-at Inv-loop μ-loop
-add-at c = omega (arith, stands Files (rows (now (c .before .before .before .before .before .before .args .library))) (c .before .before .before .before .loop .at) (c .before .before .before .seek .ensures) (c .before .q .given .1) .below, rows-length (now (c .before .before .before .before .before .before .args .library)))
+loop-holds : tie.Need-loop-holds Inv-loop μ-loop
+loop-holds c = search-start (rows (now (c .before .before .before .args .library))) (now (c .before .before .before .args .slots)) (c .before .before .before .args .base) (c .before .before .before .pre .1) (omega arith)
+
+sub-wide : tie.Need-sub-wide Inv-loop μ-loop
+sub-wide c = omega arith
+
+add-wide : tie.Need-add-wide Inv-loop μ-loop
+add-wide c = omega (arith, c .before .before .before .before .before .pre .1 .within, c .before .loop .inv .upto, c .loop-test .taken)
+
+mul-wide : tie.Need-mul-wide Inv-loop μ-loop
+mul-wide c = omega (arith, c .before .before .before .before .before .pre .1 .within, c .before .loop .inv .upto, c .loop-test .taken)
+
+shared-slice-read-wide : tie.Need-shared-slice-read-wide Inv-loop μ-loop
+shared-slice-read-wide c = omega (arith, c .before .before .before .before .before .before .pre .1 .within, c .before .before .loop .inv .upto, c .before .loop-test .taken)
+
+wide-requires : tie.Need-wide-requires Inv-loop μ-loop
+wide-requires c κs = search needs
 
 row-at-requires : tie.Need-row-at-requires Inv-loop μ-loop
 row-at-requires c κs = search needs
 
-add-number : tie.Need-add-number Inv-loop μ-loop
-add-number c = omega (arith, c .before .before .before .before .before .before .before .loop .inv .ahead, c .before .before .before .before .before .before .before .loop .inv .upto, rows-length (now (c .before .before .before .before .before .before .before .before .before .args .library)), c .before .before .before .before .before .before .before .before .before .pre)
+cast-t16 : tie.Need-cast-t16 Inv-loop μ-loop
+cast-t16 c = omega (arith, c .before .before .before .before .before .before .before .before .before .before .pre .0, c .before .before .before .before .before .before .before .before .before .before .pre .1 .few, c .before .before .before .before .before .before .loop .inv .upto, rows-length (now (c .before .before .before .before .before .before .before .before .before .before .args .library)))
+
+add-t17 : tie.Need-add-t17 Inv-loop μ-loop
+add-t17 c = omega (arith, c .before .before .before .wide .ensures .small)
+
+returns-2 : tie.Need-returns-2 Inv-loop μ-loop
+returns-2 c = search-here (rows (now (c .before .before .before .before .before .before .before .before .before .before .args .library))) (now (c .before .before .before .before .before .before .before .before .before .before .args .slots)) (c .before .before .before .before .before .before .before .before .before .before .args .base) (c .before .before .before .before .before .before .before .before .before .before .pre .1) (omega (arith, c .before .before .before .before .before .before .before .if1 .left)) (c .before .before .before .before .before .before .loop .inv) (c .before .before .before .before .before .loop-test .taken) (c .before .before .before .wide .ensures .same) (c .before .before .row-at .ensures) (c .if2 .taken)
+
+sub-j : tie.Need-sub-j Inv-loop μ-loop
+sub-j c = omega arith
 
 loop-less : tie.Need-loop-less Inv-loop μ-loop
-loop-less c = omega (arith, stands Files (rows (now (c .before .before .before .before .before .before .before .before .before .args .library))) (c .before .before .before .before .before .before .before .loop .at) (c .before .before .before .before .before .before .seek .ensures) (c .before .before .before .before .q .given .1) .from, stands Files (rows (now (c .before .before .before .before .before .before .before .before .before .args .library))) (c .before .before .before .before .before .before .before .loop .at) (c .before .before .before .before .before .before .seek .ensures) (c .before .before .before .before .q .given .1) .below)
+loop-less c = omega arith
 
 loop-again : tie.Need-loop-again Inv-loop μ-loop
-loop-again c = let s = stands Files (rows (now (c .before .before .before .before .before .before .before .before .before .args .library))) (c .before .before .before .before .before .before .before .loop .at) (c .before .before .before .before .before .before .seek .ensures) (c .before .before .before .before .q .given .1) in ⊎-elim (λ w. rw (w .1, w .2) (seek-here (rows (now (c .before .before .before .before .before .before .before .before .before .args .library))) (c .before .before .before .before .before .before .before .before .before .args .base) (c .before .before .before .before .before .before .before .loop .inv) s (c .before .before .row-at .ensures) (w .0 .taken))) (λ w. rw (w .1, w .2) (seek-next (rows (now (c .before .before .before .before .before .before .before .before .before .args .library))) (c .before .before .before .before .before .before .before .before .before .args .base) (c .before .before .before .before .before .before .before .loop .inv) s (c .before .before .row-at .ensures) (w .0 .left))) (c .if1 .came)
+loop-again c = search-next (rows (now (c .before .before .before .before .before .before .before .before .before .before .args .library))) (now (c .before .before .before .before .before .before .before .before .before .before .args .slots)) (c .before .before .before .before .before .before .before .before .before .before .args .base) (c .before .before .before .before .before .before .before .before .before .before .pre .1) (omega (arith, c .before .before .before .before .before .before .before .if1 .left)) (c .before .before .before .before .before .before .loop .inv) (c .before .before .before .before .before .loop-test .taken) (c .before .before .before .wide .ensures .same) (c .before .before .row-at .ensures) (c .if2 .left)
+
+returns-3 : tie.Need-returns-3 Inv-loop μ-loop
+returns-3 c = search-none (rows (now (c .before .before .before .before .before .args .library))) (now (c .before .before .before .before .before .args .slots)) (c .before .before .before .before .before .args .base) (c .before .before .before .before .before .pre .1) (omega (arith, c .before .before .if1 .left)) (c .before .loop .inv) (omega (arith, c .loop-test .left))
 
 pub library-file-spec : {M : Type 1} → statement M
 library-file-spec =
@@ -59,13 +74,19 @@ library-file-spec =
     (tie.spec
     Inv-loop
     μ-loop
-    loop-holds
-    seek-requires
-    enum-known-q
-    enum-told
+    walked-requires
     returns
-    add-at
+    loop-holds
+    sub-wide
+    add-wide
+    mul-wide
+    shared-slice-read-wide
+    wide-requires
     row-at-requires
-    add-number
+    cast-t16
+    add-t17
+    returns-2
+    sub-j
     loop-less
-    loop-again)
+    loop-again
+    returns-3)

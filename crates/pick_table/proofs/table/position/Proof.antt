@@ -10,10 +10,10 @@ use lib.ListN.{getD}
 use native.Mathlib.Omega.{arith}
 
 abbrev Inv-loop : tie.InvT-loop
-Inv-loop base table j₀ j = (j ≤ table .count) × ((k : ℕ) → k < j → getD (table .bases) k 0 ≡ base → ⊥)
+Inv-loop bases count base j₀ j = (j ≤ count) × ((k : ℕ) → k < j → getD bases k 0 ≡ base → ⊥)
 
 abbrev μ-loop : tie.MeasureT-loop
-μ-loop base table j₀ j = table .count - j
+μ-loop bases count base j₀ j = count - j
 
 loop-holds : tie.Need-loop-holds Inv-loop μ-loop
 loop-holds c = (omega arith, λ k h. absurd (omega arith))
@@ -21,8 +21,8 @@ loop-holds c = (omega arith, λ k h. absurd (omega arith))
 mul-if1 : tie.Need-mul-if1 Inv-loop μ-loop
 mul-if1 c = omega arith
 
-element-copy-out-if1 : tie.Need-element-copy-out-if1 Inv-loop μ-loop
-element-copy-out-if1 c = omega arith
+shared-slice-read-if1 : tie.Need-shared-slice-read-if1 Inv-loop μ-loop
+shared-slice-read-if1 c = omega arith
 
 returns : tie.Need-returns Inv-loop μ-loop
 returns c = record { upto = c .before .before .before .loop .inv .0; here = λ h. (c .if1 .taken); before = c .before .before .before .loop .inv .1 }
@@ -47,7 +47,7 @@ position-spec =
     μ-loop
     loop-holds
     mul-if1
-    element-copy-out-if1
+    shared-slice-read-if1
     returns
     add-j
     loop-less

@@ -3,11 +3,10 @@ use Rattle.source_setup.proofs.cache.remember.Statement.{statement}
 use Rattle.source_setup.proofs.cache.remember.Tie as tie
 use Rattle.source_setup.proofs.cache.remember.Reads as reads
 use Rattle.source_setup.proofs.cache.remember.Lts as lts
-use Rattle.source_directory.proofs.table_of.Reads as table-of-reads
 use Rattle.pick_memo.proofs.fresh.Reads as fresh-reads
-use Rattle.source_setup.proofs.cache.keep.Reads as keep-reads
 use Rattle.source_lookup.proofs.instance.pick_row.Reads as pick-row-reads
-use Rattle.source_lookup.proofs.instance.root_extern.Reads as root-extern-reads
+use Rattle.source_lookup.proofs.instance.slot_extern.Reads as slot-extern-reads
+use Rattle.source_setup.proofs.cache.keep.Reads as keep-reads
 use Rattle.words_lent.proofs.wide.Reads as wide-reads
 use mathlib.Core.Path.{refl, subst, _∙_}
 use Prim.Native.Nat.{_-_, _≤_}
@@ -15,40 +14,39 @@ use denote.Ref.{now}
 use lib.ListN.{length}
 use lib.Seq.{length-take-le}
 use Rattle.sheet_rows.specs.Rows.{rows}
-use Rattle.sheet_rows.specs.Parse.{externProtoOf}
-use Rattle.sheet_lookup.specs.Lookup.{documentAt, Looked}
+use Rattle.sheet_lookup.specs.Lookup.{sheetOf}
 use Rattle.sheet_walks.specs.Walk.{Below}
 use Rattle.words_lent.proofs.WordLaws.{stays-front}
-use Rattle.source_setup.proofs.CacheLaws.{Adding, add-start, add-within, add-copy, add-more, added, small-of}
+use Rattle.source_directory.specs.Directory.{numberOf}
+use Rattle.source_lookup.proofs.SourcedLaws.{slot-root}
+use Rattle.source_lookup.proofs.PickedLaws.{row-settled}
+use Rattle.source_setup.proofs.CacheLaws.{Adding, add-start, add-within, add-more, added, small-of, root-picked}
 use native.Mathlib.Omega.{arith}
 use borrow.Author.Needs.{needs}
 
 abbrev Inv-loop : tie.InvT-loop
-Inv-loop root library dir₀ work₀ table from end i₀ at₀ memo₀ dir work i at memo = Adding root library dir₀ dir work₀ work memo from end i at
+Inv-loop root library dir₀ work₀ from end i₀ at₀ memo₀ dir work i at memo = Adding root library dir₀ dir work₀ work memo from end i at
 
 abbrev μ-loop : tie.MeasureT-loop
-μ-loop root library dir₀ work₀ table from end i₀ at₀ memo₀ dir work i at memo = end - at
-
-table-of-requires : tie.Need-table-of-requires Inv-loop μ-loop
-table-of-requires c κs = (c .before .before .before .before .before .pre .directory .long, c .before .before .before .before .before .pre .directory .few)
+μ-loop root library dir₀ work₀ from end i₀ at₀ memo₀ dir work i at memo = end - at
 
 slice-read-wide : tie.Need-slice-read-wide Inv-loop μ-loop
-slice-read-wide c = omega (arith, c .before .before .before .before .before .before .before .pre .directory .long)
+slice-read-wide c = omega (arith, c .before .before .before .before .before .pre .directory .long)
 
 wide-requires : tie.Need-wide-requires Inv-loop μ-loop
 wide-requires c κs = search needs
 
 slice-read-wide-2 : tie.Need-slice-read-wide-2 Inv-loop μ-loop
-slice-read-wide-2 c = omega (arith, c .before .before .before .before .before .before .before .before .before .pre .directory .long)
+slice-read-wide-2 c = omega (arith, c .before .before .before .before .before .before .before .pre .directory .long)
 
 wide-requires-2 : tie.Need-wide-requires-2 Inv-loop μ-loop
 wide-requires-2 c κs = search needs
 
 slice-read-i : tie.Need-slice-read-i Inv-loop μ-loop
-slice-read-i c = omega (arith, c .before .before .before .before .before .before .before .before .before .before .before .pre .directory .long)
+slice-read-i c = omega (arith, c .before .before .before .before .before .before .before .before .before .pre .directory .long)
 
 slice-read-wide-3 : tie.Need-slice-read-wide-3 Inv-loop μ-loop
-slice-read-wide-3 c = omega (arith, c .before .before .before .before .before .before .before .before .before .before .before .before .pre .directory .long)
+slice-read-wide-3 c = omega (arith, c .before .before .before .before .before .before .before .before .before .before .pre .directory .long)
 
 wide-requires-3 : tie.Need-wide-requires-3 Inv-loop μ-loop
 wide-requires-3 c κs = search needs
@@ -63,12 +61,12 @@ add-at : tie.Need-add-at Inv-loop μ-loop
 add-at c = omega (arith, c .before .wide3 .ensures .small, c .wide4 .ensures .small)
 
 slice-relend-prefix-fresh : tie.Need-slice-relend-prefix-fresh Inv-loop μ-loop
-slice-relend-prefix-fresh c = omega (arith, c .before .before .before .before .before .before .wide .ensures .same, c .before .before .before .before .before .before .before .before .before .before .before .before .before .before .pre .cache .from, c .before .before .before .before .before .before .before .before .before .before .before .before .before .before .pre .cache .upto, c .before .before .before .before .before .before .before .before .before .before .before .before .before .before .pre .within)
+slice-relend-prefix-fresh c = omega (arith, c .before .before .before .before .before .before .wide .ensures .same, c .before .before .before .before .before .before .before .before .before .before .before .before .pre .cache .from, c .before .before .before .before .before .before .before .before .before .before .before .before .pre .cache .upto, c .before .before .before .before .before .before .before .before .before .before .before .before .pre .within)
 
 slice-aggregate-fresh : tie.Need-slice-aggregate-fresh Inv-loop μ-loop
 slice-aggregate-fresh c =
-    let w = now (c .before .before .before .before .before .before .before .before .before .before .before .before .before .before .before .args .work) in
-    let h : (c .before .before .before .before .before .before .before .wide .result) ≤ length w = omega (arith, c .before .before .before .before .before .before .before .wide .ensures .same, c .before .before .before .before .before .before .before .before .before .before .before .before .before .before .before .pre .cache .from, c .before .before .before .before .before .before .before .before .before .before .before .before .before .before .before .pre .cache .upto, c .before .before .before .before .before .before .before .before .before .before .before .before .before .before .before .pre .within) in
+    let w = now (c .before .before .before .before .before .before .before .before .before .before .before .before .before .args .work) in
+    let h : (c .before .before .before .before .before .before .before .wide .result) ≤ length w = omega (arith, c .before .before .before .before .before .before .before .wide .ensures .same, c .before .before .before .before .before .before .before .before .before .before .before .before .before .pre .cache .from, c .before .before .before .before .before .before .before .before .before .before .before .before .before .pre .cache .upto, c .before .before .before .before .before .before .before .before .before .before .before .before .before .pre .within) in
     let z = length-take-le (c .before .before .before .before .before .before .before .wide .result) w h in search needs
 
 fresh-requires : tie.Need-fresh-requires Inv-loop μ-loop
@@ -76,16 +74,16 @@ fresh-requires c κs = search needs
 
 loop-holds : tie.Need-loop-holds Inv-loop μ-loop
 loop-holds c =
-    let w = now (c .before .before .before .before .before .before .before .before .before .before .before .before .before .before .before .before .before .before .args .work) in
-    let h : (c .before .before .before .before .before .before .before .before .before .before .wide .result) ≤ length w = omega (arith, c .before .before .before .before .before .before .before .before .before .before .wide .ensures .same, c .before .before .before .before .before .before .before .before .before .before .before .before .before .before .before .before .before .before .pre .cache .from, c .before .before .before .before .before .before .before .before .before .before .before .before .before .before .before .before .before .before .pre .cache .upto, c .before .before .before .before .before .before .before .before .before .before .before .before .before .before .before .before .before .before .pre .within) in
+    let w = now (c .before .before .before .before .before .before .before .before .before .before .before .before .before .before .before .before .args .work) in
+    let h : (c .before .before .before .before .before .before .before .before .before .before .wide .result) ≤ length w = omega (arith, c .before .before .before .before .before .before .before .before .before .before .wide .ensures .same, c .before .before .before .before .before .before .before .before .before .before .before .before .before .before .before .before .pre .cache .from, c .before .before .before .before .before .before .before .before .before .before .before .before .before .before .before .before .pre .cache .upto, c .before .before .before .before .before .before .before .before .before .before .before .before .before .before .before .before .pre .within) in
     let e = (c .before .before .fresh .kept .0) ∙ length-take-le (c .before .before .before .before .before .before .before .before .before .before .wide .result) w h in
-    add-start (c .before .before .fresh .last .0) (c .before .before .before .before .before .before .before .before .before .before .before .before .before .before .before .before .before .before .pre) ((c .before .before .fresh .ensures) (rows (now (c .before .before .before .before .before .before .before .before .before .before .before .before .before .before .before .before .before .before .args .library)))) e (c .before .before .before .before .before .before .before .before .before .before .wide .ensures .same) (c .before .before .before .before .before .before .before .before .wide2 .ensures .same) refl (omega (arith, c .before .before .before .before .before .wide3 .ensures .same, c .before .before .before .before .wide4 .ensures .same))
+    add-start (c .before .before .fresh .last .0) (c .before .before .before .before .before .before .before .before .before .before .before .before .before .before .before .before .pre) ((c .before .before .fresh .ensures) (rows (now (c .before .before .before .before .before .before .before .before .before .before .before .before .before .before .before .before .args .library)))) e (c .before .before .before .before .before .before .before .before .before .before .wide .ensures .same) (c .before .before .before .before .before .before .before .before .wide2 .ensures .same) refl (omega (arith, c .before .before .before .before .before .wide3 .ensures .same, c .before .before .before .before .wide4 .ensures .same))
 
 add-loop : tie.Need-add-loop Inv-loop μ-loop
 add-loop c = omega (arith, add-within (c .loop .inv) .1, c .before .before .before .before .before .before .before .before .before .wide2 .ensures .small)
 
-root-extern-requires : tie.Need-root-extern-requires Inv-loop μ-loop
-root-extern-requires c κs = c .before .before .before .loop .inv .sourced
+slot-extern-requires : tie.Need-slot-extern-requires Inv-loop μ-loop
+slot-extern-requires c κs = (c .before .before .before .loop .inv .sourced, slot-root (c .before .before .before .loop .inv .sourced))
 
 enum-known-row : tie.Need-enum-known-row Inv-loop μ-loop
 enum-known-row c = search needs
@@ -98,15 +96,15 @@ same-length c = c .before .before .before .before .before .before .loop .inv .di
 
 same-length-2 : tie.Need-same-length-2 Inv-loop μ-loop
 same-length-2 c =
-    let w = now (c .before .before .before .before .before .before .before .before .before .before .before .before .before .before .before .before .before .before .before .before .before .before .before .before .before .args .work) in
-    let h : (c .before .before .before .before .before .before .before .before .before .before .before .before .before .before .before .before .before .wide .result) ≤ length w = omega (arith, c .before .before .before .before .before .before .before .before .before .before .before .before .before .before .before .before .before .wide .ensures .same, c .before .before .before .before .before .before .before .before .before .before .before .before .before .before .before .before .before .before .before .before .before .before .before .before .before .pre .cache .from, c .before .before .before .before .before .before .before .before .before .before .before .before .before .before .before .before .before .before .before .before .before .before .before .before .before .pre .cache .upto, c .before .before .before .before .before .before .before .before .before .before .before .before .before .before .before .before .before .before .before .before .before .before .before .before .before .pre .within) in
+    let w = now (c .before .before .before .before .before .before .before .before .before .before .before .before .before .before .before .before .before .before .before .before .before .before .before .args .work) in
+    let h : (c .before .before .before .before .before .before .before .before .before .before .before .before .before .before .before .before .before .wide .result) ≤ length w = omega (arith, c .before .before .before .before .before .before .before .before .before .before .before .before .before .before .before .before .before .wide .ensures .same, c .before .before .before .before .before .before .before .before .before .before .before .before .before .before .before .before .before .before .before .before .before .before .before .pre .cache .from, c .before .before .before .before .before .before .before .before .before .before .before .before .before .before .before .before .before .before .before .before .before .before .before .pre .cache .upto, c .before .before .before .before .before .before .before .before .before .before .before .before .before .before .before .before .before .before .before .before .before .before .before .pre .within) in
     let e = (c .before .before .before .before .before .before .before .before .before .fresh .kept .0) ∙ length-take-le (c .before .before .before .before .before .before .before .before .before .before .before .before .before .before .before .before .before .wide .result) w h in
     (c .before .before .before .before .before .before .loop .inv .workStays .long) ∙ stays-front w (c .before .before .before .before .before .before .before .before .before .fresh .last .0) (c .before .before .before .before .before .before .before .before .before .before .before .before .before .before .before .before .before .wide .result) h e .long
 
 returns : tie.Need-returns Inv-loop μ-loop
 returns c =
-    let w = now (c .before .before .before .before .before .before .before .before .before .before .before .before .before .before .before .before .before .before .before .before .before .before .before .before .before .args .work) in
-    let h : (c .before .before .before .before .before .before .before .before .before .before .before .before .before .before .before .before .before .wide .result) ≤ length w = omega (arith, c .before .before .before .before .before .before .before .before .before .before .before .before .before .before .before .before .before .wide .ensures .same, c .before .before .before .before .before .before .before .before .before .before .before .before .before .before .before .before .before .before .before .before .before .before .before .before .before .pre .cache .from, c .before .before .before .before .before .before .before .before .before .before .before .before .before .before .before .before .before .before .before .before .before .before .before .before .before .pre .cache .upto, c .before .before .before .before .before .before .before .before .before .before .before .before .before .before .before .before .before .before .before .before .before .before .before .before .before .pre .within) in
+    let w = now (c .before .before .before .before .before .before .before .before .before .before .before .before .before .before .before .before .before .before .before .before .before .before .before .args .work) in
+    let h : (c .before .before .before .before .before .before .before .before .before .before .before .before .before .before .before .before .before .wide .result) ≤ length w = omega (arith, c .before .before .before .before .before .before .before .before .before .before .before .before .before .before .before .before .before .wide .ensures .same, c .before .before .before .before .before .before .before .before .before .before .before .before .before .before .before .before .before .before .before .before .before .before .before .pre .cache .from, c .before .before .before .before .before .before .before .before .before .before .before .before .before .before .before .before .before .before .before .before .before .before .before .pre .cache .upto, c .before .before .before .before .before .before .before .before .before .before .before .before .before .before .before .before .before .before .before .before .before .before .before .pre .within) in
     let e = (c .before .before .before .before .before .before .before .before .before .fresh .kept .0) ∙ length-take-le (c .before .before .before .before .before .before .before .before .before .before .before .before .before .before .before .before .before .wide .result) w h in
     added (c .before .before .before .before .before .before .loop .inv) (stays-front w (c .before .before .before .before .before .before .before .before .before .fresh .last .0) (c .before .before .before .before .before .before .before .before .before .before .before .before .before .before .before .before .before .wide .result) h e)
 
@@ -117,12 +115,12 @@ slice-aggregate-pick-row : tie.Need-slice-aggregate-pick-row Inv-loop μ-loop
 slice-aggregate-pick-row c = let z = length-take-le (c .before .before .before .before .before .before .before .before .before .before .before .before .before .before .before .before .before .before .before .before .wide .result) (c .before .before .before .before .before .before .before .before .before .loop .work) (add-within (c .before .before .before .before .before .before .before .before .before .loop .inv) .0) in search needs
 
 pick-row-requires : tie.Need-pick-row-requires Inv-loop μ-loop
-pick-row-requires c κs = (subst (Below (rows (now (c .before .before .before .before .before .before .before .before .before .before .before .before .before .before .before .before .before .before .before .before .before .before .before .before .before .before .before .before .args .root)))) (c .before .before .before .row .given .1) (c .before .before .before .before .before .root-extern .ensures .below), c .before .before .before .before .before .before .before .before .before .loop .inv .sourced .directory, add-copy (c .before .before .before .before .before .before .before .before .before .loop .inv) (c .before .before .before .before .before .before .before .before .before .before .before .before .before .before .before .before .before .before .before .before .before .before .table-of .ensures), c .before .before .before .before .before .before .before .before .before .loop .inv .memo)
+pick-row-requires c κs = ((c .before .before .before .before .before .before .before .before .before .loop .inv .sourced .directory, slot-root (c .before .before .before .before .before .before .before .before .before .loop .inv .sourced), subst (Below (rows (sheetOf (now (c .before .before .before .before .before .before .before .before .before .before .before .before .before .before .before .before .before .before .before .before .before .before .before .before .before .before .args .root)) (now (c .before .before .before .before .before .before .before .before .before .before .before .before .before .before .before .before .before .before .before .before .before .before .before .before .before .before .args .library)) (numberOf (c .before .before .before .before .before .before .before .before .before .loop .dir) 0)))) (c .before .before .before .row .given .1) (c .before .before .before .before .before .slot-extern .ensures .below)), (row-settled (c .before .before .before .before .before .before .before .before .before .loop .inv .sourced .directory) (slot-root (c .before .before .before .before .before .before .before .before .before .loop .inv .sourced)) (c .before .before .before .before .before .slot-extern .ensures) (c .before .before .before .row .given .1), c .before .before .before .before .before .before .before .before .before .loop .inv .memo))
 
 keep-requires : tie.Need-keep-requires Inv-loop μ-loop
 keep-requires c κs =
     let e = (c .before .before .before .before .pick-row .kept .1 .1 .1 .1 .1 .1 .0) ∙ length-take-le (c .before .before .before .before .before .before .before .before .before .before .before .before .before .before .before .before .before .before .before .before .before .before .before .before .before .wide .result) (c .before .before .before .before .before .before .before .before .before .before .before .before .before .before .loop .work) (add-within (c .before .before .before .before .before .before .before .before .before .before .before .before .before .before .loop .inv) .0) in
-    (omega (arith, c .before .before .before .before .before .before .before .before .before .before .before .before .before .loop-test .taken, add-within (c .before .before .before .before .before .before .before .before .before .before .before .before .before .before .loop .inv) .2, stays-front (c .before .before .before .before .before .before .before .before .before .before .before .before .before .before .loop .work) (c .before .before .before .before .pick-row .last .1 .1 .1 .1 .1 .1 .0) (c .before .before .before .before .before .before .before .before .before .before .before .before .before .before .before .before .before .before .before .before .before .before .before .before .before .wide .result) (add-within (c .before .before .before .before .before .before .before .before .before .before .before .before .before .before .loop .inv) .0) e .long), small-of (c .before .before .before .before .pick-row .result .target) (c .before .before .before .before .before .before .before .before .before .before .before .before .before .before .loop .inv .sourced .directory) ((c .before .before .before .before .pick-row .ensures .0) (c .before .before .before .before .before .before .before .before .before .before .before .before .before .before .loop .i) (subst (Looked externProtoOf (documentAt (rows (now (c .before .before .before .before .before .before .before .before .before .before .before .before .before .before .before .before .before .before .before .before .before .before .before .before .before .before .before .before .before .before .before .before .before .args .root))) 0 .externProtos) (rows (now (c .before .before .before .before .before .before .before .before .before .before .before .before .before .before .before .before .before .before .before .before .before .before .before .before .before .before .before .before .before .before .before .before .before .args .root))) (c .before .before .before .before .before .before .before .before .before .before .before .before .before .before .loop .i)) (c .before .before .before .before .before .before .before .before .row .given .1) (c .before .before .before .before .before .before .before .before .before .before .root-extern .ensures)) .target))
+    (omega (arith, c .before .before .before .before .before .before .before .before .before .before .before .before .before .loop-test .taken, add-within (c .before .before .before .before .before .before .before .before .before .before .before .before .before .before .loop .inv) .2, stays-front (c .before .before .before .before .before .before .before .before .before .before .before .before .before .before .loop .work) (c .before .before .before .before .pick-row .last .1 .1 .1 .1 .1 .1 .0) (c .before .before .before .before .before .before .before .before .before .before .before .before .before .before .before .before .before .before .before .before .before .before .before .before .before .wide .result) (add-within (c .before .before .before .before .before .before .before .before .before .before .before .before .before .before .loop .inv) .0) e .long), small-of (c .before .before .before .before .pick-row .result .target) (c .before .before .before .before .before .before .before .before .before .before .before .before .before .before .loop .inv .sourced .directory) (c .before .before .before .before .pick-row .ensures .0 .target))
 
 add-i : tie.Need-add-i Inv-loop μ-loop
 add-i c = omega (arith, c .before .before .before .before .before .before .before .before .before .before .before .before .before .before .before .before .before .loop .inv .isAt, c .before .before .before .before .before .before .before .before .before .before .before .before .before .before .before .before .before .before .before .before .before .before .before .before .before .before .wide2 .ensures .small)
@@ -139,22 +137,22 @@ loop-less c = omega arith
 loop-again : tie.Need-loop-again Inv-loop μ-loop
 loop-again c =
     let e = (c .before .before .before .before .before .before .before .pick-row .kept .1 .1 .1 .1 .1 .1 .0) ∙ length-take-le (c .before .before .before .before .before .before .before .before .before .before .before .before .before .before .before .before .before .before .before .before .before .before .before .before .before .before .before .before .wide .result) (c .before .before .before .before .before .before .before .before .before .before .before .before .before .before .before .before .before .loop .work) (add-within (c .before .before .before .before .before .before .before .before .before .before .before .before .before .before .before .before .before .loop .inv) .0) in
-    add-more (c .before .before .before .before .before .before .before .before .before .before .before .before .before .before .before .before .before .loop .inv) (c .before .before .before .before .before .before .before .pick-row .last .1 .1 .1 .1 .1 .1 .0) (c .before .before .keep .last .1 .1 .0) (c .before .before .before .before .before .before .before .before .before .before .before .before .before .before .before .before .loop-test .taken) e (c .before .before .before .before .before .before .before .pick-row .ensures .1) ((c .before .before .before .before .before .before .before .pick-row .ensures .0) (c .before .before .before .before .before .before .before .before .before .before .before .before .before .before .before .before .before .loop .i) (subst (Looked externProtoOf (documentAt (rows (now (c .before .before .before .before .before .before .before .before .before .before .before .before .before .before .before .before .before .before .before .before .before .before .before .before .before .before .before .before .before .before .before .before .before .before .before .before .args .root))) 0 .externProtos) (rows (now (c .before .before .before .before .before .before .before .before .before .before .before .before .before .before .before .before .before .before .before .before .before .before .before .before .before .before .before .before .before .before .before .before .before .before .before .before .args .root))) (c .before .before .before .before .before .before .before .before .before .before .before .before .before .before .before .before .before .loop .i)) (c .before .before .before .before .before .before .before .before .before .before .before .row .given .1) (c .before .before .before .before .before .before .before .before .before .before .before .before .before .root-extern .ensures))) (c .before .before .keep .ensures)
+    add-more (c .before .before .before .before .before .before .before .before .before .before .before .before .before .before .before .before .before .loop .inv) (c .before .before .before .before .before .before .before .pick-row .last .1 .1 .1 .1 .1 .1 .0) (c .before .before .keep .last .1 .1 .0) (c .before .before .before .before .before .before .before .before .before .before .before .before .before .before .before .before .loop-test .taken) e (c .before .before .before .before .before .before .before .pick-row .ensures .1) (root-picked (c .before .before .before .before .before .before .before .before .before .before .before .before .before .before .before .before .before .loop .inv .sourced) (c .before .before .before .before .before .before .before .before .before .before .before .before .before .slot-extern .ensures) (c .before .before .before .before .before .before .before .before .before .before .before .row .given .1) _ _ (c .before .before .before .before .before .before .before .pick-row .ensures .0)) (c .before .before .keep .ensures)
 
 same-length-3 : tie.Need-same-length-3 Inv-loop μ-loop
 same-length-3 c = c .before .loop .inv .dirStays .long
 
 same-length-4 : tie.Need-same-length-4 Inv-loop μ-loop
 same-length-4 c =
-    let w = now (c .before .before .before .before .before .before .before .before .before .before .before .before .before .before .before .before .before .before .before .before .args .work) in
-    let h : (c .before .before .before .before .before .before .before .before .before .before .before .before .wide .result) ≤ length w = omega (arith, c .before .before .before .before .before .before .before .before .before .before .before .before .wide .ensures .same, c .before .before .before .before .before .before .before .before .before .before .before .before .before .before .before .before .before .before .before .before .pre .cache .from, c .before .before .before .before .before .before .before .before .before .before .before .before .before .before .before .before .before .before .before .before .pre .cache .upto, c .before .before .before .before .before .before .before .before .before .before .before .before .before .before .before .before .before .before .before .before .pre .within) in
+    let w = now (c .before .before .before .before .before .before .before .before .before .before .before .before .before .before .before .before .before .before .args .work) in
+    let h : (c .before .before .before .before .before .before .before .before .before .before .before .before .wide .result) ≤ length w = omega (arith, c .before .before .before .before .before .before .before .before .before .before .before .before .wide .ensures .same, c .before .before .before .before .before .before .before .before .before .before .before .before .before .before .before .before .before .before .pre .cache .from, c .before .before .before .before .before .before .before .before .before .before .before .before .before .before .before .before .before .before .pre .cache .upto, c .before .before .before .before .before .before .before .before .before .before .before .before .before .before .before .before .before .before .pre .within) in
     let e = (c .before .before .before .before .fresh .kept .0) ∙ length-take-le (c .before .before .before .before .before .before .before .before .before .before .before .before .wide .result) w h in
     (c .before .loop .inv .workStays .long) ∙ stays-front w (c .before .before .before .before .fresh .last .0) (c .before .before .before .before .before .before .before .before .before .before .before .before .wide .result) h e .long
 
 returns-2 : tie.Need-returns-2 Inv-loop μ-loop
 returns-2 c =
-    let w = now (c .before .before .before .before .before .before .before .before .before .before .before .before .before .before .before .before .before .before .before .before .args .work) in
-    let h : (c .before .before .before .before .before .before .before .before .before .before .before .before .wide .result) ≤ length w = omega (arith, c .before .before .before .before .before .before .before .before .before .before .before .before .wide .ensures .same, c .before .before .before .before .before .before .before .before .before .before .before .before .before .before .before .before .before .before .before .before .pre .cache .from, c .before .before .before .before .before .before .before .before .before .before .before .before .before .before .before .before .before .before .before .before .pre .cache .upto, c .before .before .before .before .before .before .before .before .before .before .before .before .before .before .before .before .before .before .before .before .pre .within) in
+    let w = now (c .before .before .before .before .before .before .before .before .before .before .before .before .before .before .before .before .before .before .args .work) in
+    let h : (c .before .before .before .before .before .before .before .before .before .before .before .before .wide .result) ≤ length w = omega (arith, c .before .before .before .before .before .before .before .before .before .before .before .before .wide .ensures .same, c .before .before .before .before .before .before .before .before .before .before .before .before .before .before .before .before .before .before .pre .cache .from, c .before .before .before .before .before .before .before .before .before .before .before .before .before .before .before .before .before .before .pre .cache .upto, c .before .before .before .before .before .before .before .before .before .before .before .before .before .before .before .before .before .before .pre .within) in
     let e = (c .before .before .before .before .fresh .kept .0) ∙ length-take-le (c .before .before .before .before .before .before .before .before .before .before .before .before .wide .result) w h in
     added (c .before .loop .inv) (stays-front w (c .before .before .before .before .fresh .last .0) (c .before .before .before .before .before .before .before .before .before .before .before .before .wide .result) h e)
 
@@ -164,7 +162,6 @@ remember-spec =
     (tie.spec
     Inv-loop
     μ-loop
-    table-of-requires
     slice-read-wide
     wide-requires
     slice-read-wide-2
@@ -180,7 +177,7 @@ remember-spec =
     fresh-requires
     loop-holds
     add-loop
-    root-extern-requires
+    slot-extern-requires
     enum-known-row
     enum-told
     same-length
