@@ -462,10 +462,49 @@ module _ (I : Input) where
   answer-same k (refusal c d i) = refl
   answer-same k (ok l st) = refl
 
-  -- Every input needs so many rows, and no more.
-  pub rows-needed : (need : ℕ) × Needs I need
+  -- The numbers and places of equal refusals are equal; an expansion is no refusal.
+  same-number : (n a b c d i : ℕ) → Answer.Refused n a b ≡ Answer.Refused c d i → n ≡ c
+  same-number n a b c d i q = cc
+
+  same-first : (n a b c d i : ℕ) → Answer.Refused n a b ≡ Answer.Refused c d i → a ≡ d
+  same-first n a b c d i q = cc
+
+  same-second : (n a b c d i : ℕ) → Answer.Refused n a b ≡ Answer.Refused c d i → b ≡ i
+  same-second n a b c d i q = cc
+
+  same-expansion : (x e : Expansion) → Answer.Expanded x ≡ Answer.Expanded e → x ≡ e
+  same-expansion x e q = cc
+
+  apart : (x : Expansion) (c d i : ℕ) → Answer.Expanded x ≡ Answer.Refused c d i → ⊥
+  apart x c d i q = let z : _≡_ {A = ℕ} 0 1 = cc in omega arith
+
+  until : {n : ℕ} {r : Result (List Statement)} → Ends Told n r → (k : ℕ) → n ≤ k → (c d i : ℕ) → answer I r ≡ Answer.Refused c d i → Until (J k) n c d i
+  unfolding answer
+  until (byOther {n = m} {d = e} {i = j} {s = s} h y) k l c d i q =
+      subst (λ (z : ℕ). Until (J k) (s .charges) z d i) (same-number m e j c d i q)
+      (subst (λ (z : ℕ). Until (J k) (s .charges) m z i) (same-first m e j c d i q)
+      (subst (λ (z : ℕ). Until (J k) (s .charges) m e z) (same-second m e j c d i q) (y k l)))
+  until (done {a} {s} h) k l c d i q = absurd (apart (expansion I a s) c d i q)
+
+  other : {n : ℕ} {r : Result (List Statement)} → Ends Told n r → (d i : ℕ) → answer I r ≡ Answer.Refused 10 d i → ⊥
+  unfolding answer
+  other (byOther {n = n} h y) d i q = h (same-number n _ _ 10 d i q)
+  other (done {a} {s} h) d i q = apart (expansion I a s) 10 d i q
+
+  exact : {n : ℕ} {r : Result (List Statement)} → Ends Told n r → (e : Expansion) → answer I r ≡ Answer.Expanded e → e .charges ≡ n
+  unfolding answer
+  exact (byOther {n = m} {d = a} {i = b} h y) e q = absurd (apart e m a b (sym q))
+  exact (done {a} {s} h) e q = ap (λ (y : Expansion). y .charges) (sym (same-expansion (expansion I a s) e q))
+
+  counts : (k : ℕ) (r : Result (List Statement)) → statements (J k) startState ≡ r → (e : Expansion) → answer I r ≡ Answer.Expanded e → (w : World Known) (x : WholeRun (graph (J k)) w) → e .charges ≡ counted (J k) e x
+  unfolding answer
+  counts k (refusal c d i) h e q w x = absurd (apart e c d i (sym q))
+  counts k (ok a s) h e q w x = subst (λ (y : Expansion). y .charges ≡ counted (J k) y x) (same-expansion (expansion I a s) e q) (atOk (charges-counted (J k) w x) h)
+
+  -- What is known of the top statements is known of the answer.
+  answered : Threshold Told 0 (λ k. statements (J k) startState) → (need : ℕ) × Needs I need
   unfolding expand answer
-  rows-needed = (
+  answered t = (
     t .need,
     record {
       end = answer I (t .end);
@@ -477,35 +516,7 @@ module _ (I : Input) where
       counts = λ k l e q w r. sym (exact (t .ends) e q) ∙ counts k (t .end) (t .enough k l) e q w r;
     },
   )
-    where
-      t : Threshold Told 0 (λ k. statements (J k) startState)
-      t = statements-at
 
-      until : {n : ℕ} {r : Result (List Statement)} → Ends Told n r → (k : ℕ) → n ≤ k → (c d i : ℕ) → answer I r ≡ Answer.Refused c d i → Until (J k) n c d i
-      until (byOther {n = m} {d = e} {i = j} {s = s} h y) k l c d i q =
-          let hc : m ≡ c = cc in
-          let hd : e ≡ d = cc in
-          let hi : j ≡ i = cc in
-          rw (← hc, ← hd, ← hi) (y k l)
-      until (done h) k l c d i q = absurd (let z : _≡_ {A = ℕ} 0 1 = cc in omega arith)
-
-      other : {n : ℕ} {r : Result (List Statement)} → Ends Told n r → (d i : ℕ) → answer I r ≡ Answer.Refused 10 d i → ⊥
-      other (byOther {n = n} h y) d i q = h (number n _ _ d i q)
-        where
-          number : (n a b d i : ℕ) → Answer.Refused n a b ≡ Answer.Refused 10 d i → n ≡ 10
-          number n a b d i q = cc
-      other (done h) d i q = let z : _≡_ {A = ℕ} 0 1 = cc in omega arith
-
-      exact : {n : ℕ} {r : Result (List Statement)} → Ends Told n r → (e : Expansion) → answer I r ≡ Answer.Expanded e → e .charges ≡ n
-      exact (byOther h y) e q = absurd (let z : _≡_ {A = ℕ} 0 1 = cc in omega arith)
-      exact (done {a} {s} h) e q = same (expansion I a s) e q
-        where
-          same : (x e : Expansion) → Answer.Expanded x ≡ Answer.Expanded e → e .charges ≡ x .charges
-          same x e q = let r : x ≡ e = cc in ap (λ (y : Expansion). y .charges) (sym r)
-
-      counts : (k : ℕ) (r : Result (List Statement)) → statements (J k) startState ≡ r → (e : Expansion) → answer I r ≡ Answer.Expanded e → (w : World Known) (x : WholeRun (graph (J k)) w) → e .charges ≡ counted (J k) e x
-      counts k (refusal c d i) h e q w x = absurd (let z : _≡_ {A = ℕ} 0 1 = cc in omega arith)
-      counts k (ok a s) h e q w x = subst (λ (y : Expansion). y .charges ≡ counted (J k) y x) (same (expansion I a s) e q) (atOk (charges-counted (J k) w x) h)
-        where
-          same : (x e : Expansion) → Answer.Expanded x ≡ Answer.Expanded e → x ≡ e
-          same x e q = cc
+  -- Every input needs so many rows, and no more.
+  pub rows-needed : (need : ℕ) × Needs I need
+  rows-needed = answered statements-at
