@@ -214,18 +214,9 @@ pub fn enter(work: &mut [u32], at: usize, slots: usize, c: usize, r: Record)
         work,
         c,
         Record {
-            tag: r.tag,
-            a: r.a,
-            b: r.b,
-            c: r.c,
-            d: r.d,
-            e: r.e,
-            f: r.f,
-            g: r.g,
-            h: r.h,
             i: 0,
             j: 0,
-            k: r.k,
+            ..r
         },
     );
     raise(work, c, q);

@@ -17,18 +17,8 @@ pub fn append(work: &mut [u32], s: usize, c: usize, r: Record)
         work,
         c,
         Record {
-            tag: r.tag,
-            a: r.a,
-            b: r.b,
-            c: r.c,
-            d: r.d,
-            e: r.e,
-            f: r.f,
-            g: r.g,
             h: q,
-            i: r.i,
-            j: r.j,
-            k: r.k,
+            ..r
         },
     );
     journal_records::set(work, s, j, (c + 1) as u32);
@@ -61,18 +51,8 @@ pub fn join(work: &mut [u32], at: usize, slots: usize, c: usize, r: Record)
         slots,
         c,
         Record {
-            tag: r.tag,
             a: f as u32,
-            b: r.b,
-            c: r.c,
-            d: r.d,
-            e: r.e,
-            f: r.f,
-            g: r.g,
-            h: r.h,
-            i: r.i,
-            j: r.j,
-            k: r.k,
+            ..r
         },
     );
     journal_records::set(work, f, 11, (c + 1) as u32);
