@@ -67,12 +67,7 @@ pub fn add_field(work: &mut [u32], lim: Limits, st: Counts, r: Row, v: u32, h: u
     requires { ⌜ Keepable (now work) (st .charges) (fieldRecord (r .a) 0 0 (r .d) (r .e) (r .f) v h) ⌝ }
     ensures { λ a. ⌜ RecordKept lim (now (work .entry)) st (fieldRecord (r .a) 0 0 (r .d) (r .e) (r .f) v h) (now (work .exit)) a ⌝ }
 {
-    refine_records::keep(
-        work,
-        lim,
-        st,
-        Record::field(r.a, r.d, r.e, r.f, v, h),
-    )
+    refine_records::keep(work, lim, st, Record::field(r.a, r.d, r.e, r.f, v, h))
 }
 
 pub fn field<'a>(

@@ -393,13 +393,7 @@ pub fn statement<'a>(
         if place == 0 {
             return refine_nodes::map(work, lim, s, env, id, NodeId(o), p);
         }
-        let b = refine_records::own(
-            work,
-            lim,
-            s,
-            inner,
-            Record::root(scope, o),
-        );
+        let b = refine_records::own(work, lim, s, inner, Record::root(scope, o));
         return kept(b, out, place);
     }
     if r.a == 2 {

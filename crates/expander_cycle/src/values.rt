@@ -56,12 +56,7 @@ pub fn value<'a>(
         else {
             return a;
         };
-        let b = refine_records::keep(
-            work,
-            lim,
-            then,
-            Record::id(o, h),
-        );
+        let b = refine_records::keep(work, lim, then, Record::id(o, h));
         let Answer::Done {
             st: t,
             value: n,

@@ -58,12 +58,7 @@ pub fn is_field(
             ty,
             class,
             payload,
-        } => refine_records::keep(
-            work,
-            lim,
-            t,
-            Record::field(r.a, r.d, ty, class, payload, h),
-        ),
+        } => refine_records::keep(work, lim, t, Record::field(r.a, r.d, ty, class, payload, h)),
         Given::Refused {
             number,
             first,

@@ -240,12 +240,7 @@ pub fn order(
         fields = x.fields;
         statements = x.statements;
         if x.kept {
-            let a = refine_records::keep(
-                work,
-                lim,
-                cur,
-                Record::order(row::row_at(sheet, q).a, h),
-            );
+            let a = refine_records::keep(work, lim, cur, Record::order(row::row_at(sheet, q).a, h));
             let Answer::Done {
                 st: s,
                 value: n,

@@ -159,12 +159,7 @@ pub fn extern_statement<'a>(
     else {
         return a;
     };
-    refine_records::keep(
-        work,
-        lim,
-        s,
-        Record::statement(2, n, h),
-    )
+    refine_records::keep(work, lim, s, Record::statement(2, n, h))
 }
 
 // A statement of a node, by its row, behind those of a handle: Route and ExternProto are kept.

@@ -210,15 +210,7 @@ pub fn enter(work: &mut [u32], at: usize, slots: usize, c: usize, r: Record)
 {
     let b = slot(slots, r.a, r.b);
     let q = head(work, at, slots, c, b);
-    journal_records::push(
-        work,
-        c,
-        Record {
-            i: 0,
-            j: 0,
-            ..r
-        },
-    );
+    journal_records::push(work, c, Record { i: 0, j: 0, ..r });
     raise(work, c, q);
     work[at + b] = c as u32;
 }

@@ -1,5 +1,6 @@
 // The arena: records of twelve words in a lent slice, one to a charge.
 mod made;
+
 ghost use mathlib.Core.Path.{_≡_};
 ghost use Prim.Native.Nat.{_+_, _*_, _<_, _≤_};
 ghost use lib.ListN.{length};

@@ -1,5 +1,5 @@
-// The records that are made, by what each is: a parameter for each word that is known when it is made, in the order of the
-// words. What the words mean stands at the definitions (specs/Made) and, with those that are set later, in docs/DECISIONS.md.
+// The records that are made, by what each is: a parameter for each word that is known then, in the order of the words.
+// specs/Made says what the words are, docs/DECISIONS.md also those that are set later.
 use crate::Record;
 ghost use mathlib.Core.Path.{_≡_};
 ghost use Rattle.journal_records.specs.Made.{mapRecord, externRecord, nodeRecord, reservedRecord, idRecord, fieldRecord, interfaceRecord, statementRecord, routeStatementRecord, orderRecord, storedRecord, scopeRecord, rootRecord, routeRecord, associationRecord, instanceRecord};
@@ -229,7 +229,14 @@ impl Record {
         }
     }
 
-    pub fn scope(kind: u32, document: u32, proto: u32, index: u32, opener: u32, number: u32) -> Record
+    pub fn scope(
+        kind: u32,
+        document: u32,
+        proto: u32,
+        index: u32,
+        opener: u32,
+        number: u32,
+    ) -> Record
         ensures { λ r. ⌜ r ≡ scopeRecord kind document proto index opener number ⌝ }
     {
         Record {

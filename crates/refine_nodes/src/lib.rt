@@ -66,11 +66,7 @@ pub fn reserve(work: &mut [u32], lim: Limits, st: Counts, env: Env, id: NodeId) 
     if lim.rows - c < 2 {
         return refine_records::too_many();
     }
-    journal_records::push(
-        work,
-        c,
-        Record::reserved(env.scope, id.0),
-    );
+    journal_records::push(work, c, Record::reserved(env.scope, id.0));
     let place = (c + 1) as u32;
     journal_index::enter(
         work,
