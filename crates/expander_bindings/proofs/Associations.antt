@@ -7,8 +7,7 @@ use native.Mathlib.Omega.{arith}
 use Rattle.ast.specs.Ast.{FieldValue}
 use Rattle.expansion_definition.specs.Values.{Env}
 use Rattle.expansion_definition.specs.PlainCopy.{isValue}
-use Rattle.journal_records.specs.declared.Record.{Record}
-use Rattle.journal_records.specs.Records.{tagAssociation}
+use Rattle.journal_records.specs.Made.{associationRecord}
 use Rattle.refine_records.specs.declared.Limits.{Limits}
 use Rattle.refine_records.specs.declared.Counts.{Counts}
 use Rattle.refine_records.specs.declared.Env as code
@@ -19,9 +18,6 @@ use Rattle.refine_records.specs.Contract.{Ownership, RecordOwned}
 use Rattle.refine_records.proofs.Later.{later-standing, later-env, env-later}
 use Rattle.expander_bindings.specs.Contract.{Associated}
 use Rattle.expander_bindings.proofs.Steps.{anySource, done-later}
-
-abbrev pub associationRecord : ℕ → ℕ → ℕ → ℕ → Record
-associationRecord s i n f = record { tag = tagAssociation; a = s; b = i; c = n; d = f; e = 0; f = 0; g = 0; h = 0; i = 0; j = 0; k = 0 }
 
 pub owns : (w : List ℕ) (c : ℕ) (e : code.Env) (i n f : ℕ) → EnvAt w c e → Ownership w c e (associationRecord (e .scope) i n f)
 owns w c e i n f env = record { env = env; tag = record { low = omega arith; high = omega arith }; scope = refl }

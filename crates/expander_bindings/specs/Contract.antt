@@ -15,7 +15,6 @@ use Rattle.expansion_definition.specs.Values.{Copier, valueNamed, clone}
 use Rattle.expansion_definition.specs.PlainCopy.{associate, isValue, withValue, copyField, interfaceWith, copyInterface, somes}
 use Rattle.expansion_definition.specs.Reached.{isGiven}
 use Rattle.expansion_definition.specs.Instances.{cloneOr, store, recordInstance}
-use Rattle.journal_records.specs.declared.Record.{Record}
 use Rattle.journal_records.specs.Records.{tagId, tagField, tagInterface, tagStored, tagRoute, cell}
 use Rattle.journal_reading.specs.Reading.{valueAt, fieldsAt, interfacesAt, valuesAt, bodyOf}
 use Rattle.journal_reading.specs.WellFormed.{HandleAt, NodeAt}
@@ -101,11 +100,6 @@ abbrev pub boundInterface : Row → Option (Option FieldValue) → InterfaceDecl
 boundInterface r none = interfaceWith (isInterfaceOf r none) none (some (r .d))
 boundInterface r (some none) = interfaceWith (isInterfaceOf r none) none none
 boundInterface r (some (some v)) = interfaceWith (isInterfaceOf r none) (some v) none
-
--- its record, with another target and value
-abbrev pub interfaceRecord : Row → ℕ → ℕ → ℕ → ℕ → ℕ → Record
-interfaceRecord r target ty class payload h =
-    record { tag = tagInterface; a = r .a; b = r .b; c = r .c; d = target; e = ty; f = class; g = payload; h = h; i = 0; j = 0; k = 0 }
 
 pub record InterfacesAfter (w : List ℕ) (h : ℕ) (x : InterfaceDecl) (w′ : List ℕ) (t′ : Counts) (v : ℕ) : Type 0 where
   pub handle : HandleAt w′ (t′ .charges) tagInterface v

@@ -33,20 +33,7 @@ pub fn associate(
         lim,
         st,
         env,
-        Record {
-            tag: journal_records::TAG_ASSOCIATION,
-            a: scope,
-            b: interface,
-            c: node.0,
-            d: field,
-            e: 0,
-            f: 0,
-            g: 0,
-            h: 0,
-            i: 0,
-            j: 0,
-            k: 0,
-        },
+        Record::association(scope, interface, node.0, field),
     )
 }
 

@@ -24,7 +24,8 @@ use Rattle.expansion_definition.specs.Instances as instances
 use Rattle.expansion_definition.specs.Instances.{Body, addEntry, bodyStatement}
 use Rattle.expansion_definition.specs.Copy.{copy}
 use Rattle.journal_records.specs.declared.Record.{Record}
-use Rattle.journal_records.specs.Records.{tagRoot, tagRoute, tagAssociation, tagInstance, cell}
+use Rattle.journal_records.specs.Records.{tagAssociation, tagInstance, cell}
+use Rattle.journal_records.specs.Made.{rootRecord, routeRecord}
 use Rattle.journal_records.proofs.Frame.{steady-tag, steady-first}
 use Rattle.journal_lists.proofs.Owned.{append-fixed}
 use Rattle.journal_reading.specs.Reading.{routeNew, bodyOf}
@@ -77,12 +78,6 @@ own-unrecorded {w} {t} {e} {r} {w′} {t′} {n} x u = record { apart = λ q l i
         omega (arith, (rw k at i), x .appended .holds .at0, x .appended .tag .high)
 
 -- ---- the records of an extra root and of a route
-abbrev pub rootRecord : ℕ → ℕ → Record
-rootRecord scope o = record { tag = tagRoot; a = scope; b = o; c = 0; d = 0; e = 0; f = 0; g = 0; h = 0; i = 0; j = 0; k = 0 }
-
-abbrev pub routeRecord : ℕ → Row → Record
-routeRecord scope r = record { tag = tagRoute; a = scope; b = r .b; c = r .c; d = r .d; e = r .e; f = r .f; g = r .g; h = 0; i = 0; j = 0; k = 0 }
-
 -- ---- `statement`
 module _ (root library dir w : List ℕ) (L : Limits) (t : Counts) (e : code.Env) (id : ℕ) (inner : code.Env) (R : List Row) (row out place depth : ℕ) (h : InBody root library dir w L t e inner out place) (r : Row) (is : r ≡ getD R row blank) where
   abbrev n : ℕ
@@ -223,18 +218,18 @@ module _ (root library dir w : List ℕ) (L : Limits) (t : Counts) (e : code.Env
 
   -- ---- a Route
   module _ (q : r .a ≡ 3) where
-    is-route : statementOf (drop row R) ≡ Statement.Route (routeNew (routeRecord n r))
+    is-route : statementOf (drop row R) ≡ Statement.Route (routeNew (routeRecord n (r .b) (r .c) (r .d) (r .e) (r .f) (r .g)))
     unfolding statementOf routeOf
     is-route = rw (is-front, q)
 
-    pub route-ready : Ownership w (t .charges) inner (routeRecord n r)
+    pub route-ready : Ownership w (t .charges) inner (routeRecord n (r .b) (r .c) (r .d) (r .e) (r .f) (r .g))
     route-ready = record { env = h .here .env; tag = record { low = omega arith; high = omega arith }; scope = refl }
 
-    pub statement-route : {w₁ : List ℕ} (a : Answer) → RecordOwned L w t inner (routeRecord n r) w₁ a → BodyStatementCopied root library w L t e id inner R row out place depth w₁ (keptOf a out place)
+    pub statement-route : {w₁ : List ℕ} (a : Answer) → RecordOwned L w t inner (routeRecord n (r .b) (r .c) (r .d) (r .e) (r .f) (r .g)) w₁ a → BodyStatementCopied root library w L t e id inner R row out place depth w₁ (keptOf a out place)
     unfolding bodyStatement paid bindR
     statement-route a x =
-        owned {c = record { root = b .root; extraRoots = b .extraRoots; routes = b .routes ++ (routeNew (routeRecord n r) ∷ []) }}
-        (turn (begin n m so) (λ I. charge I >>= (λ z. ret (record { root = b .root; extraRoots = b .extraRoots; routes = b .routes ++ (routeNew (routeRecord n r) ∷ []) }))) (λ D. rw is-route))
+        owned {c = record { root = b .root; extraRoots = b .extraRoots; routes = b .routes ++ (routeNew (routeRecord n (r .b) (r .c) (r .d) (r .e) (r .f) (r .g)) ∷ []) }}
+        (turn (begin n m so) (λ I. charge I >>= (λ z. ret (record { root = b .root; extraRoots = b .extraRoots; routes = b .routes ++ (routeNew (routeRecord n (r .b) (r .c) (r .d) (r .e) (r .f) (r .g)) ∷ []) }))) (λ D. rw is-route))
         h (λ z. omega arith) (λ t₂ y. sym (own-route y refl out place refl)) a x
 
   -- ---- a Proto, or another

@@ -20,6 +20,7 @@ use Rattle.expansion_definition.specs.Values.{Env, value}
 use Rattle.expansion_definition.specs.PlainCopy.{isValue, copyField, copyBinding, somes}
 use Rattle.expansion_definition.specs.Copy.{copy}
 use Rattle.journal_records.specs.Records.{tagId, tagField}
+use Rattle.journal_records.specs.Made.{fieldRecord}
 use Rattle.journal_reading.specs.Reading.{fieldsAt}
 use Rattle.journal_reading.specs.WellFormed.{HandleAt}
 use Rattle.journal_reading.proofs.Chains.{fields-none, fields-fixed}
@@ -36,7 +37,7 @@ use Rattle.refine_records.proofs.Keeping.{kept-handle, kept-fields}
 use Rattle.expander_parts.specs.Contract.{sourceOf, rowsOf, nodeAtRow}
 use Rattle.expander_parts.proofs.Said.{somes-more}
 use Rattle.expander_bindings.specs.Contract.{isFieldOf, boundField, FieldsAfter, FieldDone}
-use Rattle.expander_contracts.specs.Contract.{fieldRecord, Here, Yields, Value, list, AddsField, FieldAdded, FieldsCopied, ValueCopied}
+use Rattle.expander_contracts.specs.Contract.{Here, Yields, Value, list, AddsField, FieldAdded, FieldsCopied, ValueCopied}
 use Rattle.expander_contracts.proofs.Run.{begin, last, end, went, gave, leaf, yields-as, since, here-later}
 use Rattle.expander_contracts.proofs.Keeps.{charged, paid-then, keeping, keeping-stop}
 use Rattle.expander_contracts.proofs.Walks.{Mapping, loop-start, loop-again, loop-stop, loop-end}
@@ -50,7 +51,7 @@ somes-one (some a) = refl
 pub somes-last : {A : Type 0} (bs : List (Option A)) (b : Option A) → somes (bs ++ (b ∷ [])) ≡ somes bs ++ list b
 somes-last bs b = somes-more bs (b ∷ []) ∙ ap (λ l. somes bs ++ l) (somes-one b)
 
-pub field-keepable : {w : List ℕ} {c v h : ℕ} (r : Row) → HandleAt w c tagField h → (r .f ≡ 2 → HandleAt w c tagId v) → Keepable w c (fieldRecord r v h)
+pub field-keepable : {w : List ℕ} {c v h : ℕ} (r : Row) → HandleAt w c tagField h → (r .f ≡ 2 → HandleAt w c tagId v) → Keepable w c (fieldRecord (r .a) 0 0 (r .d) (r .e) (r .f) v h)
 field-keepable r x y = record { least = omega arith; most = omega arith; before = x; value = λ z q. y q }
 
 module _ (root library dir w : List ℕ) (L : Limits) (t : Counts) (e : code.Env) (new row depth : ℕ) where
@@ -131,10 +132,10 @@ module _ (root library dir w : List ℕ) (L : Limits) (t : Counts) (e : code.Env
         field-stop q = as-field n (keeping-stop (h .standing .sound) made y q)
 
         module _ (hl : HandleAt w (t .charges) tagField l) {s : Counts} {v p : ℕ} (q : a ≡ Done s v p) where
-          pub field-ready : Keepable w′ (s .charges) (fieldRecord r v l)
+          pub field-ready : Keepable w′ (s .charges) (fieldRecord (r .a) 0 0 (r .d) (r .e) (r .f) v l)
           field-ready = field-keepable r (later-handle (went y q) hl) (λ z. gave y q .ids (rw is-front z))
 
-          pub field-kept : {w″ : List ℕ} {b : Answer} → RecordKept L w′ s (fieldRecord r v l) w″ b → FieldAdded root library dir w L t e new row l depth w″ b
+          pub field-kept : {w″ : List ℕ} {b : Answer} → RecordKept L w′ s (fieldRecord (r .a) 0 0 (r .d) (r .e) (r .f) v l) w″ b → FieldAdded root library dir w L t e new row l depth w″ b
           field-kept k = as-field n (keeping (h .standing .sound) made y q k (λ t″ v″ p″ x. record {
             handle = kept-handle x field-ready;
             all = kept-fields x field-ready refl ∙ rw (fields-fixed (went y q .kept) l (hl .low), gave y q .value, is-front);

@@ -22,8 +22,8 @@ use Rattle.expansion_definition.specs.Charges.{charge, paid}
 use Rattle.expansion_definition.specs.Values.{Env, copyData, value}
 use Rattle.expansion_definition.specs.PlainCopy.{isValue, copyTarget, copyInterface}
 use Rattle.expansion_definition.specs.Copy.{copy}
-use Rattle.journal_records.specs.declared.Record.{Record}
 use Rattle.journal_records.specs.Records.{tagId, tagInterface}
+use Rattle.journal_records.specs.Made.{interfaceRecord}
 use Rattle.journal_reading.specs.Reading.{interfacesAt}
 use Rattle.journal_reading.specs.WellFormed.{HandleAt}
 use Rattle.journal_reading.proofs.Chains.{interfaces-none, interfaces-fixed}
@@ -45,10 +45,7 @@ use Rattle.expander_contracts.proofs.Keeps.{charged, keeping, keeping-s
 use Rattle.expander_contracts.proofs.Walks.{Mapping, loop-start, loop-again, loop-stop, loop-end}
 
 -- the record of an interface without an IS
-abbrev pub interfaceRecord : Row → ℕ → ℕ → Record
-interfaceRecord r v h = record { tag = tagInterface; a = r .a; b = r .b; c = r .c; d = none#; e = r .e; f = r .f; g = v; h = h; i = 0; j = 0; k = 0 }
-
-pub interface-keepable : {w : List ℕ} {c v h : ℕ} (r : Row) → HandleAt w c tagInterface h → (r .f ≡ 2 → HandleAt w c tagId v) → Keepable w c (interfaceRecord r v h)
+pub interface-keepable : {w : List ℕ} {c v h : ℕ} (r : Row) → HandleAt w c tagInterface h → (r .f ≡ 2 → HandleAt w c tagId v) → Keepable w c (interfaceRecord (r .a) (r .b) (r .c) none# (r .e) (r .f) v h)
 interface-keepable r x y = record { least = omega arith; most = omega arith; before = x; value = λ z q. y q }
 
 module _ (root library dir w : List ℕ) (L : Limits) (t : Counts) (e : code.Env) (new row depth : ℕ) where
@@ -144,10 +141,10 @@ module _ (root library dir w : List ℕ) (L : Limits) (t : Counts) (e : code.Env
         interface-stop q = as-interface n (keeping-stop (h .standing .sound) made y q)
 
         module _ (hl : HandleAt w (t .charges) tagInterface l) {s : Counts} {v p : ℕ} (q : a ≡ Done s v p) where
-          pub interface-ready : Keepable w′ (s .charges) (interfaceRecord r v l)
+          pub interface-ready : Keepable w′ (s .charges) (interfaceRecord (r .a) (r .b) (r .c) none# (r .e) (r .f) v l)
           interface-ready = interface-keepable r (later-handle (went y q) hl) (λ z. gave y q .ids (rw is-front z))
 
-          pub interface-kept : {w″ : List ℕ} {b : Answer} → RecordKept L w′ s (interfaceRecord r v l) w″ b → InterfaceAdded root library dir w L t e new row l depth w″ b
+          pub interface-kept : {w″ : List ℕ} {b : Answer} → RecordKept L w′ s (interfaceRecord (r .a) (r .b) (r .c) none# (r .e) (r .f) v l) w″ b → InterfaceAdded root library dir w L t e new row l depth w″ b
           interface-kept k = as-interface n (keeping (h .standing .sound) made y q k (λ t″ v″ p″ x. record {
             handle = kept-handle x interface-ready;
             all = kept-interfaces x interface-ready refl ∙ rw (interfaces-fixed (went y q .kept) l (hl .low), gave y q .value, is-front);

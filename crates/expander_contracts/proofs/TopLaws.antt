@@ -23,8 +23,8 @@ use Rattle.expansion_definition.specs.PlainCopy.{somes}
 use Rattle.expansion_definition.specs.Instances.{openScope}
 use Rattle.expansion_definition.specs.Copy.{copy}
 use Rattle.expansion_definition.specs.Expand.{statement, statements, rootEnv}
-use Rattle.journal_records.specs.declared.Record.{Record}
 use Rattle.journal_records.specs.Records.{tagStatement, tagStored, Paid}
+use Rattle.journal_records.specs.Made.{statementRecord}
 use Rattle.journal_reading.specs.Reading.{statementsAt}
 use Rattle.journal_reading.specs.WellFormed.{HandleAt}
 use Rattle.journal_reading.proofs.Fair.{handle-none}
@@ -55,9 +55,6 @@ use Rattle.expander_contracts.proofs.Walks.{Mapping, loop-start, loop-a
 use Rattle.expander_contracts.proofs.FieldLaws.{somes-last}
 
 -- the record of a statement that is a kind and an id
-abbrev pub statementRecord : ℕ → ℕ → ℕ → Record
-statementRecord kind id h = record { tag = tagStatement; a = kind; b = id; c = 0; d = 0; e = 0; f = 0; g = 0; h = h; i = 0; j = 0; k = 0 }
-
 pub statement-keepable : {w : List ℕ} {c h : ℕ} (kind id : ℕ) → HandleAt w c tagStatement h → Keepable w c (statementRecord kind id h)
 statement-keepable kind id x = record { least = omega arith; most = omega arith; before = x; value = λ e. absurd (never e) }
   where

@@ -19,8 +19,8 @@ use Rattle.expansion_definition.specs.State.{Result, refusal, ok, Comp, bindR, 
 use Rattle.expansion_definition.specs.Charges.{paid}
 use Rattle.expansion_definition.specs.Values.{Env, copyData, value}
 use Rattle.expansion_definition.specs.Copy.{copy}
-use Rattle.journal_records.specs.declared.Record.{Record}
 use Rattle.journal_records.specs.Records.{tagId}
+use Rattle.journal_records.specs.Made.{idRecord}
 use Rattle.journal_reading.specs.Reading.{idsAt}
 use Rattle.journal_reading.specs.WellFormed.{HandleAt}
 use Rattle.journal_reading.proofs.Chains.{ids-none, ids-fixed}
@@ -45,9 +45,6 @@ never : false ≡ true → ⊥
 never z = let k : _≡_ {A = ℕ} 0 1 = cc in omega arith
 
 -- the record of an id behind those of h
-abbrev pub idRecord : ℕ → ℕ → Record
-idRecord o h = record { tag = tagId; a = o; b = 0; c = 0; d = 0; e = 0; f = 0; g = 0; h = h; i = 0; j = 0; k = 0 }
-
 pub id-keepable : {w : List ℕ} {c o h : ℕ} → HandleAt w c tagId h → Keepable w c (idRecord o h)
 id-keepable x = record { least = omega arith; most = omega arith; before = x; value = λ z. absurd (never z) }
 

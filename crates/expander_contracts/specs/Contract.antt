@@ -21,7 +21,6 @@ use Rattle.expansion_definition.specs.PlainCopy.{copyOrigin, copyField, copyInt
 use Rattle.expansion_definition.specs.Instances.{Body, interfaceValue, store, values, bodyStatement, instantiate}
 use Rattle.expansion_definition.specs.Copy.{copy}
 use Rattle.expansion_definition.specs.Expand.{statement, statements}
-use Rattle.journal_records.specs.declared.Record.{Record}
 use Rattle.journal_records.specs.Records.{tagId, tagField, tagInterface, tagStatement, tagStored}
 use Rattle.journal_reading.specs.Reading.{valueAt, fieldsAt, interfacesAt, statementsAt, valuesAt, bodyOf}
 use Rattle.journal_reading.specs.WellFormed.{HandleAt, NodeAt}
@@ -123,10 +122,6 @@ pub record InBody (root library dir w : List ℕ) (L : Limits) (t : Counts) (e i
   pub opened : inner .scope < t .scopes
   pub rooted : 0 < place → NodeAt w (t .charges) out place
   pub unrecorded : Unrecorded w (t .charges) (inner .scope)
-
--- the record of a field with a value
-abbrev pub fieldRecord : Row → ℕ → ℕ → Record
-fieldRecord r v h = record { tag = tagField; a = r .a; b = 0; c = 0; d = r .d; e = r .e; f = r .f; g = v; h = h; i = 0; j = 0; k = 0 }
 
 -- the PROTO of a slot's document
 abbrev pub prototypeAt : List ℕ → ℕ → ℕ → Prototype

@@ -2,7 +2,6 @@
 use super::elements;
 use super::values;
 use ast::NodeId;
-use journal_records;
 use journal_records::Record;
 use refine_records::Answer;
 use refine_records::Counts;
@@ -13,10 +12,11 @@ use sheet_rows::row::NONE;
 use sheet_rows::row::Row;
 use sheet_walks::walk::Found;
 ghost use Rattle.journal_records.specs.Records.{tagField, tagInterface};
+ghost use Rattle.journal_records.specs.Made.{fieldRecord};
 ghost use Rattle.journal_reading.specs.WellFormed.{HandleAt};
 ghost use Rattle.refine_records.specs.Sound.{Standing};
 ghost use Rattle.refine_records.specs.Contract.{Keepable, RecordKept};
-ghost use Rattle.expander_contracts.specs.Contract.{fieldRecord, Here, AtRow, FieldsCopied, FieldAdded, InterfacesCopied, InterfaceAdded};
+ghost use Rattle.expander_contracts.specs.Contract.{Here, AtRow, FieldsCopied, FieldAdded, InterfacesCopied, InterfaceAdded};
 
 // The fields of the node at a row.
 pub fn fields<'a>(
@@ -64,28 +64,10 @@ pub fn fields<'a>(
 // The field of a row with a value, behind those of a handle.
 pub fn add_field(work: &mut [u32], lim: Limits, st: Counts, r: Row, v: u32, h: u32) -> Answer
     requires { ⌜ Standing lim (now work) st ⌝ }
-    requires { ⌜ Keepable (now work) (st .charges) (fieldRecord r v h) ⌝ }
-    ensures { λ a. ⌜ RecordKept lim (now (work .entry)) st (fieldRecord r v h) (now (work .exit)) a ⌝ }
+    requires { ⌜ Keepable (now work) (st .charges) (fieldRecord (r .a) 0 0 (r .d) (r .e) (r .f) v h) ⌝ }
+    ensures { λ a. ⌜ RecordKept lim (now (work .entry)) st (fieldRecord (r .a) 0 0 (r .d) (r .e) (r .f) v h) (now (work .exit)) a ⌝ }
 {
-    refine_records::keep(
-        work,
-        lim,
-        st,
-        Record {
-            tag: journal_records::TAG_FIELD,
-            a: r.a,
-            b: 0,
-            c: 0,
-            d: r.d,
-            e: r.e,
-            f: r.f,
-            g: v,
-            h,
-            i: 0,
-            j: 0,
-            k: 0,
-        },
-    )
+    refine_records::keep(work, lim, st, Record::field(r.a, r.d, r.e, r.f, v, h))
 }
 
 pub fn field<'a>(
@@ -206,19 +188,6 @@ pub fn interface<'a>(
         work,
         lim,
         s,
-        Record {
-            tag: journal_records::TAG_INTERFACE,
-            a: r.a,
-            b: r.b,
-            c: r.c,
-            d: NONE,
-            e: r.e,
-            f: r.f,
-            g: v,
-            h: h,
-            i: 0,
-            j: 0,
-            k: 0,
-        },
+        Record::interface(r.a, r.b, r.c, NONE, r.e, r.f, v, h),
     )
 }

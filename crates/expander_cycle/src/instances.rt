@@ -4,7 +4,6 @@ use super::values;
 use ast::ExternProtoId;
 use ast::NodeId;
 use ast::ProtoId;
-use journal_records;
 use journal_records::Record;
 use refine_records::Answer;
 use refine_records::Counts;
@@ -394,26 +393,7 @@ pub fn statement<'a>(
         if place == 0 {
             return refine_nodes::map(work, lim, s, env, id, NodeId(o), p);
         }
-        let b = refine_records::own(
-            work,
-            lim,
-            s,
-            inner,
-            Record {
-                tag: journal_records::TAG_ROOT,
-                a: scope,
-                b: o,
-                c: 0,
-                d: 0,
-                e: 0,
-                f: 0,
-                g: 0,
-                h: 0,
-                i: 0,
-                j: 0,
-                k: 0,
-            },
-        );
+        let b = refine_records::own(work, lim, s, inner, Record::root(scope, o));
         return kept(b, out, place);
     }
     if r.a == 2 {
@@ -427,20 +407,7 @@ pub fn statement<'a>(
             lim,
             st,
             inner,
-            Record {
-                tag: journal_records::TAG_ROUTE,
-                a: scope,
-                b: r.b,
-                c: r.c,
-                d: r.d,
-                e: r.e,
-                f: r.f,
-                g: r.g,
-                h: 0,
-                i: 0,
-                j: 0,
-                k: 0,
-            },
+            Record::route(scope, r.b, r.c, r.d, r.e, r.f, r.g),
         );
         return kept(a, out, place);
     }

@@ -1,7 +1,6 @@
 // A value, with the nodes of its ids.
 use super::elements;
 use ast::NodeId;
-use journal_records;
 use journal_records::Record;
 use refine_records::Answer;
 use refine_records::Counts;
@@ -57,25 +56,7 @@ pub fn value<'a>(
         else {
             return a;
         };
-        let b = refine_records::keep(
-            work,
-            lim,
-            then,
-            Record {
-                tag: journal_records::TAG_ID,
-                a: o,
-                b: 0,
-                c: 0,
-                d: 0,
-                e: 0,
-                f: 0,
-                g: 0,
-                h: h,
-                i: 0,
-                j: 0,
-                k: 0,
-            },
-        );
+        let b = refine_records::keep(work, lim, then, Record::id(o, h));
         let Answer::Done {
             st: t,
             value: n,

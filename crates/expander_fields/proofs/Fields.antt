@@ -10,8 +10,8 @@ use Rattle.expansion_definition.specs.State.{Comp, _>>=_, _>>_, ret}
 use Rattle.expansion_definition.specs.Charges.{charge}
 use Rattle.expansion_definition.specs.Values.{Env, Copier, clone}
 use Rattle.expansion_definition.specs.PlainCopy.{associate, isValue, withValue, isField, copyBinding, copyField, somes}
-use Rattle.journal_records.specs.declared.Record.{Record}
 use Rattle.journal_records.specs.Records.{tagId, tagField}
+use Rattle.journal_records.specs.Made.{fieldRecord}
 use Rattle.journal_records.proofs.Frame.{same-fixed}
 use Rattle.journal_reading.specs.Reading.{valueAt, fieldsAt, fieldNew}
 use Rattle.journal_reading.specs.WellFormed.{HandleAt}
@@ -31,10 +31,6 @@ use Rattle.expander_bindings.specs.declared.Given.{Given}
 use Rattle.expander_bindings.specs.Contract.{Associated, NotGiven, GivenValue, GivenRefused, TargetValueGiven, isFieldOf, boundField, FieldsAfter, FieldDone}
 use Rattle.expander_bindings.proofs.Steps.{anySource, done-later, always, if-map, pays, paid-there}
 use Rattle.expander_bindings.proofs.Associations.{then-later, then-standing, then-value}
-
-abbrev pub fieldRecord : ℕ → ℕ → ℕ → ℕ → ℕ → ℕ → ℕ → ℕ → Record
-fieldRecord name bound target inferred ty class payload h =
-    record { tag = tagField; a = name; b = bound; c = target; d = inferred; e = ty; f = class; g = payload; h = h; i = 0; j = 0; k = 0 }
 
 module _ (w : List ℕ) (c name bound target inferred ty class payload h : ℕ) (hd : HandleAt w c tagField h) (load : class ≡ 2 → HandleAt w c tagId payload) where
   pub field-keepable : Keepable w c (fieldRecord name bound target inferred ty class payload h)

@@ -12,6 +12,7 @@ use Rattle.expansion_definition.specs.Charges.{charge}
 use Rattle.expansion_definition.specs.Values.{Env, Copier, clone}
 use Rattle.expansion_definition.specs.PlainCopy.{associate, isValue, interfaceWith, isInterface, copyTarget, copyInterface}
 use Rattle.journal_records.specs.Records.{tagId, tagInterface}
+use Rattle.journal_records.specs.Made.{interfaceRecord}
 use Rattle.journal_records.proofs.Frame.{same-fixed}
 use Rattle.journal_reading.specs.Reading.{valueAt, interfaceNew}
 use Rattle.journal_reading.specs.WellFormed.{HandleAt}
@@ -28,19 +29,19 @@ use Rattle.refine_records.specs.Contract.{Keepable, KeptAt, RecordKept}
 use Rattle.refine_records.proofs.Later.{later-trans, later-standing, later-handle}
 use Rattle.refine_records.proofs.Calculus.{start, turn, step, stop, inner}
 use Rattle.expander_bindings.specs.declared.Given.{Given}
-use Rattle.expander_bindings.specs.Contract.{Associated, NotGiven, GivenValue, GivenRefused, TargetValueGiven, isInterfaceOf, boundInterface, interfaceRecord, InterfacesAfter, InterfaceDone}
+use Rattle.expander_bindings.specs.Contract.{Associated, NotGiven, GivenValue, GivenRefused, TargetValueGiven, isInterfaceOf, boundInterface, InterfacesAfter, InterfaceDone}
 use Rattle.expander_bindings.proofs.Steps.{anySource, done-later, always, if-map, pays, paid-last}
 use Rattle.expander_bindings.proofs.Associations.{then-later, then-standing, then-value}
 
 module _ (w : List ℕ) (c : ℕ) (r : Row) (target ty class payload h : ℕ) (hd : HandleAt w c tagInterface h) (load : class ≡ 2 → HandleAt w c tagId payload) where
-  pub interface-keepable : Keepable w c (interfaceRecord r target ty class payload h)
+  pub interface-keepable : Keepable w c (interfaceRecord (r .a) (r .b) (r .c) target ty class payload h)
   interface-keepable = record { least = omega arith; most = omega arith; before = hd; value = λ z. load }
 
   -- the interfaces after it
-  pub interface-kept : (t : Counts) → t .charges ≡ c → (y : InterfaceDecl) → interfaceNew w (interfaceRecord r target ty class payload h) ≡ y → (w′ : List ℕ) (t′ : Counts) (v : ℕ) → KeptAt w t (interfaceRecord r target ty class payload h) w′ t′ v → InterfacesAfter w h y w′ t′ v
+  pub interface-kept : (t : Counts) → t .charges ≡ c → (y : InterfaceDecl) → interfaceNew w (interfaceRecord (r .a) (r .b) (r .c) target ty class payload h) ≡ y → (w′ : List ℕ) (t′ : Counts) (v : ℕ) → KeptAt w t (interfaceRecord (r .a) (r .b) (r .c) target ty class payload h) w′ t′ v → InterfacesAfter w h y w′ t′ v
   interface-kept t e y z w′ t′ v k = record {
     handle = rw (k .counts, k .handle) (handle-new w′ (t .charges) tagInterface (k .pushed .holds .at0));
-    list = rw (k .handle) (interfaces-new (same-fixed (k .pushed .same)) (interfaceRecord r target ty class payload h) (k .pushed .holds) (omega arith) (omega (arith, hd .low)) (λ q. omega (arith, load q .low)) ∙ rw z);
+    list = rw (k .handle) (interfaces-new (same-fixed (k .pushed .same)) (interfaceRecord (r .a) (r .b) (r .c) target ty class payload h) (k .pushed .holds) (omega arith) (omega (arith, hd .low)) (λ q. omega (arith, load q .low)) ∙ rw z);
   }
 
 -- behind the interfaces of a moment before
@@ -77,13 +78,13 @@ module _ (L : Limits) (w : List ℕ) (t : Counts) (e : code.Env) (new : ℕ) (r 
     next S young c own x z = turn (step (λ u. rest S own is >>= pay S) (begin S young c own) (ad .does S young) q) (rest S own x >>= pay S) (ap (λ (o : Option (Option FieldValue)). bindR (rest S own o (at S w1 s)) (pay S)) z)
 
     -- the interface y is kept at a later moment
-    keeps : {w2 : List ℕ} {s2 : Counts} (target ty class payload : ℕ) (y : InterfaceDecl) → y ≡ boundInterface r is → Later L 0 w t w2 s2 → (class ≡ 2 → HandleAt w2 (s2 .charges) tagId payload) → interfaceNew w2 (interfaceRecord r target ty class payload h) ≡ y
+    keeps : {w2 : List ℕ} {s2 : Counts} (target ty class payload : ℕ) (y : InterfaceDecl) → y ≡ boundInterface r is → Later L 0 w t w2 s2 → (class ≡ 2 → HandleAt w2 (s2 .charges) tagId payload) → interfaceNew w2 (interfaceRecord (r .a) (r .b) (r .c) target ty class payload h) ≡ y
         → ((S : Source) (young : ℕ) (c : Copier) (own : Option FieldValue) → Doing S L young (whole S c own) w t (pay S y) w2 s2)
-        → {w3 : List ℕ} {b : Answer} → RecordKept L w2 s2 (interfaceRecord r target ty class payload h) w3 b → InterfaceDone L w t e new r h w3 b
+        → {w3 : List ℕ} {b : Answer} → RecordKept L w2 s2 (interfaceRecord (r .a) (r .b) (r .c) target ty class payload h) w3 b → InterfaceDone L w t e new r h w3 b
     keeps {w2} {s2} target ty class payload y z l load made g {w3} {b} k = record {
       does = λ S young c own. pays y (λ u v p. boundInterface r is) (g S young c own) (k .does S young) (always (λ t′ v p. y ≡ boundInterface r is) (λ t′ v p. z) b);
       done =
-          if-map (λ t′ v p. KeptAt w2 s2 (interfaceRecord r target ty class payload h) w3 t′ v) (λ t′ v p. InterfacesAfter w h (boundInterface r is) w3 t′ v)
+          if-map (λ t′ v p. KeptAt w2 s2 (interfaceRecord (r .a) (r .b) (r .c) target ty class payload h) w3 t′ v) (λ t′ v p. InterfacesAfter w h (boundInterface r is) w3 t′ v)
           (λ t′ v p x. rw (← z) (interfaces-since l h (hd .low) (interface-kept w2 (s2 .charges) r target ty class payload h (later-handle l hd) load s2 refl y made w3 t′ v x))) b (k .done);
     }
 
@@ -93,10 +94,10 @@ module _ (L : Limits) (w : List ℕ) (t : Counts) (e : code.Env) (new : ℕ) (r 
         n1 : NotGiven w1 e (r .d) none w2
         n1 = rw o at (gv .case)
 
-        pub stays-keepable : Standing L w2 s × Keepable w2 (s .charges) (interfaceRecord r (r .d) 0 0 0 h)
+        pub stays-keepable : Standing L w2 s × Keepable w2 (s .charges) (interfaceRecord (r .a) (r .b) (r .c) (r .d) 0 0 0 h)
         stays-keepable = rw (n1 .words) (then-standing st env ad q, interface-keepable w1 (s .charges) r (r .d) 0 0 0 h (later-handle l1 hd) (λ z. absurd (omega arith)))
 
-        pub interface-stays : (r .d ≡ 4294967295 → ⊥) → {w3 : List ℕ} {b : Answer} → RecordKept L w2 s (interfaceRecord r (r .d) 0 0 0 h) w3 b → InterfaceDone L w t e new r h w3 b
+        pub interface-stays : (r .d ≡ 4294967295 → ⊥) → {w3 : List ℕ} {b : Answer} → RecordKept L w2 s (interfaceRecord (r .a) (r .b) (r .c) (r .d) 0 0 0 h) w3 b → InterfaceDone L w t e new r h w3 b
         unfolding isInterface bindR
         interface-stays ne {w3} {b} k =
             let z : is ≡ none = then-value st env ad q (r .d) (n1 .value) in
@@ -107,10 +108,10 @@ module _ (L : Limits) (w : List ℕ) (t : Counts) (e : code.Env) (new : ℕ) (r 
         n2 : NotGiven w1 e (r .d) (some none) w2
         n2 = rw o at (gv .case)
 
-        pub bare-keepable : Standing L w2 s × Keepable w2 (s .charges) (interfaceRecord r 4294967295 0 0 0 h)
+        pub bare-keepable : Standing L w2 s × Keepable w2 (s .charges) (interfaceRecord (r .a) (r .b) (r .c) 4294967295 0 0 0 h)
         bare-keepable = rw (n2 .words) (then-standing st env ad q, interface-keepable w1 (s .charges) r 4294967295 0 0 0 h (later-handle l1 hd) (λ z. absurd (omega arith)))
 
-        pub interface-bare : {w3 : List ℕ} {b : Answer} → RecordKept L w2 s (interfaceRecord r 4294967295 0 0 0 h) w3 b → InterfaceDone L w t e new r h w3 b
+        pub interface-bare : {w3 : List ℕ} {b : Answer} → RecordKept L w2 s (interfaceRecord (r .a) (r .b) (r .c) 4294967295 0 0 0 h) w3 b → InterfaceDone L w t e new r h w3 b
         unfolding isInterface bindR
         interface-bare {w3} {b} k =
             let z : is ≡ some none = then-value st env ad q (r .d) (n2 .value) in
@@ -124,10 +125,10 @@ module _ (L : Limits) (w : List ℕ) (t : Counts) (e : code.Env) (new : ℕ) (r 
         l12 : Later L 0 w t w2 s2
         l12 = later-trans l1 (done-later (gw .cloning .does anySource 0) refl)
 
-        pub value-keepable : Standing L w2 s2 × Keepable w2 (s2 .charges) (interfaceRecord r 4294967295 ty class payload h)
+        pub value-keepable : Standing L w2 s2 × Keepable w2 (s2 .charges) (interfaceRecord (r .a) (r .b) (r .c) 4294967295 ty class payload h)
         value-keepable = (later-standing l12 st, interface-keepable w2 (s2 .charges) r 4294967295 ty class payload h (later-handle l12 hd) (gw .ids))
 
-        pub interface-value : {w3 : List ℕ} {b : Answer} → RecordKept L w2 s2 (interfaceRecord r 4294967295 ty class payload h) w3 b → InterfaceDone L w t e new r h w3 b
+        pub interface-value : {w3 : List ℕ} {b : Answer} → RecordKept L w2 s2 (interfaceRecord (r .a) (r .b) (r .c) 4294967295 ty class payload h) w3 b → InterfaceDone L w t e new r h w3 b
         unfolding isInterface bindR
         interface-value {w3} {b} k =
             let z : is ≡ some (some (valueAt w1 ty class payload)) = then-value st env ad q (r .d) (gw .cloning .value) in

@@ -11,10 +11,11 @@ use sheet_rows::row::NONE;
 use sheet_rows::row::Row;
 ghost use mathlib.Core.Path.{_≡_};
 ghost use Rattle.journal_records.specs.Records.{tagField, tagInterface};
+ghost use Rattle.journal_records.specs.Made.{interfaceRecord};
 ghost use Rattle.journal_reading.specs.WellFormed.{HandleAt};
 ghost use Rattle.refine_records.specs.Sound.{Standing, EnvAt};
 ghost use Rattle.refine_records.specs.Contract.{Keepable, RecordKept};
-ghost use Rattle.expander_bindings.specs.Contract.{interfaceRecord, FieldDone, InterfaceDone};
+ghost use Rattle.expander_bindings.specs.Contract.{FieldDone, InterfaceDone};
 
 // A field with an IS, behind the fields of h; the handle of the fields after it.
 pub fn is_field(
@@ -45,20 +46,7 @@ pub fn is_field(
             work,
             lim,
             s,
-            Record {
-                tag: journal_records::TAG_FIELD,
-                a: r.a,
-                b: 1,
-                c: r.c,
-                d: r.d,
-                e: 0,
-                f: 0,
-                g: 0,
-                h,
-                i: 0,
-                j: 0,
-                k: 0,
-            },
+            Record::field_with_is(r.a, r.c, r.d, h),
         ),
         Given::Without => Answer::Done {
             st: s,
@@ -70,25 +58,7 @@ pub fn is_field(
             ty,
             class,
             payload,
-        } => refine_records::keep(
-            work,
-            lim,
-            t,
-            Record {
-                tag: journal_records::TAG_FIELD,
-                a: r.a,
-                b: 0,
-                c: 0,
-                d: r.d,
-                e: ty,
-                f: class,
-                g: payload,
-                h,
-                i: 0,
-                j: 0,
-                k: 0,
-            },
-        ),
+        } => refine_records::keep(work, lim, t, Record::field(r.a, r.d, ty, class, payload, h)),
         Given::Refused {
             number,
             first,
@@ -114,27 +84,14 @@ fn interface(
     h: u32,
 ) -> Answer
     requires { ⌜ Standing lim (now work) st ⌝ }
-    requires { ⌜ Keepable (now work) (st .charges) (interfaceRecord r target ty class payload h) ⌝ }
-    ensures { λ a. ⌜ RecordKept lim (now (work .entry)) st (interfaceRecord r target ty class payload h) (now (work .exit)) a ⌝ }
+    requires { ⌜ Keepable (now work) (st .charges) (interfaceRecord (r .a) (r .b) (r .c) target ty class payload h) ⌝ }
+    ensures { λ a. ⌜ RecordKept lim (now (work .entry)) st (interfaceRecord (r .a) (r .b) (r .c) target ty class payload h) (now (work .exit)) a ⌝ }
 {
     refine_records::keep(
         work,
         lim,
         st,
-        Record {
-            tag: journal_records::TAG_INTERFACE,
-            a: r.a,
-            b: r.b,
-            c: r.c,
-            d: target,
-            e: ty,
-            f: class,
-            g: payload,
-            h,
-            i: 0,
-            j: 0,
-            k: 0,
-        },
+        Record::interface(r.a, r.b, r.c, target, ty, class, payload, h),
     )
 }
 

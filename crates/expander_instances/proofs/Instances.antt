@@ -15,6 +15,7 @@ use Rattle.expansion_definition.specs.Charges.{oneMore}
 use Rattle.expansion_definition.specs.Instances.{associationsOf, nestedRoots, nestedRoutes, withInstance, recordInstance}
 use Rattle.journal_records.specs.declared.Record.{Record}
 use Rattle.journal_records.specs.Records.{tagNode, tagScope, tagExtern, tagRoot, tagRoute, tagAssociation, tagInstance, cell, Fixed, SetWord, Pushed}
+use Rattle.journal_records.specs.Made.{instanceRecord}
 use Rattle.journal_records.specs.Logs.{logUp, only}
 use Rattle.journal_lists.specs.Owned.{OwnedTag, headWord, tagged, ownedBy, ownedLog, lastOwned}
 use Rattle.journal_records.proofs.Cells.{set-cell}
@@ -69,10 +70,6 @@ nested-routes : (l : List InstanceRead) → nestedRoutes (merged l) ≡ mergedRo
 unfolding merged mergedRoutes
 nested-routes [] = refl
 nested-routes (x ∷ l) = refl
-
-abbrev pub instanceRecord : ℕ → ℕ → ℕ → ℕ → ℕ → ℕ → Record
-instanceRecord scope name roots routes associations nested =
-    record { tag = tagInstance; a = scope; b = name; c = roots; d = routes; e = associations; f = 0; g = 0; h = nested; i = 0; j = 0; k = 0 }
 
 -- ---- places that are read and written
 module _ (L : Limits) (w : List ℕ) (t : Counts) (e : code.Env) (out place : ℕ) (st : Standing L w t) (x : Recordable w (t .charges) e out place) {w1 : List ℕ} (m : Remapped L w t (e .scope) w1) where

@@ -83,20 +83,7 @@ pub fn record_instance(
     journal_records::push(
         work,
         c,
-        Record {
-            tag: journal_records::TAG_INSTANCE,
-            a: scope,
-            b: name,
-            c: roots,
-            d: routes,
-            e: associations,
-            f: 0,
-            g: 0,
-            h: nested,
-            i: 0,
-            j: 0,
-            k: 0,
-        },
+        Record::instance(scope, name, roots, routes, associations, nested),
     );
     journal_records::set(work, n, 4, named(def, old));
     journal_records::set(work, n, 11, (c + 1) as u32);

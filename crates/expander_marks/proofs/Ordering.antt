@@ -19,8 +19,8 @@ use Rattle.expansion_definition.specs.State.{Comp, bindR, _>>=_, _>>_, ret}
 use Rattle.expansion_definition.specs.Charges.{charge, chargeEach}
 use Rattle.expansion_definition.specs.Values.{Env, Values}
 use Rattle.expansion_definition.specs.PlainCopy.{keptOrder}
-use Rattle.journal_records.specs.declared.Record.{Record}
 use Rattle.journal_records.specs.Records.{tagOrder}
+use Rattle.journal_records.specs.Made.{orderRecord}
 use Rattle.journal_records.proofs.Frame.{same-fixed}
 use Rattle.journal_reading.specs.Reading.{orderAt}
 use Rattle.journal_reading.specs.WellFormed.{HandleAt}
@@ -50,9 +50,6 @@ choose-yes b e x y = rw e
 
 choose-no : {A : Type 0} (b : Bool) → b ≡ false → (x y : A) → choose b x y ≡ y
 choose-no b e x y = rw e
-
-abbrev orderRecord : ℕ → ℕ → Record
-orderRecord mark h = record { tag = 8; a = mark; b = 0; c = 0; d = 0; e = 0; f = 0; g = 0; h = h; i = 0; j = 0; k = 0 }
 
 pub order-keepable : (w : List ℕ) (c mark h : ℕ) → HandleAt w c tagOrder h → Keepable w c (orderRecord mark h)
 order-keepable w c mark h x = record { least = omega arith; most = omega arith; before = x; value = λ e. absurd (never e) }

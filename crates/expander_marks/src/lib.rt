@@ -1,5 +1,4 @@
 // The filter over a node's body order: which marks are kept, by two positions (document 02, wish 3).
-use journal_records;
 use journal_records::Record;
 use refine_records;
 use refine_records::Answer;
@@ -241,25 +240,7 @@ pub fn order(
         fields = x.fields;
         statements = x.statements;
         if x.kept {
-            let a = refine_records::keep(
-                work,
-                lim,
-                cur,
-                Record {
-                    tag: journal_records::TAG_ORDER,
-                    a: row::row_at(sheet, q).a,
-                    b: 0,
-                    c: 0,
-                    d: 0,
-                    e: 0,
-                    f: 0,
-                    g: 0,
-                    h,
-                    i: 0,
-                    j: 0,
-                    k: 0,
-                },
-            );
+            let a = refine_records::keep(work, lim, cur, Record::order(row::row_at(sheet, q).a, h));
             let Answer::Done {
                 st: s,
                 value: n,

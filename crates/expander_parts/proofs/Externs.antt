@@ -30,6 +30,7 @@ use Rattle.journal_records.specs.declared.Record.{Record}
 use Rattle.journal_index.specs.declared.Newest.{Newest}
 use Rattle.journal_index.specs.declared.Newest.the-variants.{At, Nothing}
 use Rattle.journal_records.specs.Records.{tagExtern, tagNode, tagScope, cell, Paid}
+use Rattle.journal_records.specs.Made.{externRecord}
 use Rattle.journal_index.specs.Index.{newest, foundOf, RecordEntered, linked}
 use Rattle.journal_lists.specs.Owned.{tagged}
 use Rattle.journal_records.proofs.Lists.{count-low}
@@ -137,10 +138,6 @@ module _ {L : Limits} {root library dir w : List ℕ} (x : Lent L root library d
   extern-row slot e y q = rw (isSheet, e) (rw q at (y .below))
 
 -- ---- the four answers
--- the record: its document and id, its id in the output, the row that declares it, its slot, the mark of the url that was taken
-abbrev externRecord : ℕ → ℕ → ℕ → ℕ → ℕ → ℕ → Record
-externRecord doc id out row slot mark = record { tag = 2; a = doc; b = id; c = out; d = row; e = slot; f = mark; g = 0; h = 0; i = 0; j = 0; k = 0 }
-
 -- a mark says which url was taken
 by-mark : (o : Option ℕ) → urlBy (markOf o) ≡ o
 by-mark none = refl

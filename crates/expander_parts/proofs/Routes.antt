@@ -15,6 +15,7 @@ use Rattle.expansion_definition.specs.Values.{Env}
 use Rattle.expansion_definition.specs.PlainCopy.{remapRoute, copyRoute}
 use Rattle.journal_records.specs.declared.Record.{Record}
 use Rattle.journal_records.specs.Records.{tagStatement, cell, Pushed}
+use Rattle.journal_records.specs.Made.{routeStatementRecord}
 use Rattle.journal_records.proofs.Frame.{same-fixed}
 use Rattle.journal_reading.specs.Reading.{mapOf, fixedWord, statementRec, statementNew}
 use Rattle.journal_reading.specs.WellFormed.{HandleAt}
@@ -60,10 +61,7 @@ module _ (w w′ : List ℕ) (t : Counts) (r : Record) (is : r .tag ≡ tagState
       }
 
 -- ---- a Route
-abbrev routeRecord : Row → ℕ → ℕ → ℕ → Record
-routeRecord r from to h = record { tag = 7; a = 3; b = r .b; c = r .c; d = r .d; e = r .e; f = from; g = to; h = h; i = 0; j = 0; k = 0 }
-
-pub route-keepable : (w : List ℕ) (c : ℕ) (r : Row) (from to h : ℕ) → HandleAt w c tagStatement h → Keepable w c (routeRecord r from to h)
+pub route-keepable : (w : List ℕ) (c : ℕ) (r : Row) (from to h : ℕ) → HandleAt w c tagStatement h → Keepable w c (routeStatementRecord (r .b) (r .c) (r .d) (r .e) from to h)
 route-keepable w c r from to h x = record { least = omega arith; most = omega arith; before = x; value = λ e. absurd (never e) }
   where
     never : false ≡ true → ⊥
@@ -71,14 +69,14 @@ route-keepable w c r from to h x = record { least = omega arith; most = omega ar
 
 module _ (L : Limits) (w : List ℕ) (t : Counts) (scope : ℕ) (r : Row) (h : ℕ) (x : HandleAt w (t .charges) tagStatement h) (from to : ℕ) (f : EndOf w (t .charges) scope (r .f) from) (g : EndOf w (t .charges) scope (r .g) to) where
   -- the definition's statement is the record's
-  same-route : (e : Env) → e .scope ≡ scope → (S : Source) → Statement.Route (remapRoute (at S w t .world) (e .scope) (routeOf (r ∷ []))) ≡ statementNew (routeRecord r from to h)
+  same-route : (e : Env) → e .scope ≡ scope → (S : Source) → Statement.Route (remapRoute (at S w t .world) (e .scope) (routeOf (r ∷ []))) ≡ statementNew (routeStatementRecord (r .b) (r .c) (r .d) (r .e) from to h)
   unfolding routeOf statementOf
   same-route e q S = rw q (ap (λ (o : Option ℕ). made o (andThen (optional (r .g)) (lookup (mapOf w (t .charges)) scope))) (sym f) ∙ ap (made (optional from)) (sym g))
     where
       made : Option ℕ → Option ℕ → Statement
       made a b = Statement.Route (record { fromNode = r .b; fromField = r .c; toNode = r .d; toField = r .e; fromId = a; toId = b })
 
-  pub route-law : {w′ : List ℕ} (a : Answer) → RecordKept L w t (routeRecord r from to h) w′ a → Routed L w t scope r h w′ a
+  pub route-law : {w′ : List ℕ} (a : Answer) → RecordKept L w t (routeStatementRecord (r .b) (r .c) (r .d) (r .e) from to h) w′ a → Routed L w t scope r h w′ a
   unfolding copyRoute paid bindR
   route-law {w′} (Refused n i j) k = record { does = λ S young e q. let z = k .does S young .same in record { same = rw (← z); later = tt }; done = tt }
   route-law {w′} (Done t′ v p) k =
@@ -89,8 +87,8 @@ module _ (L : Limits) (w : List ℕ) (t : Counts) (scope : ℕ) (r : Row) (h : �
         does = λ S young e q.
             let z = k .does S young .same in
             record {
-              same = rw (← z, d .handle, u, stated-new w w′ t (routeRecord r from to h) refl (d .pushed), same-route e q S);
+              same = rw (← z, d .handle, u, stated-new w w′ t (routeStatementRecord (r .b) (r .c) (r .d) (r .e) from to h) refl (d .pushed), same-route e q S);
               later = k .does S young .later;
             };
-        done = rw (d .handle) (stated w w′ t (routeRecord r from to h) refl (d .pushed) x t′ y);
+        done = rw (d .handle) (stated w w′ t (routeStatementRecord (r .b) (r .c) (r .d) (r .e) from to h) refl (d .pushed) x t′ y);
       }

@@ -21,8 +21,8 @@ use Rattle.expansion_definition.specs.Scopes.{Scope}
 use Rattle.expansion_definition.specs.Values.{Env, src}
 use Rattle.expansion_definition.specs.Externs.{externProto}
 use Rattle.expansion_definition.specs.PlainCopy.{copyExtern, copyStatement, somes}
-use Rattle.journal_records.specs.declared.Record.{Record}
 use Rattle.journal_records.specs.Records.{tagStatement, Pushed}
+use Rattle.journal_records.specs.Made.{statementRecord}
 use Rattle.journal_reading.specs.Reading.{statementRec, statementsAt}
 use Rattle.journal_reading.specs.WellFormed.{HandleAt}
 use Rattle.journal_reading.proofs.Fair.{handle-none}
@@ -62,10 +62,7 @@ regrouped xs x (refusal n i j) = refl
 regrouped xs x (ok l st) = rw (append-assoc xs (x ∷ []) l)
 
 -- ---- an ExternProto
-abbrev externRecord : ℕ → ℕ → Record
-externRecord n h = record { tag = 7; a = 2; b = n; c = 0; d = 0; e = 0; f = 0; g = 0; h = h; i = 0; j = 0; k = 0 }
-
-pub extern-keepable : (w : List ℕ) (c n h : ℕ) → HandleAt w c tagStatement h → Keepable w c (externRecord n h)
+pub extern-keepable : (w : List ℕ) (c n h : ℕ) → HandleAt w c tagStatement h → Keepable w c (statementRecord 2 n h)
 extern-keepable w c n h x = record { least = omega arith; most = omega arith; before = x; value = λ e. absurd (never e) }
   where
     never : false ≡ true → ⊥
@@ -102,18 +99,18 @@ module _ (L : Limits) (root library dir w : List ℕ) (t : Counts) (slot id h : 
     after : (D young : ℕ) (e : Env) → src e ≡ numberOf dir slot → Doing (S D) L young (copyExtern (inputOf (S D) L) e id) w t (charge (inputOf (S D) L) >> ret (some (Statement.ExternProto n))) w₁ s
     after D young e here = step (λ n. charge (inputOf (S D) L) >> ret (some (Statement.ExternProto n))) (left D young e) (d .does D young e here) q
 
-    is-extern : {w₂ : List ℕ} → Pushed w₁ w₂ (s .charges) (externRecord n h) → (v : ℕ) → v ≡ s .charges + 1 → Statement.ExternProto n ≡ statementRec w₂ (v - 1)
+    is-extern : {w₂ : List ℕ} → Pushed w₁ w₂ (s .charges) (statementRecord 2 n h) → (v : ℕ) → v ≡ s .charges + 1 → Statement.ExternProto n ≡ statementRec w₂ (v - 1)
     unfolding statementOf
-    is-extern {w₂} y v z = let u : s .charges + 1 - 1 ≡ s .charges = omega arith in rw (z, u, stated-new w₁ w₂ s (externRecord n h) refl y)
+    is-extern {w₂} y v z = let u : s .charges + 1 - 1 ≡ s .charges = omega arith in rw (z, u, stated-new w₁ w₂ s (statementRecord 2 n h) refl y)
 
-    pub extern-stated : {w₂ : List ℕ} (b : Answer) → RecordKept L w₁ s (externRecord n h) w₂ b → ExternStated L root library dir w t slot id h w₂ b
+    pub extern-stated : {w₂ : List ℕ} (b : Answer) → RecordKept L w₁ s (statementRecord 2 n h) w₂ b → ExternStated L root library dir w t slot id h w₂ b
     extern-stated {w₂} (Refused m i j) k = record { does = λ D young e here. stop (λ u. ret (some (Statement.ExternProto n))) (after D young e here) (k .does (S D) young) refl statementAt; done = tt }
     extern-stated {w₂} (Done t′ v p′) k =
         let y = k .done in
         record {
           does = λ D young e here.
               finish (step (λ u. ret (some (Statement.ExternProto n))) (after D young e here) (k .does (S D) young) refl) statementAt v p′ (ap some (is-extern (y .pushed) v (y .handle)));
-          done = rw (y .handle) (moved (stated w₁ w₂ s (externRecord n h) refl (y .pushed) extern-handle t′ (rw (y .counts))));
+          done = rw (y .handle) (moved (stated w₁ w₂ s (statementRecord 2 n h) refl (y .pushed) extern-handle t′ (rw (y .counts))));
         }
       where
         moved : {v : ℕ} → StatementAppended w₁ h w₂ t′ v → StatementAppended w h w₂ t′ v

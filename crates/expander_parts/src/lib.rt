@@ -97,20 +97,7 @@ pub fn extern_proto<'a>(
         lim.rows * 12,
         lim.slots,
         c,
-        Record {
-            tag: journal_records::TAG_EXTERN,
-            a: document,
-            b: id.0,
-            c: out,
-            d: row,
-            e: slot,
-            f: mark,
-            g: 0,
-            h: 0,
-            i: 0,
-            j: 0,
-            k: 0,
-        },
+        Record::extern_entry(document, id.0, out, row, slot, mark),
     );
     journal_records::paid(work, c + 1, n);
     let externs = st.externs + 1;
@@ -141,20 +128,7 @@ pub fn route(work: &mut [u32], lim: Limits, st: Counts, env: Env, r: Row, h: u32
         work,
         lim,
         st,
-        Record {
-            tag: journal_records::TAG_STATEMENT,
-            a: 3,
-            b: r.b,
-            c: r.c,
-            d: r.d,
-            e: r.e,
-            f: from.0,
-            g: to.0,
-            h,
-            i: 0,
-            j: 0,
-            k: 0,
-        },
+        Record::route_statement(r.b, r.c, r.d, r.e, from.0, to.0, h),
     )
 }
 
@@ -185,25 +159,7 @@ pub fn extern_statement<'a>(
     else {
         return a;
     };
-    refine_records::keep(
-        work,
-        lim,
-        s,
-        Record {
-            tag: journal_records::TAG_STATEMENT,
-            a: 2,
-            b: n,
-            c: 0,
-            d: 0,
-            e: 0,
-            f: 0,
-            g: 0,
-            h,
-            i: 0,
-            j: 0,
-            k: 0,
-        },
-    )
+    refine_records::keep(work, lim, s, Record::statement(2, n, h))
 }
 
 // A statement of a node, by its row, behind those of a handle: Route and ExternProto are kept.

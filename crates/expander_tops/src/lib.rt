@@ -51,25 +51,7 @@ fn top_statement<'a>(
         else {
             return a;
         };
-        return refine_records::keep(
-            work,
-            lim,
-            s,
-            Record {
-                tag: journal_records::TAG_STATEMENT,
-                a: 0,
-                b: o,
-                c: 0,
-                d: 0,
-                e: 0,
-                f: 0,
-                g: 0,
-                h,
-                i: 0,
-                j: 0,
-                k: 0,
-            },
-        );
+        return refine_records::keep(work, lim, s, Record::statement(0, o, h));
     }
     if r.a == 1 {
         return Answer::Done {
@@ -85,25 +67,7 @@ fn top_statement<'a>(
     if r.a == 3 {
         return expander_parts::route(work, lim, st, env, r, h);
     }
-    refine_records::keep(
-        work,
-        lim,
-        st,
-        Record {
-            tag: journal_records::TAG_STATEMENT,
-            a: r.a,
-            b: r.b,
-            c: 0,
-            d: 0,
-            e: 0,
-            f: 0,
-            g: 0,
-            h,
-            i: 0,
-            j: 0,
-            k: 0,
-        },
-    )
+    refine_records::keep(work, lim, st, Record::statement(r.a, r.b, h))
 }
 
 // The top statements, from nothing: three charges, for the document, its top and scope 0, and then each statement.

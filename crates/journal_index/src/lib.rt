@@ -210,24 +210,7 @@ pub fn enter(work: &mut [u32], at: usize, slots: usize, c: usize, r: Record)
 {
     let b = slot(slots, r.a, r.b);
     let q = head(work, at, slots, c, b);
-    journal_records::push(
-        work,
-        c,
-        Record {
-            tag: r.tag,
-            a: r.a,
-            b: r.b,
-            c: r.c,
-            d: r.d,
-            e: r.e,
-            f: r.f,
-            g: r.g,
-            h: r.h,
-            i: 0,
-            j: 0,
-            k: r.k,
-        },
-    );
+    journal_records::push(work, c, Record { i: 0, j: 0, ..r });
     raise(work, c, q);
     work[at + b] = c as u32;
 }

@@ -13,24 +13,7 @@ pub fn append(work: &mut [u32], s: usize, c: usize, r: Record)
 {
     let j = wide(r.tag) - 2;
     let q = journal_records::word(work, s, j);
-    journal_records::push(
-        work,
-        c,
-        Record {
-            tag: r.tag,
-            a: r.a,
-            b: r.b,
-            c: r.c,
-            d: r.d,
-            e: r.e,
-            f: r.f,
-            g: r.g,
-            h: q,
-            i: r.i,
-            j: r.j,
-            k: r.k,
-        },
-    );
+    journal_records::push(work, c, Record { h: q, ..r });
     journal_records::set(work, s, j, (c + 1) as u32);
 }
 
@@ -55,25 +38,6 @@ pub fn join(work: &mut [u32], at: usize, slots: usize, c: usize, r: Record)
     ensures { λ _. ⌜ Joined (now (work .entry)) (now (work .exit)) at slots c r ⌝ }
 {
     let f = family(work, c, r.h);
-    journal_index::enter(
-        work,
-        at,
-        slots,
-        c,
-        Record {
-            tag: r.tag,
-            a: f as u32,
-            b: r.b,
-            c: r.c,
-            d: r.d,
-            e: r.e,
-            f: r.f,
-            g: r.g,
-            h: r.h,
-            i: r.i,
-            j: r.j,
-            k: r.k,
-        },
-    );
+    journal_index::enter(work, at, slots, c, Record { a: f as u32, ..r });
     journal_records::set(work, f, 11, (c + 1) as u32);
 }

@@ -1,4 +1,6 @@
 // The arena: records of twelve words in a lent slice, one to a charge.
+mod made;
+
 ghost use mathlib.Core.Path.{_≡_};
 ghost use Prim.Native.Nat.{_+_, _*_, _<_, _≤_};
 ghost use lib.ListN.{length};
@@ -35,7 +37,7 @@ pub const TAG_ASSOCIATION: u32 = 13;
 
 pub const TAG_INSTANCE: u32 = 14;
 
-// Word 0 is the tag.
+// Word 0 is the tag; module `made` says what the other words of a record are.
 pub struct Record {
     pub tag: u32,
     pub a: u32,

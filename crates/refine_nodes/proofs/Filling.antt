@@ -9,6 +9,7 @@ use lib.Dec.{eqb, ltb}
 use borrow.Author.Tests.{eqb-true, eqb-false, ltb-true, ltb-false}
 use Rattle.expansion_definition.specs.State.{ok, withNodes}
 use Rattle.journal_records.specs.Records.{tagExtern, tagNode, tagField, tagInterface, tagStatement, tagOrder, tagStored, tagScope, tagRoute, tagInstance, cell, Fixed, Pushed}
+use Rattle.journal_records.specs.Made.{nodeRecord}
 use Rattle.journal_lists.specs.Owned.{headWord}
 use Rattle.journal_records.proofs.Frame.{stays-most}
 use Rattle.journal_index.proofs.Keys.{keyed-low}
@@ -31,7 +32,7 @@ use Rattle.refine_records.specs.Contract.{contentsOf}
 
 -- what is written
 pub fill-law : (w w′ : List ℕ) (place ty def kind id fs is ss os m s q : ℕ) → m ≡ place → s ≡ cell w (m - 1) 1 → q ≡ cell w (m - 1) 2
-    → Pushed w w′ (m - 1) (record { tag = tagNode; a = s; b = q; c = ty; d = def; e = kind; f = id; g = fs; h = is; i = ss; j = os; k = 0 }) → Pushed w w′ (place - 1) (contentsOf w (place - 1) ty def kind id fs is ss os)
+    → Pushed w w′ (m - 1) (nodeRecord s q ty def kind id fs is ss os) → Pushed w w′ (place - 1) (contentsOf w (place - 1) ty def kind id fs is ss os)
 fill-law w w′ place ty def kind id fs is ss os m s q em es eq p = rw (← em, ← es, ← eq) p
 
 -- ---- one node's words are changed, and nothing else

@@ -9,6 +9,7 @@ use Rattle.expansion_definition.specs.Charges.{oneMore}
 use Rattle.expansion_definition.specs.Instances.{addEntry}
 use Rattle.journal_records.specs.declared.Record.{Record}
 use Rattle.journal_records.specs.Records.{tagExtern, tagNode, tagScope, cell}
+use Rattle.journal_records.specs.Made.{mapRecord}
 use Rattle.journal_index.specs.Index.{linked, RecordEntered}
 use Rattle.journal_lists.proofs.Owned.{owned-enter}
 use Rattle.journal_lists.proofs.Families.{families-enter}
@@ -24,20 +25,20 @@ use Rattle.refine_records.specs.declared.Answer.{Answer}
 use Rattle.refine_records.specs.declared.Answer.the-variants.{Done, Refused}
 use Rattle.refine_records.specs.Sound.{Source, headsAt, JournalSound, OfBody, Later, EnvAt}
 use Rattle.refine_records.specs.Does.{nothing, at}
-use Rattle.refine_records.specs.Contract.{charged, mapRecord, Mapped}
+use Rattle.refine_records.specs.Contract.{charged, Mapped}
 use Rattle.refine_records.proofs.Grow.{sound-more, later-more, alone, count-other}
 use Rattle.refine_records.proofs.Later.{env-scope}
 use Rattle.refine_records.proofs.Charges.{change-refused, change-done}
 use Rattle.refine_records.proofs.Keeping.{not-of-body}
 
 module _ {L : Limits} {w : List ℕ} {t : Counts} (so : JournalSound L w t) (e : code.Env) (env : EnvAt w (t .charges) e) (id out place : ℕ) (node : NodeAt w (t .charges) out place) (room : t .charges < L .rows) {w′ : List ℕ} (long : length w′ ≡ length w)
-    (p : RecordEntered w w′ (headsAt L) (L .slots) (t .charges) (mapRecord e id out place)) where
+    (p : RecordEntered w w′ (headsAt L) (L .slots) (t .charges) (mapRecord (e .place) id out place (e .scope))) where
   abbrev c : ℕ
   c = t .charges
 
   -- what is written: the record with its links
   abbrev put : Record
-  put = linked (mapRecord e id out place) (cell w′ c 9) (cell w′ c 10)
+  put = linked (mapRecord (e .place) id out place (e .scope)) (cell w′ c 9) (cell w′ c 10)
 
   calm : RecordsStay c w w′
   calm = calm-enter p

@@ -15,6 +15,7 @@ use Rattle.expansion_definition.specs.PlainCopy.{blankNode, addNode, reserveIf,
 use Rattle.expansion_definition.specs.Instances.{addEntry}
 use Rattle.journal_records.specs.declared.Record.{Record}
 use Rattle.journal_records.specs.Records.{tagExtern, tagNode, tagScope, cell, Pushed}
+use Rattle.journal_records.specs.Made.{mapRecord, reservedRecord}
 use Rattle.journal_index.specs.Index.{Enterable, RecordEntered}
 use Rattle.journal_index.proofs.Index.{index-push}
 use Rattle.journal_lists.proofs.Owned.{owned-push}
@@ -33,7 +34,7 @@ use Rattle.refine_records.specs.declared.Answer.{Answer}
 use Rattle.refine_records.specs.declared.Answer.the-variants.{Done, Refused}
 use Rattle.refine_records.specs.Sound.{Source, inputOf, headsAt, JournalSound, Standing, OfBody, Later, EnvAt, envOf}
 use Rattle.refine_records.specs.Does.{number, at}
-use Rattle.refine_records.specs.Contract.{mapRecord, reservedRecord, Reserved}
+use Rattle.refine_records.specs.Contract.{Reserved}
 use Rattle.refine_records.proofs.Grow.{grown, sound-more, later-more, alone, count-other, count-new}
 use Rattle.refine_records.proofs.Later.{env-known, later-trans, later-node, later-env}
 use Rattle.refine_records.proofs.Charges.{charge-full, charge-some}
@@ -135,10 +136,10 @@ module _ (L : Limits) (w : List ℕ) (t : Counts) (e : code.Env) (id : ℕ) (st 
       env1 = later-env (later1 0) env
 
       -- there is room for the map entry
-      pub reserve-enter : Enterable w1 (headsAt L) (L .slots) (t .charges + 1) (mapRecord e id (t .nodes) (t .charges + 1))
+      pub reserve-enter : Enterable w1 (headsAt L) (L .slots) (t .charges + 1) (mapRecord (e .place) id (t .nodes) (t .charges + 1) (e .scope))
       reserve-enter = record { room = record { records = omega arith; heads = rw long1 (st .ready .room); narrow = omega (arith, st .ready .rows) }; index = sound .index; key = refl }
 
-      module _ (w2 : List ℕ) (long2 : length w2 ≡ length w1) (q : RecordEntered w1 w2 (headsAt L) (L .slots) (t .charges + 1) (mapRecord e id (t .nodes) (t .charges + 1))) where
+      module _ (w2 : List ℕ) (long2 : length w2 ≡ length w1) (q : RecordEntered w1 w2 (headsAt L) (L .slots) (t .charges + 1) (mapRecord (e .place) id (t .nodes) (t .charges + 1) (e .scope))) where
         abbrev t2 : Counts
         t2 = grown t 2 (t .nodes + 1) (t .scopes) (t .externs)
 

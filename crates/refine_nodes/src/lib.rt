@@ -39,20 +39,7 @@ pub fn map(
         lim.rows * 12,
         lim.slots,
         at,
-        Record {
-            tag: journal_records::TAG_MAP,
-            a: env.place as u32,
-            b: id.0,
-            c: out.0,
-            d: place,
-            e: env.scope,
-            f: 0,
-            g: 0,
-            h: 0,
-            i: 0,
-            j: 0,
-            k: 0,
-        },
+        Record::map_entry(env.place as u32, id.0, out.0, place, env.scope),
     );
     Answer::Done {
         st: refine_records::charged(st, 1),
@@ -79,44 +66,14 @@ pub fn reserve(work: &mut [u32], lim: Limits, st: Counts, env: Env, id: NodeId) 
     if lim.rows - c < 2 {
         return refine_records::too_many();
     }
-    journal_records::push(
-        work,
-        c,
-        Record {
-            tag: journal_records::TAG_NODE,
-            a: env.scope,
-            b: id.0,
-            c: 0,
-            d: NONE,
-            e: 0,
-            f: 0,
-            g: 0,
-            h: 0,
-            i: 0,
-            j: 0,
-            k: 0,
-        },
-    );
+    journal_records::push(work, c, Record::reserved(env.scope, id.0));
     let place = (c + 1) as u32;
     journal_index::enter(
         work,
         lim.rows * 12,
         lim.slots,
         c + 1,
-        Record {
-            tag: journal_records::TAG_MAP,
-            a: env.place as u32,
-            b: id.0,
-            c: new,
-            d: place,
-            e: env.scope,
-            f: 0,
-            g: 0,
-            h: 0,
-            i: 0,
-            j: 0,
-            k: 0,
-        },
+        Record::map_entry(env.place as u32, id.0, new, place, env.scope),
     );
     let t = Counts {
         nodes: new + 1,
@@ -187,19 +144,17 @@ pub fn fill(
     journal_records::push(
         work,
         n,
-        Record {
-            tag: journal_records::TAG_NODE,
-            a: scope,
-            b: source,
-            c: ty,
-            d: def,
-            e: kind,
-            f: id,
-            g: fields,
-            h: interface,
-            i: statements,
-            j: order,
-            k: 0,
-        },
+        Record::node(
+            scope,
+            source,
+            ty,
+            def,
+            kind,
+            id,
+            fields,
+            interface,
+            statements,
+            order,
+        ),
     );
 }

@@ -13,6 +13,7 @@ use Rattle.expansion_definition.specs.Charges.{oneMore}
 use Rattle.expansion_definition.specs.Instances.{pushScope, openScope}
 use Rattle.journal_records.specs.declared.Record.{Record}
 use Rattle.journal_records.specs.Records.{tagExtern, tagNode, tagStored, tagScope, tagRoot, tagRoute, cell, Pushed}
+use Rattle.journal_records.specs.Made.{scopeRecord}
 use Rattle.journal_records.specs.Logs.{only}
 use Rattle.journal_lists.specs.Owned.{tagged, OwnedTag, ownedBy, ownedLog}
 use Rattle.journal_records.proofs.Lists.{count-low, count-more, up-span, up-zero, only-other}
@@ -35,7 +36,7 @@ use Rattle.refine_records.specs.declared.Answer.{Answer}
 use Rattle.refine_records.specs.declared.Answer.the-variants.{Done, Refused}
 use Rattle.refine_records.specs.Sound.{Source, inputOf, JournalSound, OfBody, Later, EnvAt, envOf}
 use Rattle.refine_records.specs.Does.{number, at}
-use Rattle.refine_records.specs.Contract.{scopeRecord, OpenedAt, ScopeOpened}
+use Rattle.refine_records.specs.Contract.{OpenedAt, ScopeOpened}
 use Rattle.refine_records.proofs.Grow.{grown, sound-more, later-more, alone, count-other, count-new}
 use Rattle.refine_records.proofs.Charges.{change-refused, change-done}
 use Rattle.refine_records.proofs.Keeping.{not-of-body}

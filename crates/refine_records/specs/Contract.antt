@@ -14,7 +14,8 @@ use Rattle.expansion_definition.specs.Instances.{openScope, addEntry}
 use Rattle.journal_records.specs.declared.Record.{Record}
 use Rattle.journal_index.specs.declared.Newest.{Newest}
 use Rattle.journal_index.specs.declared.Newest.the-variants.{At}
-use Rattle.journal_records.specs.Records.{tagMap, tagNode, tagId, tagOrder, tagStored, tagScope, tagAssociation, cell, Pushed}
+use Rattle.journal_records.specs.Records.{tagId, tagOrder, tagStored, tagScope, tagAssociation, cell, Pushed}
+use Rattle.journal_records.specs.Made.{nodeRecord}
 use Rattle.journal_index.specs.Index.{foundOf}
 use Rattle.journal_lists.specs.Owned.{OwnedTag, Appended}
 use Rattle.journal_reading.specs.Reading.{valueAt, valueRec, valuesAt, scopeBy, scopeRec, mapOf}
@@ -79,9 +80,6 @@ pub record RecordOwned (L : Limits) (w : List ℕ) (t : Counts) (e : code.Env) (
   pub done : IfDone (λ t′ v p. OwnedAt w t e r w′ t′) a
 
 -- ---- a map entry: the copy of a source id, a node
-abbrev pub mapRecord : code.Env → ℕ → ℕ → ℕ → Record
-mapRecord env id out place = record { tag = tagMap; a = env .place; b = id; c = out; d = place; e = env .scope; f = 0; g = 0; h = 0; i = 0; j = 0; k = 0 }
-
 pub record MappedAt (t : Counts) (out place : ℕ) (t′ : Counts) (v p : ℕ) : Type 0 where
   pub counts : t′ ≡ charged t 1
   pub value : v ≡ out
@@ -92,9 +90,6 @@ pub record Mapped (L : Limits) (w : List ℕ) (t : Counts) (scope id out place :
   pub done : IfDone (λ t′ v p. MappedAt t out place t′ v p) a
 
 -- ---- a new node and its map entry
-abbrev pub reservedRecord : ℕ → ℕ → Record
-reservedRecord scope id = record { tag = tagNode; a = scope; b = id; c = 0; d = 4294967295; e = 0; f = 0; g = 0; h = 0; i = 0; j = 0; k = 0 }
-
 pub record ReservedAt (w : List ℕ) (t : Counts) (w′ : List ℕ) (t′ : Counts) (v p : ℕ) : Type 0 where
   pub counts : t′ ≡ record { nodes = t .nodes + 1; scopes = t .scopes; externs = t .externs; charges = t .charges + 2 }
   pub value : v ≡ t .nodes
@@ -106,9 +101,6 @@ pub record Reserved (L : Limits) (w : List ℕ) (t : Counts) (e : code.Env) (id 
   pub done : IfDone (λ t′ v p. ReservedAt w t w′ t′ v p) a
 
 -- ---- a new scope: its number, and the place of its record
-abbrev pub scopeRecord : ℕ → ℕ → ℕ → ℕ → ℕ → ℕ → Record
-scopeRecord kind document proto index opener n = record { tag = tagScope; a = kind; b = document; c = proto; d = index; e = opener; f = n; g = 0; h = 0; i = 0; j = 0; k = 0 }
-
 pub record OpenedAt (w : List ℕ) (t : Counts) (kind document proto index opener : ℕ) (w′ : List ℕ) (t′ : Counts) (v p : ℕ) : Type 0 where
   pub counts : t′ ≡ record { nodes = t .nodes; scopes = t .scopes + 1; externs = t .externs; charges = t .charges + 1 }
   pub value : v ≡ t .scopes
@@ -134,7 +126,7 @@ EndOf w c scope id o = optional o ≡ andThen (optional id) (lookup (mapOf w c) 
 -- ---- a node gets its contents: its record is written again
 abbrev pub contentsOf : List ℕ → ℕ → ℕ → ℕ → ℕ → ℕ → ℕ → ℕ → ℕ → ℕ → Record
 contentsOf w n ty def kind id fields interface statements order =
-    record { tag = tagNode; a = cell w n 1; b = cell w n 2; c = ty; d = def; e = kind; f = id; g = fields; h = interface; i = statements; j = order; k = 0 }
+    nodeRecord (cell w n 1) (cell w n 2) ty def kind id fields interface statements order
 
 pub record Fillable (w : List ℕ) (place : ℕ) : Type 0 where
   pub some : 0 < place

@@ -130,20 +130,7 @@ pub fn open(
     journal_records::push(
         work,
         c,
-        Record {
-            tag: journal_records::TAG_SCOPE,
-            a: kind,
-            b: document,
-            c: proto.0,
-            d: index,
-            e: opener,
-            f: n,
-            g: 0,
-            h: 0,
-            i: 0,
-            j: 0,
-            k: 0,
-        },
+        Record::scope(kind, document, proto.0, index, opener, n),
     );
     let t = Counts {
         nodes: st.nodes,

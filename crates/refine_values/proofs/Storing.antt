@@ -6,6 +6,7 @@ use native.Mathlib.Omega.{arith}
 use lib.ListN.{length}
 use Rattle.journal_records.specs.declared.Record.{Record}
 use Rattle.journal_records.specs.Records.{tagExtern, tagNode, tagStored, tagScope, cell}
+use Rattle.journal_records.specs.Made.{storedRecord}
 use Rattle.journal_index.proofs.Keys.{keyed-low}
 use Rattle.journal_lists.specs.Owned.{headWord}
 use Rattle.journal_lists.specs.Families.{Joinable, familyJoined, Joined}
@@ -29,9 +30,6 @@ use Rattle.refine_records.proofs.Keeping.{not-of-body}
 pub store-full : (L : Limits) (w : List ℕ) (t : Counts) (name ty class payload h : ℕ) → L .rows ≤ t .charges → (a : Answer) → a ≡ Refused 10 0 0 → ValueKept L w t name ty class payload h w a
 store-full L w t name ty class payload h full a e = rw e (record { does = λ S young. charge-refused S young full; done = tt })
 
-abbrev pub storedOf : ℕ → ℕ → ℕ → ℕ → ℕ → Record
-storedOf name ty class payload h = record { tag = tagStored; a = 0; b = name; c = 0; d = 0; e = ty; f = class; g = payload; h = h; i = 0; j = 0; k = 0 }
-
 module _ (L : Limits) (w : List ℕ) (t : Counts) (name ty class payload h : ℕ) (st : Standing L w t) (k : Storable w (t .charges) class payload h) (room : t .charges < L .rows) where
   abbrev c : ℕ
   c = t .charges
@@ -39,7 +37,7 @@ module _ (L : Limits) (w : List ℕ) (t : Counts) (name ty class payload h : ℕ
   so : JournalSound L w t
   so = st .sound
 
-  pub store-joinable : Joinable w (headsAt L) (L .slots) (t .charges) (storedOf name ty class payload h)
+  pub store-joinable : Joinable w (headsAt L) (L .slots) (t .charges) (storedRecord name ty class payload h)
   store-joinable = record {
     room = record { records = omega arith; heads = st .ready .room; narrow = omega (arith, st .ready .rows) };
     index = so .index;
@@ -47,9 +45,9 @@ module _ (L : Limits) (w : List ℕ) (t : Counts) (name ty class payload h : ℕ
     behind = record { low = k .before .low; tag = k .before .tag; families = so .families };
   }
 
-  module _ (w′ : List ℕ) (long : length w′ ≡ length w) (p : Joined w w′ (headsAt L) (L .slots) (t .charges) (storedOf name ty class payload h)) where
+  module _ (w′ : List ℕ) (long : length w′ ≡ length w) (p : Joined w w′ (headsAt L) (L .slots) (t .charges) (storedRecord name ty class payload h)) where
     abbrev put : Record
-    put = familyJoined w′ c (storedOf name ty class payload h)
+    put = familyJoined w′ c (storedRecord name ty class payload h)
 
     calm : RecordsStay c w w′
     calm = calm-join p

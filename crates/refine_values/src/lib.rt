@@ -39,20 +39,7 @@ pub fn store(
         lim.rows * 12,
         lim.slots,
         c,
-        Record {
-            tag: journal_records::TAG_STORED,
-            a: 0,
-            b: name,
-            c: 0,
-            d: 0,
-            e: ty,
-            f: class,
-            g: payload,
-            h,
-            i: 0,
-            j: 0,
-            k: 0,
-        },
+        Record::stored(name, ty, class, payload, h),
     );
     let v = (c + 1) as u32;
     Answer::Done {

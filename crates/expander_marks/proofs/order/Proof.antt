@@ -5,6 +5,7 @@ use Rattle.expander_marks.proofs.order.Reads as reads
 use Rattle.expander_marks.proofs.order.Lts as lts
 use Rattle.expander_marks.proofs.step.Reads as step-reads
 use Rattle.expander_marks.proofs.take.Reads as take-reads
+use Rattle.journal_records.proofs.Record.order.Reads as order-reads
 use Rattle.refine_records.proofs.keep.Reads as keep-reads
 use Rattle.sheet_rows.proofs.row.row_at.Reads as row-at-reads
 use Rattle.sheet_walks.proofs.walk.seek.Reads as seek-reads
@@ -66,8 +67,11 @@ take-requires c κs = let s = stands BodyOrder (rows (now (c .before .before .be
 row-at-requires : tie.Need-row-at-requires Inv-loop μ-loop
 row-at-requires c κs = search needs
 
+order-requires : tie.Need-order-requires Inv-loop μ-loop
+order-requires c κs = search needs
+
 keep-requires : tie.Need-keep-requires Inv-loop μ-loop
-keep-requires c κs = (c .before .before .before .before .before .before .before .before .before .before .before .before .loop .inv .standing, order-keepable _ _ _ _ (c .before .before .before .before .before .before .before .before .before .before .before .before .loop .inv .handle))
+keep-requires c κs = (c .before .before .before .before .before .before .before .before .before .before .before .before .before .loop .inv .standing, rw (c .order .ensures) (order-keepable _ _ _ _ (c .before .before .before .before .before .before .before .before .before .before .before .before .before .loop .inv .handle)))
 
 enum-known-a : tie.Need-enum-known-a Inv-loop μ-loop
 enum-known-a c = search needs
@@ -76,16 +80,16 @@ enum-told-2 : tie.Need-enum-told-2 Inv-loop μ-loop
 enum-told-2 c = search needs
 
 same-length-2 : tie.Need-same-length-2 Inv-loop μ-loop
-same-length-2 c = (c .before .before .before .before .keep .kept .0) ∙ (c .before .before .before .before .before .before .before .before .before .before .before .before .before .before .before .before .before .loop .inv .long)
+same-length-2 c = (c .before .before .before .before .keep .kept .0) ∙ (c .before .before .before .before .before .before .before .before .before .before .before .before .before .before .before .before .before .before .loop .inv .long)
 
 returns-2 : tie.Need-returns-2 Inv-loop μ-loop
-returns-2 c = order-stop _ _ _ _ _ _ (c .before .before .before .before .before .before .before .before .before .before .before .before .before .before .before .before .before .loop .inv) (stands BodyOrder (rows (now (c .before .before .before .before .before .before .before .before .before .before .before .before .before .before .before .before .before .before .before .before .args .sheet))) (c .before .before .before .before .before .before .before .before .before .before .before .before .before .before .before .before .before .loop .at) (c .before .before .before .before .before .before .before .before .before .before .before .before .before .before .before .before .seek .ensures) (c .before .before .before .before .before .before .before .before .before .before .before .before .before .before .q .given .1)) (c .before .before .before .before .before .before .before .before .before .before .before .before .step .ensures) (c .before .before .before .before .before .before .before .before .before .before .take .ensures) (c .before .before .before .before .before .before .before .if1 .taken) (c .before .before .before .before .before .row-at .ensures) (c .before .before .before .before .keep .ensures) (c .enum-told2 .given .1)
+returns-2 c = order-stop _ _ _ _ _ _ (c .before .before .before .before .before .before .before .before .before .before .before .before .before .before .before .before .before .before .loop .inv) (stands BodyOrder (rows (now (c .before .before .before .before .before .before .before .before .before .before .before .before .before .before .before .before .before .before .before .before .before .args .sheet))) (c .before .before .before .before .before .before .before .before .before .before .before .before .before .before .before .before .before .before .loop .at) (c .before .before .before .before .before .before .before .before .before .before .before .before .before .before .before .before .before .seek .ensures) (c .before .before .before .before .before .before .before .before .before .before .before .before .before .before .before .q .given .1)) (c .before .before .before .before .before .before .before .before .before .before .before .before .before .step .ensures) (c .before .before .before .before .before .before .before .before .before .before .before .take .ensures) (c .before .before .before .before .before .before .before .before .if1 .taken) (c .before .before .before .before .before .before .row-at .ensures) (rw (c .before .before .before .before .before .order .ensures) at (c .before .before .before .before .keep .ensures)) (c .enum-told2 .given .1)
 
 loop-less : tie.Need-loop-less Inv-loop μ-loop
-loop-less c = let s = stands BodyOrder (rows (now (c .before .before .before .before .before .before .before .before .before .before .before .before .before .before .before .before .before .before .before .before .before .args .sheet))) (c .before .before .before .before .before .before .before .before .before .before .before .before .before .before .before .before .before .before .loop .at) (c .before .before .before .before .before .before .before .before .before .before .before .before .before .before .before .before .before .seek .ensures) (c .before .before .before .before .before .before .before .before .before .before .before .before .before .before .before .q .given .1) in omega (arith, s .from, s .below)
+loop-less c = let s = stands BodyOrder (rows (now (c .before .before .before .before .before .before .before .before .before .before .before .before .before .before .before .before .before .before .before .before .before .before .args .sheet))) (c .before .before .before .before .before .before .before .before .before .before .before .before .before .before .before .before .before .before .before .loop .at) (c .before .before .before .before .before .before .before .before .before .before .before .before .before .before .before .before .before .before .seek .ensures) (c .before .before .before .before .before .before .before .before .before .before .before .before .before .before .before .before .q .given .1) in omega (arith, s .from, s .below)
 
 loop-again : tie.Need-loop-again Inv-loop μ-loop
-loop-again c = order-more _ _ _ _ _ _ (c .before .before .before .before .before .before .before .before .before .before .before .before .before .before .before .before .before .before .loop .inv) (stands BodyOrder (rows (now (c .before .before .before .before .before .before .before .before .before .before .before .before .before .before .before .before .before .before .before .before .before .args .sheet))) (c .before .before .before .before .before .before .before .before .before .before .before .before .before .before .before .before .before .before .loop .at) (c .before .before .before .before .before .before .before .before .before .before .before .before .before .before .before .before .before .seek .ensures) (c .before .before .before .before .before .before .before .before .before .before .before .before .before .before .before .q .given .1)) (c .before .before .before .before .before .before .before .before .before .before .before .before .before .step .ensures) (c .before .before .before .before .before .before .before .before .before .before .before .take .ensures) (c .before .before .before .before .before .before .before .before .if1 .taken) (c .before .before .before .before .before .before .row-at .ensures) (c .before .before .before .before .before .keep .ensures) (c .before .a .given .1)
+loop-again c = order-more _ _ _ _ _ _ (c .before .before .before .before .before .before .before .before .before .before .before .before .before .before .before .before .before .before .before .loop .inv) (stands BodyOrder (rows (now (c .before .before .before .before .before .before .before .before .before .before .before .before .before .before .before .before .before .before .before .before .before .before .args .sheet))) (c .before .before .before .before .before .before .before .before .before .before .before .before .before .before .before .before .before .before .before .loop .at) (c .before .before .before .before .before .before .before .before .before .before .before .before .before .before .before .before .before .before .seek .ensures) (c .before .before .before .before .before .before .before .before .before .before .before .before .before .before .before .before .q .given .1)) (c .before .before .before .before .before .before .before .before .before .before .before .before .before .before .step .ensures) (c .before .before .before .before .before .before .before .before .before .before .before .before .take .ensures) (c .before .before .before .before .before .before .before .before .before .if1 .taken) (c .before .before .before .before .before .before .before .row-at .ensures) (rw (c .before .before .before .before .before .before .order .ensures) at (c .before .before .before .before .before .keep .ensures)) (c .before .a .given .1)
 
 loop-less-2 : tie.Need-loop-less-2 Inv-loop μ-loop
 loop-less-2 c = let s = stands BodyOrder (rows (now (c .before .before .before .before .before .before .before .before .before .before .before .before .before .args .sheet))) (c .before .before .before .before .before .before .before .before .before .before .loop .at) (c .before .before .before .before .before .before .before .before .before .seek .ensures) (c .before .before .before .before .before .before .before .q .given .1) in omega (arith, s .from, s .below)
@@ -112,6 +116,7 @@ order-spec =
     step-requires
     take-requires
     row-at-requires
+    order-requires
     keep-requires
     enum-known-a
     enum-told-2

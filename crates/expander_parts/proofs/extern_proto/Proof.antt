@@ -4,14 +4,15 @@ use Rattle.expander_parts.proofs.extern_proto.Statement.{statement}
 use Rattle.expander_parts.proofs.extern_proto.Tie as tie
 use Rattle.expander_parts.proofs.extern_proto.Reads as reads
 use Rattle.expander_parts.proofs.extern_proto.Lts as lts
-use Rattle.source_directory.proofs.number.Reads as number-reads
+use Rattle.expander_parts.proofs.count.Reads as count-reads
 use Rattle.journal_index.proofs.enter.Reads as enter-reads
 use Rattle.journal_index.proofs.find.Reads as find-reads
+use Rattle.journal_records.proofs.Record.extern_entry.Reads as extern-entry-reads
 use Rattle.journal_records.proofs.paid.Reads as paid-reads
 use Rattle.journal_records.proofs.word.Reads as word-reads
-use Rattle.sheet_lookup.proofs.rows.select.Reads as select-reads
-use Rattle.expander_parts.proofs.count.Reads as count-reads
 use Rattle.refine_records.proofs.too_many.Reads as too-many-reads
+use Rattle.sheet_lookup.proofs.rows.select.Reads as select-reads
+use Rattle.source_directory.proofs.number.Reads as number-reads
 use Rattle.source_lookup.proofs.extern_proto.Reads as extern-proto-reads
 use Rattle.source_lookup.proofs.mark.Reads as mark-reads
 use mathlib.Core.Path.{_≡_, refl}
@@ -104,29 +105,32 @@ mark-requires c κs = (c .before .before .before .before .before .before .before
 mul-enter : tie.Need-mul-enter
 mul-enter c = omega (arith, c .before .before .before .before .before .before .before .before .before .before .before .before .before .before .before .before .before .before .before .before .before .before .before .before .before .pre .0 .ready .rows)
 
+extern-entry-requires : tie.Need-extern-entry-requires
+extern-entry-requires c κs = search needs
+
 enter-requires : tie.Need-enter-requires
-enter-requires c κs = enterable (c .before .before .before .before .before .before .before .before .before .before .before .before .before .before .before .before .before .before .before .before .before .before .before .before .before .pre .0) (omega (arith, c .before .before .before .before .before .if1 .left, c .before .before .before .before .before .before .before .before .before .before .before .before .before .before .before .before .before .before .before .before .before .before .before .before .before .pre .0 .sound .charges)) _ refl
+enter-requires c κs = rw (c .extern-entry .ensures) (enterable (c .before .before .before .before .before .before .before .before .before .before .before .before .before .before .before .before .before .before .before .before .before .before .before .before .before .before .pre .0) (omega (arith, c .before .before .before .before .before .before .if1 .left, c .before .before .before .before .before .before .before .before .before .before .before .before .before .before .before .before .before .before .before .before .before .before .before .before .before .before .pre .0 .sound .charges)) _ refl)
 
 add-paid : tie.Need-add-paid
-add-paid c = omega (arith, c .before .before .before .before .before .before .before .before .before .if1 .left, c .before .before .before .before .before .before .before .before .before .before .before .before .before .before .before .before .before .before .before .before .before .before .before .before .before .before .before .before .before .pre .0 .sound .charges, c .before .before .before .before .before .before .before .before .before .before .before .before .before .before .before .before .before .before .before .before .before .before .before .before .before .before .before .before .before .pre .0 .ready .rows)
+add-paid c = omega (arith, c .before .before .before .before .before .before .before .before .before .before .if1 .left, c .before .before .before .before .before .before .before .before .before .before .before .before .before .before .before .before .before .before .before .before .before .before .before .before .before .before .before .before .before .before .pre .0 .sound .charges, c .before .before .before .before .before .before .before .before .before .before .before .before .before .before .before .before .before .before .before .before .before .before .before .before .before .before .before .before .before .before .pre .0 .ready .rows)
 
 paid-requires : tie.Need-paid-requires
-paid-requires c κs = omega (arith, c .before .before .before .before .before .before .before .before .before .if1 .left, c .before .before .before .before .before .before .before .before .before .before .before .before .before .before .before .before .before .before .before .before .before .before .before .before .before .before .before .before .before .pre .0 .sound .charges, c .before .before .before .before .before .before .before .before .before .before .before .before .before .before .before .before .before .before .before .before .before .before .before .before .before .before .before .before .before .pre .0 .ready .room, c .before .before .before .enter .kept .0)
+paid-requires c κs = omega (arith, c .before .before .before .before .before .before .before .before .before .before .if1 .left, c .before .before .before .before .before .before .before .before .before .before .before .before .before .before .before .before .before .before .before .before .before .before .before .before .before .before .before .before .before .before .pre .0 .sound .charges, c .before .before .before .before .before .before .before .before .before .before .before .before .before .before .before .before .before .before .before .before .before .before .before .before .before .before .before .before .before .before .pre .0 .ready .room, c .before .before .before .enter .kept .0)
 
 add-externs : tie.Need-add-externs
-add-externs c = omega (arith, externs-few (c .before .before .before .before .before .before .before .before .before .before .before .before .before .before .before .before .before .before .before .before .before .before .before .before .before .before .before .before .before .before .before .before .before .pre .0 .sound), c .before .before .before .before .before .before .before .before .before .before .before .before .before .before .before .before .before .before .before .before .before .before .before .before .before .before .before .before .before .before .before .before .before .pre .0 .sound .charges, c .before .before .before .before .before .before .before .before .before .before .before .before .before .before .before .before .before .before .before .before .before .before .before .before .before .before .before .before .before .before .before .before .before .pre .0 .ready .rows)
+add-externs c = omega (arith, externs-few (c .before .before .before .before .before .before .before .before .before .before .before .before .before .before .before .before .before .before .before .before .before .before .before .before .before .before .before .before .before .before .before .before .before .before .pre .0 .sound), c .before .before .before .before .before .before .before .before .before .before .before .before .before .before .before .before .before .before .before .before .before .before .before .before .before .before .before .before .before .before .before .before .before .before .pre .0 .sound .charges, c .before .before .before .before .before .before .before .before .before .before .before .before .before .before .before .before .before .before .before .before .before .before .before .before .before .before .before .before .before .before .before .before .before .before .pre .0 .ready .rows)
 
 add-charges : tie.Need-add-charges
-add-charges c = omega (arith, c .before .before .before .before .before .before .before .before .before .before .before .before .before .if1 .left, c .before .before .before .before .before .before .before .before .before .before .before .before .before .before .before .before .before .before .before .before .before .before .before .before .before .before .before .before .before .before .before .before .before .pre .0 .sound .charges, c .before .before .before .before .before .before .before .before .before .before .before .before .before .before .before .before .before .before .before .before .before .before .before .before .before .before .before .before .before .before .before .before .before .pre .0 .ready .rows)
+add-charges c = omega (arith, c .before .before .before .before .before .before .before .before .before .before .before .before .before .before .if1 .left, c .before .before .before .before .before .before .before .before .before .before .before .before .before .before .before .before .before .before .before .before .before .before .before .before .before .before .before .before .before .before .before .before .before .before .pre .0 .sound .charges, c .before .before .before .before .before .before .before .before .before .before .before .before .before .before .before .before .before .before .before .before .before .before .before .before .before .before .before .before .before .before .before .before .before .before .pre .0 .ready .rows)
 
 add-charges-2 : tie.Need-add-charges-2
-add-charges-2 c = omega (arith, c .before .before .before .before .before .before .before .before .before .before .before .before .before .if1 .left, c .before .before .before .before .before .before .before .before .before .before .before .before .before .before .before .before .before .before .before .before .before .before .before .before .before .before .before .before .before .before .before .before .before .pre .0 .sound .charges, c .before .before .before .before .before .before .before .before .before .before .before .before .before .before .before .before .before .before .before .before .before .before .before .before .before .before .before .before .before .before .before .before .before .pre .0 .ready .rows)
+add-charges-2 c = omega (arith, c .before .before .before .before .before .before .before .before .before .before .before .before .before .before .if1 .left, c .before .before .before .before .before .before .before .before .before .before .before .before .before .before .before .before .before .before .before .before .before .before .before .before .before .before .before .before .before .before .before .before .before .before .pre .0 .sound .charges, c .before .before .before .before .before .before .before .before .before .before .before .before .before .before .before .before .before .before .before .before .before .before .before .before .before .before .before .before .before .before .before .before .before .before .pre .0 .ready .rows)
 
 same-length-4 : tie.Need-same-length-4
 same-length-4 c = search needs
 
 returns-4 : tie.Need-returns-4
-returns-4 c = extern-done _ _ _ _ _ _ _ _ _ (c .before .before .before .before .before .before .before .before .before .before .before .before .before .before .before .before .before .before .before .before .before .before .before .before .before .before .before .before .number .ensures) (c .before .before .before .before .before .before .before .before .before .before .before .before .before .before .before .before .before .before .before .before .before .before .before .before .before .before .before .before .before .before .before .before .before .pre .0 .sound) (c .before .before .before .before .before .before .before .before .before .before .before .before .before .before .before .before .before .before .before .before .before .before .before .before .before .find .ensures) (c .before .before .before .before .before .before .before .before .before .before .before .before .before .before .before .before .before .before .before .before .before .before .before .enum-told .given .1) (c .before .before .before .before .before .before .before .before .before .before .before .before .before .before .before .before .before .before .before .before .before .extern-proto .ensures) (c .before .before .before .before .before .before .before .before .before .before .before .before .before .before .before .before .before .before .before .at .given .1) (c .before .before .before .before .before .before .before .before .before .before .before .before .before .before .before .before .before .select .ensures) (c .before .before .before .before .before .before .before .before .before .before .before .before .before .before .before .before .count .ensures) (c .before .before .before .before .before .before .before .before .before .before .before .before .before .before .before .count2 .ensures) (c .before .before .before .before .before .before .before .before .before .before .mark .ensures) (c .before .before .before .before .before .before .before .before .before .before .before .before .before .if1 .left) (c .before .before .before .before .before .before .before .enter .kept .0) (c .before .before .before .paid .kept .0) (c .before .before .before .before .before .before .before .enter .ensures) (c .before .before .before .paid .ensures)
+returns-4 c = extern-done _ _ _ _ _ _ _ _ _ (c .before .before .before .before .before .before .before .before .before .before .before .before .before .before .before .before .before .before .before .before .before .before .before .before .before .before .before .before .before .number .ensures) (c .before .before .before .before .before .before .before .before .before .before .before .before .before .before .before .before .before .before .before .before .before .before .before .before .before .before .before .before .before .before .before .before .before .before .pre .0 .sound) (c .before .before .before .before .before .before .before .before .before .before .before .before .before .before .before .before .before .before .before .before .before .before .before .before .before .before .find .ensures) (c .before .before .before .before .before .before .before .before .before .before .before .before .before .before .before .before .before .before .before .before .before .before .before .before .enum-told .given .1) (c .before .before .before .before .before .before .before .before .before .before .before .before .before .before .before .before .before .before .before .before .before .before .extern-proto .ensures) (c .before .before .before .before .before .before .before .before .before .before .before .before .before .before .before .before .before .before .before .before .at .given .1) (c .before .before .before .before .before .before .before .before .before .before .before .before .before .before .before .before .before .before .select .ensures) (c .before .before .before .before .before .before .before .before .before .before .before .before .before .before .before .before .before .count .ensures) (c .before .before .before .before .before .before .before .before .before .before .before .before .before .before .before .before .count2 .ensures) (c .before .before .before .before .before .before .before .before .before .before .before .mark .ensures) (c .before .before .before .before .before .before .before .before .before .before .before .before .before .before .if1 .left) (c .before .before .before .before .before .before .before .enter .kept .0) (c .before .before .before .paid .kept .0) (rw (c .before .before .before .before .before .before .before .before .extern-entry .ensures) at (c .before .before .before .before .before .before .before .enter .ensures)) (c .before .before .before .paid .ensures)
 
 pub extern-proto-spec : {M : Type 1} → statement M
 extern-proto-spec =
@@ -159,6 +163,7 @@ extern-proto-spec =
     cast-row
     mark-requires
     mul-enter
+    extern-entry-requires
     enter-requires
     add-paid
     paid-requires

@@ -7,6 +7,7 @@ use Rattle.expander_tops.proofs.top_statement.Lts as lts
 use Rattle.expander_cycle.proofs.copy.Reads as copy-reads
 use Rattle.expander_parts.proofs.extern_statement.Reads as extern-statement-reads
 use Rattle.expander_parts.proofs.route.Reads as route-reads
+use Rattle.journal_records.proofs.Record.statement.Reads as statement-reads
 use Rattle.refine_records.proofs.keep.Reads as keep-reads
 use Rattle.sheet_rows.proofs.row.row_at.Reads as row-at-reads
 use Rattle.source_lookup.proofs.SourcedLaws.{slot-root}
@@ -31,14 +32,17 @@ same-length c = search needs
 returns : tie.Need-returns
 returns c = top-node-stop _ _ _ _ _ _ _ _ _ (c .before .before .before .before .before .before .before .before .before .before .before .before .before .args .depth) (c .before .before .before .before .before .before .before .before .before .before .before .before .before .pre .0) (c .before .before .before .before .before .before .before .before .before .before .before .before .before .pre .1 .1) (c .before .before .before .before .before .before .before .before .row-at .ensures) (c .before .before .before .before .before .before .if1 .taken) (c .before .before .before .before .copy .ensures) (c .enum-told .given .1)
 
+statement-requires : tie.Need-statement-requires
+statement-requires c κs = search needs
+
 keep-requires : tie.Need-keep-requires
-keep-requires c κs = (here-later (went (c .before .before .before .before .before .before .copy .ensures) (c .before .before .a .given .1)) (c .before .before .before .before .before .before .before .before .before .before .before .before .before .before .before .pre .0) .standing, top-node-ready _ _ _ _ _ _ _ _ _ (c .before .before .before .before .before .before .before .before .before .before .before .before .before .before .before .args .depth) (c .before .before .before .before .before .before .before .before .before .before .before .before .before .before .before .pre .0) (c .before .before .before .before .before .before .before .before .before .before .before .before .before .before .before .pre .1 .1) (c .before .before .before .before .before .before .before .before .before .before .row-at .ensures) (c .before .before .before .before .before .before .before .before .if1 .taken) (c .before .before .before .before .before .before .copy .ensures) (c .before .before .a .given .1))
+keep-requires c κs = (here-later (went (c .before .before .before .before .before .before .before .copy .ensures) (c .before .before .before .a .given .1)) (c .before .before .before .before .before .before .before .before .before .before .before .before .before .before .before .before .pre .0) .standing, rw (c .statement .ensures) (top-node-ready _ _ _ _ _ _ _ _ _ (c .before .before .before .before .before .before .before .before .before .before .before .before .before .before .before .before .args .depth) (c .before .before .before .before .before .before .before .before .before .before .before .before .before .before .before .before .pre .0) (c .before .before .before .before .before .before .before .before .before .before .before .before .before .before .before .before .pre .1 .1) (c .before .before .before .before .before .before .before .before .before .before .before .row-at .ensures) (c .before .before .before .before .before .before .before .before .before .if1 .taken) (c .before .before .before .before .before .before .before .copy .ensures) (c .before .before .before .a .given .1)))
 
 same-length-2 : tie.Need-same-length-2
 same-length-2 c = search needs
 
 returns-2 : tie.Need-returns-2
-returns-2 c = top-node-kept _ _ _ _ _ _ _ _ _ (c .before .before .before .before .before .before .before .before .before .before .before .before .before .before .before .before .before .before .args .depth) (c .before .before .before .before .before .before .before .before .before .before .before .before .before .before .before .before .before .before .pre .0) (c .before .before .before .before .before .before .before .before .before .before .before .before .before .before .before .before .before .before .pre .1 .1) (c .before .before .before .before .before .before .before .before .before .before .before .before .before .row-at .ensures) (c .before .before .before .before .before .before .before .before .before .before .before .if1 .taken) (c .before .before .before .before .before .before .before .before .before .copy .ensures) (c .before .before .before .before .before .a .given .1) (c .before .before .keep .ensures)
+returns-2 c = top-node-kept _ _ _ _ _ _ _ _ _ (c .before .before .before .before .before .before .before .before .before .before .before .before .before .before .before .before .before .before .before .args .depth) (c .before .before .before .before .before .before .before .before .before .before .before .before .before .before .before .before .before .before .before .pre .0) (c .before .before .before .before .before .before .before .before .before .before .before .before .before .before .before .before .before .before .before .pre .1 .1) (c .before .before .before .before .before .before .before .before .before .before .before .before .before .before .row-at .ensures) (c .before .before .before .before .before .before .before .before .before .before .before .before .if1 .taken) (c .before .before .before .before .before .before .before .before .before .before .copy .ensures) (c .before .before .before .before .before .before .a .given .1) (rw (c .before .before .before .statement .ensures) at (c .before .before .keep .ensures))
 
 returns-3 : tie.Need-returns-3
 returns-3 c = top-proto _ _ _ _ _ _ _ _ _ (c .before .before .before .before .before .before .before .before .before .args .depth) (c .before .before .before .before .before .before .before .before .before .pre .0) (c .before .before .before .before .before .before .before .before .before .pre .1 .1) (c .before .before .before .before .row-at .ensures) (c .if2 .taken)
@@ -61,14 +65,17 @@ same-length-4 c = search needs
 returns-5 : tie.Need-returns-5
 returns-5 c = top-route _ _ _ _ _ _ _ _ _ (c .before .before .before .before .before .before .before .before .before .before .before .before .before .before .before .before .before .args .depth) (c .before .before .before .before .before .before .before .before .before .before .before .before .before .before .before .before .before .pre .0) (c .before .before .before .before .before .before .before .before .before .before .before .before .before .before .before .before .before .pre .1 .1) (c .before .before .before .before .before .before .before .before .before .before .before .before .row-at .ensures) (c .before .before .before .before .if4 .taken) (c .before .before .route .ensures)
 
+statement-requires-2 : tie.Need-statement-requires-2
+statement-requires-2 c κs = search needs
+
 keep-requires-2 : tie.Need-keep-requires-2
-keep-requires-2 c κs = (c .before .before .before .before .before .before .before .before .before .before .before .before .before .before .pre .0 .standing, top-other-ready _ _ _ _ _ _ _ _ _ (c .before .before .before .before .before .before .before .before .before .before .before .before .before .before .args .depth) (c .before .before .before .before .before .before .before .before .before .before .before .before .before .before .pre .0) (c .before .before .before .before .before .before .before .before .before .before .before .before .before .before .pre .1 .1) (c .before .before .before .before .before .before .before .before .before .row-at .ensures))
+keep-requires-2 c κs = (c .before .before .before .before .before .before .before .before .before .before .before .before .before .before .before .pre .0 .standing, rw (c .statement2 .ensures) (top-other-ready _ _ _ _ _ _ _ _ _ (c .before .before .before .before .before .before .before .before .before .before .before .before .before .before .before .args .depth) (c .before .before .before .before .before .before .before .before .before .before .before .before .before .before .before .pre .0) (c .before .before .before .before .before .before .before .before .before .before .before .before .before .before .before .pre .1 .1) (c .before .before .before .before .before .before .before .before .before .before .row-at .ensures)))
 
 same-length-5 : tie.Need-same-length-5
 same-length-5 c = search needs
 
 returns-6 : tie.Need-returns-6
-returns-6 c = top-other _ _ _ _ _ _ _ _ _ (c .before .before .before .before .before .before .before .before .before .before .before .before .before .before .before .before .before .args .depth) (c .before .before .before .before .before .before .before .before .before .before .before .before .before .before .before .before .before .pre .0) (c .before .before .before .before .before .before .before .before .before .before .before .before .before .before .before .before .before .pre .1 .1) (c .before .before .before .before .before .before .before .before .before .before .before .before .row-at .ensures) (c .before .before .before .before .before .before .before .before .before .before .if1 .left) (c .before .before .before .before .before .before .before .before .if2 .left) (c .before .before .before .before .before .before .if3 .left) (c .before .before .before .before .if4 .left) (c .before .before .keep2 .ensures)
+returns-6 c = top-other _ _ _ _ _ _ _ _ _ (c .before .before .before .before .before .before .before .before .before .before .before .before .before .before .before .before .before .before .args .depth) (c .before .before .before .before .before .before .before .before .before .before .before .before .before .before .before .before .before .before .pre .0) (c .before .before .before .before .before .before .before .before .before .before .before .before .before .before .before .before .before .before .pre .1 .1) (c .before .before .before .before .before .before .before .before .before .before .before .before .before .row-at .ensures) (c .before .before .before .before .before .before .before .before .before .before .before .if1 .left) (c .before .before .before .before .before .before .before .before .before .if2 .left) (c .before .before .before .before .before .before .before .if3 .left) (c .before .before .before .before .before .if4 .left) (rw (c .before .before .before .statement2 .ensures) at (c .before .before .keep2 .ensures))
 
 pub top-statement-spec : {M : Type 1} → statement M
 top-statement-spec =
@@ -80,6 +87,7 @@ top-statement-spec =
     enum-told
     same-length
     returns
+    statement-requires
     keep-requires
     same-length-2
     returns-2
@@ -90,6 +98,7 @@ top-statement-spec =
     route-requires
     same-length-4
     returns-5
+    statement-requires-2
     keep-requires-2
     same-length-5
     returns-6)

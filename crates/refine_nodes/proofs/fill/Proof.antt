@@ -4,6 +4,7 @@ use Rattle.refine_nodes.proofs.fill.Statement.{statement}
 use Rattle.refine_nodes.proofs.fill.Tie as tie
 use Rattle.refine_nodes.proofs.fill.Reads as reads
 use Rattle.refine_nodes.proofs.fill.Lts as lts
+use Rattle.journal_records.proofs.Record.node.Reads as node-reads
 use Rattle.journal_records.proofs.push.Reads as push-reads
 use Rattle.journal_records.proofs.word.Reads as word-reads
 use Rattle.words_lent.proofs.wide.Reads as wide-reads
@@ -21,6 +22,9 @@ word-requires c κs = search needs
 word-requires-2 : tie.Need-word-requires-2
 word-requires-2 c κs = search needs
 
+node-requires : tie.Need-node-requires
+node-requires c κs = search needs
+
 push-requires : tie.Need-push-requires
 push-requires c κs = search needs
 
@@ -28,9 +32,17 @@ same-length : tie.Need-same-length
 same-length c = search needs
 
 returns : tie.Need-returns
-returns c = fill-law _ _ (c .before .before .before .before .before .before .before .before .before .before .args .place) _ _ _ _ _ _ _ _ (c .before .before .before .before .before .before .before .before .wide .result) _ _ (c .before .before .before .before .before .before .before .before .wide .ensures .same) (c .before .before .before .before .before .before .word .ensures) (c .before .before .before .before .word2 .ensures) (c .before .before .push .ensures)
+returns c = fill-law _ _ (c .before .before .before .before .before .before .before .before .before .before .before .args .place) _ _ _ _ _ _ _ _ (c .before .before .before .before .before .before .before .before .before .wide .result) _ _ (c .before .before .before .before .before .before .before .before .before .wide .ensures .same) (c .before .before .before .before .before .before .before .word .ensures) (c .before .before .before .before .before .word2 .ensures) (rw (c .before .before .before .node .ensures) at (c .before .before .push .ensures))
 
 pub fill-spec : {M : Type 1} → statement M
 fill-spec =
     tie.close
-    (tie.spec wide-requires sub-n word-requires word-requires-2 push-requires same-length returns)
+    (tie.spec
+    wide-requires
+    sub-n
+    word-requires
+    word-requires-2
+    node-requires
+    push-requires
+    same-length
+    returns)

@@ -39,36 +39,40 @@ use Rattle.expander_cycle.proofs.values.value.Reads as values·value
 use Rattle.expander_cycle.proofs.values.value.Kinds as values·value-kinds
 use Rattle.expander_cycle.proofs.+contents-field+contents-fields+contents-interface+contents-interfaces+copy+instances-body+instances-given+instances-instantiate+instances-statement+instances-values+plain+values-value.Lts-values-value as values·value-lts
 use Rattle.expander_bindings.proofs.has_value.Reads as has-value-reads
-use Rattle.expander_fields.proofs.is_field.Reads as is-field-reads
 use Rattle.expander_bindings.proofs.is_given.Reads as is-given-reads
-use Rattle.expander_fields.proofs.is_interface.Reads as is-interface-reads
-use Rattle.expander_instances.proofs.record_instance.Reads as record-instance-reads
-use Rattle.source_directory.proofs.number.Reads as number-reads
 use Rattle.expander_cycle.proofs.contents.add_field.Reads as add-field-reads
 use Rattle.expander_cycle.proofs.elements.bare.Reads as bare-reads
 use Rattle.expander_cycle.proofs.elements.next.Reads as next-reads
 use Rattle.expander_cycle.proofs.elements.row_of.Reads as row-of-reads
 use Rattle.expander_cycle.proofs.instances.kept.Reads as kept-reads
 use Rattle.expander_cycle.proofs.origin.Reads as origin-reads
-use Rattle.journal_records.proofs.word.Reads as word-reads
-use Rattle.sheet_part.proofs.proto_at.Reads as proto-at-reads
+use Rattle.expander_fields.proofs.is_field.Reads as is-field-reads
+use Rattle.expander_fields.proofs.is_interface.Reads as is-interface-reads
+use Rattle.expander_instances.proofs.record_instance.Reads as record-instance-reads
 use Rattle.expander_parts.proofs.extern_proto.Reads as extern-proto-reads
 use Rattle.expander_parts.proofs.order.Reads as order-reads
 use Rattle.expander_parts.proofs.statements.Reads as statements-reads
+use Rattle.journal_records.proofs.Record.id.Reads as id-reads
+use Rattle.journal_records.proofs.Record.interface.Reads as interface-reads
+use Rattle.journal_records.proofs.Record.root.Reads as root-reads
+use Rattle.journal_records.proofs.Record.route.Reads as route-reads
+use Rattle.journal_records.proofs.word.Reads as word-reads
 use Rattle.refine_nodes.proofs.fill.Reads as fill-reads
-use Rattle.refine_records.proofs.keep.Reads as keep-reads
 use Rattle.refine_nodes.proofs.look.Reads as look-reads
 use Rattle.refine_nodes.proofs.map.Reads as map-reads
+use Rattle.refine_nodes.proofs.reserve.Reads as reserve-reads
+use Rattle.refine_records.proofs.keep.Reads as keep-reads
 use Rattle.refine_records.proofs.open.Reads as open-reads
 use Rattle.refine_records.proofs.own.Reads as own-reads
-use Rattle.refine_nodes.proofs.reserve.Reads as reserve-reads
 use Rattle.refine_values.proofs.store.Reads as store-reads
+use Rattle.sheet_part.proofs.proto_at.Reads as proto-at-reads
 use Rattle.sheet_rows.proofs.row.row_at.Reads as row-at-reads
+use Rattle.sheet_walks.proofs.walk.seek.Reads as seek-reads
+use Rattle.source_directory.proofs.number.Reads as number-reads
 use Rattle.source_lookup.proofs.last_field.Reads as last-field-reads
 use Rattle.source_lookup.proofs.node.Reads as node-reads
 use Rattle.source_lookup.proofs.proto.Reads as proto-reads
 use Rattle.source_lookup.proofs.target.Reads as target-reads
-use Rattle.sheet_walks.proofs.walk.seek.Reads as seek-reads
 use Rattle.words_lent.proofs.wide.Reads as wide-reads
 use Prim.Native.Nat.{_+_, _*_, _-_}
 use lib.ListN.{length}
@@ -283,7 +287,7 @@ abbrev pub contents·fields-cs : ℕ → contents·fields-lts.Claims
 contents·fields-cs t = (next-reads.Asked, next-reads.Learnt, contents·field-below t, contents·field.Post)
 
 abbrev pub contents·interface-cs : ℕ → contents·interface-lts.Claims
-contents·interface-cs t = (row-of-reads.Asked, row-of-reads.Learnt, is-interface-reads.Asked, is-interface-reads.Learnt, values·value-below t, values·value.Post, keep-reads.Asked, keep-reads.Learnt)
+contents·interface-cs t = (row-of-reads.Asked, row-of-reads.Learnt, is-interface-reads.Asked, is-interface-reads.Learnt, values·value-below t, values·value.Post, interface-reads.Asked, interface-reads.Learnt, keep-reads.Asked, keep-reads.Learnt)
 
 abbrev pub contents·interfaces-cs : ℕ → contents·interfaces-lts.Claims
 contents·interfaces-cs t = (next-reads.Asked, next-reads.Learnt, contents·interface-below t, contents·interface.Post)
@@ -301,7 +305,7 @@ abbrev pub instances·instantiate-cs : ℕ → instances·instantiate-lts.Claims
 instances·instantiate-cs t = (number-reads.Asked, number-reads.Learnt, proto-reads.Asked, proto-reads.Learnt, proto-at-reads.Asked, proto-at-reads.Learnt, instances·values-below t, instances·values.Post, open-reads.Asked, open-reads.Learnt, wide-reads.Asked, wide-reads.Learnt, instances·body-below t, instances·body.Post, row-of-reads.Asked, row-of-reads.Learnt, record-instance-reads.Asked, record-instance-reads.Learnt)
 
 abbrev pub instances·statement-cs : ℕ → instances·statement-lts.Claims
-instances·statement-cs t = (row-at-reads.Asked, row-at-reads.Learnt, copy-below t, copy.Post, map-reads.Asked, map-reads.Learnt, own-reads.Asked, own-reads.Learnt, kept-reads.Asked, kept-reads.Learnt, extern-proto-reads.Asked, extern-proto-reads.Learnt)
+instances·statement-cs t = (row-at-reads.Asked, row-at-reads.Learnt, copy-below t, copy.Post, map-reads.Asked, map-reads.Learnt, root-reads.Asked, root-reads.Learnt, own-reads.Asked, own-reads.Learnt, kept-reads.Asked, kept-reads.Learnt, extern-proto-reads.Asked, extern-proto-reads.Learnt, route-reads.Asked, route-reads.Learnt)
 
 abbrev pub instances·values-cs : ℕ → instances·values-lts.Claims
 instances·values-cs t = (seek-reads.Asked, seek-reads.Learnt, instances·given-below t, instances·given.Post)
@@ -310,4 +314,4 @@ abbrev pub plain-cs : ℕ → plain-lts.Claims
 plain-cs t = (reserve-reads.Asked, reserve-reads.Learnt, origin-reads.Asked, origin-reads.Learnt, contents·fields-below t, contents·fields.Post, row-of-reads.Asked, row-of-reads.Learnt, bare-reads.Asked, bare-reads.Learnt, fill-reads.Asked, fill-reads.Learnt, contents·interfaces-below t, contents·interfaces.Post, statements-reads.Asked, statements-reads.Learnt, order-reads.Asked, order-reads.Learnt)
 
 abbrev pub values·value-cs : ℕ → values·value-lts.Claims
-values·value-cs t = (row-of-reads.Asked, row-of-reads.Learnt, next-reads.Asked, next-reads.Learnt, copy-below t, copy.Post, keep-reads.Asked, keep-reads.Learnt)
+values·value-cs t = (row-of-reads.Asked, row-of-reads.Learnt, next-reads.Asked, next-reads.Learnt, copy-below t, copy.Post, id-reads.Asked, id-reads.Learnt, keep-reads.Asked, keep-reads.Learnt)

@@ -39,36 +39,40 @@ use Rattle.expander_cycle.proofs.values.value.Reads as values·value
 use Rattle.expander_cycle.proofs.values.value.Kinds as values·value-kinds
 use Rattle.expander_cycle.proofs.+contents-field+contents-fields+contents-interface+contents-interfaces+copy+instances-body+instances-given+instances-instantiate+instances-statement+instances-values+plain+values-value.Lts-values-value as values·value-lts
 use Rattle.expander_bindings.proofs.has_value.Reads as has-value-reads
-use Rattle.expander_fields.proofs.is_field.Reads as is-field-reads
 use Rattle.expander_bindings.proofs.is_given.Reads as is-given-reads
-use Rattle.expander_fields.proofs.is_interface.Reads as is-interface-reads
-use Rattle.expander_instances.proofs.record_instance.Reads as record-instance-reads
-use Rattle.source_directory.proofs.number.Reads as number-reads
 use Rattle.expander_cycle.proofs.contents.add_field.Reads as add-field-reads
 use Rattle.expander_cycle.proofs.elements.bare.Reads as bare-reads
 use Rattle.expander_cycle.proofs.elements.next.Reads as next-reads
 use Rattle.expander_cycle.proofs.elements.row_of.Reads as row-of-reads
 use Rattle.expander_cycle.proofs.instances.kept.Reads as kept-reads
 use Rattle.expander_cycle.proofs.origin.Reads as origin-reads
-use Rattle.journal_records.proofs.word.Reads as word-reads
-use Rattle.sheet_part.proofs.proto_at.Reads as proto-at-reads
+use Rattle.expander_fields.proofs.is_field.Reads as is-field-reads
+use Rattle.expander_fields.proofs.is_interface.Reads as is-interface-reads
+use Rattle.expander_instances.proofs.record_instance.Reads as record-instance-reads
 use Rattle.expander_parts.proofs.extern_proto.Reads as extern-proto-reads
 use Rattle.expander_parts.proofs.order.Reads as order-reads
 use Rattle.expander_parts.proofs.statements.Reads as statements-reads
+use Rattle.journal_records.proofs.Record.id.Reads as id-reads
+use Rattle.journal_records.proofs.Record.interface.Reads as interface-reads
+use Rattle.journal_records.proofs.Record.root.Reads as root-reads
+use Rattle.journal_records.proofs.Record.route.Reads as route-reads
+use Rattle.journal_records.proofs.word.Reads as word-reads
 use Rattle.refine_nodes.proofs.fill.Reads as fill-reads
-use Rattle.refine_records.proofs.keep.Reads as keep-reads
 use Rattle.refine_nodes.proofs.look.Reads as look-reads
 use Rattle.refine_nodes.proofs.map.Reads as map-reads
+use Rattle.refine_nodes.proofs.reserve.Reads as reserve-reads
+use Rattle.refine_records.proofs.keep.Reads as keep-reads
 use Rattle.refine_records.proofs.open.Reads as open-reads
 use Rattle.refine_records.proofs.own.Reads as own-reads
-use Rattle.refine_nodes.proofs.reserve.Reads as reserve-reads
 use Rattle.refine_values.proofs.store.Reads as store-reads
+use Rattle.sheet_part.proofs.proto_at.Reads as proto-at-reads
 use Rattle.sheet_rows.proofs.row.row_at.Reads as row-at-reads
+use Rattle.sheet_walks.proofs.walk.seek.Reads as seek-reads
+use Rattle.source_directory.proofs.number.Reads as number-reads
 use Rattle.source_lookup.proofs.last_field.Reads as last-field-reads
 use Rattle.source_lookup.proofs.node.Reads as node-reads
 use Rattle.source_lookup.proofs.proto.Reads as proto-reads
 use Rattle.source_lookup.proofs.target.Reads as target-reads
-use Rattle.sheet_walks.proofs.walk.seek.Reads as seek-reads
 use Rattle.words_lent.proofs.wide.Reads as wide-reads
 use Rattle.expander_cycle.proofs.+contents-field+contents-fields+contents-interface+contents-interfaces+copy+instances-body+instances-given+instances-instantiate+instances-statement+instances-values+plain+values-value.Proof.Setup.{μ-contents·field, μ-contents·fields, μ-contents·interface, μ-contents·interfaces, μ-copy, μ-instances·body, μ-instances·given, μ-instances·instantiate, μ-instances·statement, μ-instances·values, μ-plain, μ-values·value, contents·field-at, contents·field-below, contents·fields-at, contents·fields-below, contents·interface-at, contents·interface-below, contents·interfaces-at, contents·interfaces-below, copy-at, copy-below, instances·body-at, instances·body-below, instances·given-at, instances·given-below, instances·instantiate-at, instances·instantiate-below, instances·statement-at, instances·statement-below, instances·values-at, instances·values-below, plain-at, plain-below, values·value-at, values·value-below, contents·field-cs, contents·fields-cs, contents·interface-cs, contents·interfaces-cs, copy-cs, instances·body-cs, instances·given-cs, instances·instantiate-cs, instances·statement-cs, instances·values-cs, plain-cs, values·value-cs}
 use Prim.Native.Nat.{_+_, _*_, _-_}
@@ -140,8 +144,11 @@ values·value-same-length-2 t c = (c .before .before .before .before .copy .kept
 pub values·value-returns-3 : (t : ℕ) → values·value-lts.Need-returns-3 (values·value-cs t) (values·value-at t) values·value.Post values·value-Inv-loop values·value-μ-loop
 values·value-returns-3 t c = value-stop _ _ _ _ _ _ _ (c .before .before .before .before .before .before .before .before .before .before .before .before .before .before .before .before .before .before .before .args .row) (c .before .before .before .before .before .before .before .before .before .before .before .before .before .before .before .before .before .before .before .args .depth) (c .before .before .before .before .before .before .before .before .before .before .before .before .before .before .before .before .before .before .before .pre .1 .0) (c .before .before .before .before .before .before .before .before .before .before .before .loop .inv) (stands Ids _ (c .before .before .before .before .before .before .before .before .before .before .before .loop .at) (c .before .before .before .before .before .before .before .before .before .before .next .ensures) (c .before .before .before .before .before .before .before .before .q .given .1)) (c .before .before .before .before .before .before .row-of2 .ensures) (c .before .before .before .before .copy .ensures) (c .enum-told2 .given .1) (record { ty = 0; «data» = FieldData.Payload 0 })
 
+pub values·value-id-requires : (t : ℕ) → values·value-lts.Need-id-requires (values·value-cs t) (values·value-at t) values·value.Post values·value-Inv-loop values·value-μ-loop
+values·value-id-requires t c κs = search needs
+
 pub values·value-keep-requires : (t : ℕ) → values·value-lts.Need-keep-requires (values·value-cs t) (values·value-at t) values·value.Post values·value-Inv-loop values·value-μ-loop
-values·value-keep-requires t c κs = (here-later (went (c .before .before .before .before .before .before .copy .ensures) (c .before .before .a .given .1)) (value-here _ _ _ _ _ _ _ (c .before .before .before .before .before .before .before .before .before .before .before .before .before .before .before .before .before .before .before .before .before .args .row) (c .before .before .before .before .before .before .before .before .before .before .before .before .before .before .before .before .before .before .before .before .before .args .depth) (c .before .before .before .before .before .before .before .before .before .before .before .before .before .before .before .before .before .before .before .before .before .pre .1 .0) (c .before .before .before .before .before .before .before .before .before .before .before .before .before .loop .inv)) .standing, value-ready _ _ _ _ _ _ _ (c .before .before .before .before .before .before .before .before .before .before .before .before .before .before .before .before .before .before .before .before .before .args .row) (c .before .before .before .before .before .before .before .before .before .before .before .before .before .before .before .before .before .before .before .before .before .args .depth) (c .before .before .before .before .before .before .before .before .before .before .before .before .before .before .before .before .before .before .before .before .before .pre .1 .0) (c .before .before .before .before .before .before .before .before .before .before .before .before .before .loop .inv) (stands Ids _ (c .before .before .before .before .before .before .before .before .before .before .before .before .before .loop .at) (c .before .before .before .before .before .before .before .before .before .before .before .before .next .ensures) (c .before .before .before .before .before .before .before .before .before .before .q .given .1)) (c .before .before .before .before .before .before .before .before .row-of2 .ensures) (c .before .before .before .before .before .before .copy .ensures) (c .before .before .a .given .1))
+values·value-keep-requires t c κs = (here-later (went (c .before .before .before .before .before .before .before .copy .ensures) (c .before .before .before .a .given .1)) (value-here _ _ _ _ _ _ _ (c .before .before .before .before .before .before .before .before .before .before .before .before .before .before .before .before .before .before .before .before .before .before .args .row) (c .before .before .before .before .before .before .before .before .before .before .before .before .before .before .before .before .before .before .before .before .before .before .args .depth) (c .before .before .before .before .before .before .before .before .before .before .before .before .before .before .before .before .before .before .before .before .before .before .pre .1 .0) (c .before .before .before .before .before .before .before .before .before .before .before .before .before .before .loop .inv)) .standing, rw (c .id .ensures) (value-ready _ _ _ _ _ _ _ (c .before .before .before .before .before .before .before .before .before .before .before .before .before .before .before .before .before .before .before .before .before .before .args .row) (c .before .before .before .before .before .before .before .before .before .before .before .before .before .before .before .before .before .before .before .before .before .before .args .depth) (c .before .before .before .before .before .before .before .before .before .before .before .before .before .before .before .before .before .before .before .before .before .before .pre .1 .0) (c .before .before .before .before .before .before .before .before .before .before .before .before .before .before .loop .inv) (stands Ids _ (c .before .before .before .before .before .before .before .before .before .before .before .before .before .before .loop .at) (c .before .before .before .before .before .before .before .before .before .before .before .before .before .next .ensures) (c .before .before .before .before .before .before .before .before .before .before .before .q .given .1)) (c .before .before .before .before .before .before .before .before .before .row-of2 .ensures) (c .before .before .before .before .before .before .before .copy .ensures) (c .before .before .before .a .given .1)))
 
 pub values·value-enum-known-b : (t : ℕ) → values·value-lts.Need-enum-known-b (values·value-cs t) (values·value-at t) values·value.Post values·value-Inv-loop values·value-μ-loop
 values·value-enum-known-b t c = search needs
@@ -150,13 +157,13 @@ pub values·value-enum-told-3 : (t : ℕ) → values·value-lts.Need-enum-told-3
 values·value-enum-told-3 t c = search needs
 
 pub values·value-same-length-3 : (t : ℕ) → values·value-lts.Need-same-length-3 (values·value-cs t) (values·value-at t) values·value.Post values·value-Inv-loop values·value-μ-loop
-values·value-same-length-3 t c = (c .before .before .before .before .keep .kept .0) ∙ (c .before .before .before .before .before .before .before .before .before .before .before .copy .kept .1 .1 .1 .0) ∙ since (c .before .before .before .before .before .before .before .before .before .before .before .before .before .before .before .before .before .before .loop .inv .run) .long
+values·value-same-length-3 t c = (c .before .before .before .before .keep .kept .0) ∙ (c .before .before .before .before .before .before .before .before .before .before .before .before .copy .kept .1 .1 .1 .0) ∙ since (c .before .before .before .before .before .before .before .before .before .before .before .before .before .before .before .before .before .before .before .loop .inv .run) .long
 
 pub values·value-returns-4 : (t : ℕ) → values·value-lts.Need-returns-4 (values·value-cs t) (values·value-at t) values·value.Post values·value-Inv-loop values·value-μ-loop
-values·value-returns-4 t c = value-halt _ _ _ _ _ _ _ (c .before .before .before .before .before .before .before .before .before .before .before .before .before .before .before .before .before .before .before .before .before .before .before .before .before .before .args .row) (c .before .before .before .before .before .before .before .before .before .before .before .before .before .before .before .before .before .before .before .before .before .before .before .before .before .before .args .depth) (c .before .before .before .before .before .before .before .before .before .before .before .before .before .before .before .before .before .before .before .before .before .before .before .before .before .before .pre .1 .0) (c .before .before .before .before .before .before .before .before .before .before .before .before .before .before .before .before .before .before .loop .inv) (stands Ids _ (c .before .before .before .before .before .before .before .before .before .before .before .before .before .before .before .before .before .before .loop .at) (c .before .before .before .before .before .before .before .before .before .before .before .before .before .before .before .before .before .next .ensures) (c .before .before .before .before .before .before .before .before .before .before .before .before .before .before .before .q .given .1)) (c .before .before .before .before .before .before .before .before .before .before .before .before .before .row-of2 .ensures) (c .before .before .before .before .before .before .before .before .before .before .before .copy .ensures) (c .before .before .before .before .before .before .before .a .given .1) (c .before .before .before .before .keep .ensures) (c .enum-told3 .given .1) (record { ty = 0; «data» = FieldData.Payload 0 })
+values·value-returns-4 t c = value-halt _ _ _ _ _ _ _ (c .before .before .before .before .before .before .before .before .before .before .before .before .before .before .before .before .before .before .before .before .before .before .before .before .before .before .before .args .row) (c .before .before .before .before .before .before .before .before .before .before .before .before .before .before .before .before .before .before .before .before .before .before .before .before .before .before .before .args .depth) (c .before .before .before .before .before .before .before .before .before .before .before .before .before .before .before .before .before .before .before .before .before .before .before .before .before .before .before .pre .1 .0) (c .before .before .before .before .before .before .before .before .before .before .before .before .before .before .before .before .before .before .before .loop .inv) (stands Ids _ (c .before .before .before .before .before .before .before .before .before .before .before .before .before .before .before .before .before .before .before .loop .at) (c .before .before .before .before .before .before .before .before .before .before .before .before .before .before .before .before .before .before .next .ensures) (c .before .before .before .before .before .before .before .before .before .before .before .before .before .before .before .before .q .given .1)) (c .before .before .before .before .before .before .before .before .before .before .before .before .before .before .row-of2 .ensures) (c .before .before .before .before .before .before .before .before .before .before .before .before .copy .ensures) (c .before .before .before .before .before .before .before .before .a .given .1) (rw (c .before .before .before .before .before .id .ensures) at (c .before .before .before .before .keep .ensures)) (c .enum-told3 .given .1) (record { ty = 0; «data» = FieldData.Payload 0 })
 
 pub values·value-loop-less : (t : ℕ) → values·value-lts.Need-loop-less (values·value-cs t) (values·value-at t) values·value.Post values·value-Inv-loop values·value-μ-loop
-values·value-loop-less t c = let s = stands Ids _ (c .before .before .before .before .before .before .before .before .before .before .before .before .before .before .before .before .before .before .before .loop .at) (c .before .before .before .before .before .before .before .before .before .before .before .before .before .before .before .before .before .before .next .ensures) (c .before .before .before .before .before .before .before .before .before .before .before .before .before .before .before .before .q .given .1) in omega (arith, s .from, s .below)
+values·value-loop-less t c = let s = stands Ids _ (c .before .before .before .before .before .before .before .before .before .before .before .before .before .before .before .before .before .before .before .before .loop .at) (c .before .before .before .before .before .before .before .before .before .before .before .before .before .before .before .before .before .before .before .next .ensures) (c .before .before .before .before .before .before .before .before .before .before .before .before .before .before .before .before .before .q .given .1) in omega (arith, s .from, s .below)
 
 pub values·value-loop-again : (t : ℕ) → values·value-lts.Need-loop-again (values·value-cs t) (values·value-at t) values·value.Post values·value-Inv-loop values·value-μ-loop
-values·value-loop-again t c = value-again _ _ _ _ _ _ _ (c .before .before .before .before .before .before .before .before .before .before .before .before .before .before .before .before .before .before .before .before .before .before .before .before .before .before .before .args .row) (c .before .before .before .before .before .before .before .before .before .before .before .before .before .before .before .before .before .before .before .before .before .before .before .before .before .before .before .args .depth) (c .before .before .before .before .before .before .before .before .before .before .before .before .before .before .before .before .before .before .before .before .before .before .before .before .before .before .before .pre .1 .0) (c .before .before .before .before .before .before .before .before .before .before .before .before .before .before .before .before .before .before .before .loop .inv) (stands Ids _ (c .before .before .before .before .before .before .before .before .before .before .before .before .before .before .before .before .before .before .before .loop .at) (c .before .before .before .before .before .before .before .before .before .before .before .before .before .before .before .before .before .before .next .ensures) (c .before .before .before .before .before .before .before .before .before .before .before .before .before .before .before .before .q .given .1)) (c .before .before .before .before .before .before .before .before .before .before .before .before .before .before .row-of2 .ensures) (c .before .before .before .before .before .before .before .before .before .before .before .before .copy .ensures) (c .before .before .before .before .before .before .before .before .a .given .1) (c .before .before .before .before .before .keep .ensures) (c .before .b .given .1)
+values·value-loop-again t c = value-again _ _ _ _ _ _ _ (c .before .before .before .before .before .before .before .before .before .before .before .before .before .before .before .before .before .before .before .before .before .before .before .before .before .before .before .before .args .row) (c .before .before .before .before .before .before .before .before .before .before .before .before .before .before .before .before .before .before .before .before .before .before .before .before .before .before .before .before .args .depth) (c .before .before .before .before .before .before .before .before .before .before .before .before .before .before .before .before .before .before .before .before .before .before .before .before .before .before .before .before .pre .1 .0) (c .before .before .before .before .before .before .before .before .before .before .before .before .before .before .before .before .before .before .before .before .loop .inv) (stands Ids _ (c .before .before .before .before .before .before .before .before .before .before .before .before .before .before .before .before .before .before .before .before .loop .at) (c .before .before .before .before .before .before .before .before .before .before .before .before .before .before .before .before .before .before .before .next .ensures) (c .before .before .before .before .before .before .before .before .before .before .before .before .before .before .before .before .before .q .given .1)) (c .before .before .before .before .before .before .before .before .before .before .before .before .before .before .before .row-of2 .ensures) (c .before .before .before .before .before .before .before .before .before .before .before .before .before .copy .ensures) (c .before .before .before .before .before .before .before .before .before .a .given .1) (rw (c .before .before .before .before .before .before .id .ensures) at (c .before .before .before .before .before .keep .ensures)) (c .before .b .given .1)
