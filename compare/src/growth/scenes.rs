@@ -332,13 +332,27 @@ fn fragments(n: u32) -> Call {
     picked(names.clone(), vec![file_of_names(1, &names)], 1)
 }
 
-/// Names that have one word of a table of twice as many words as there are PROTOs, and one.
+/// Names of one remainder by twice as many as there are PROTOs, and one.
 fn fragments_of_one_rest(n: u32) -> Call {
     let names = several(n, |i| name_of_rest(2 * n as u64 + 1, 0, i as u64));
     picked(names.clone(), vec![file_of_names(1, &names)], 1)
 }
 
-/// A fragment that is not there, where the first PROTO's name has its word.
+/// Names in falling order.
+fn fragments_falling(n: u32) -> Call {
+    let names: Vec<u32> = (0..n).rev().collect();
+    picked(names.clone(), vec![file_of_names(1, &names)], 1)
+}
+
+/// Four Proto statements for each PROTO, those of a PROTO far from each other.
+fn fragments_declared_again(n: u32) -> Call {
+    let names: Vec<u32> = (0..n).collect();
+    let mut file = file_of_names(1, &names);
+    file.doc.top = several(4 * n, |i| Statement::Proto(i % n));
+    picked(names, vec![file], 1)
+}
+
+/// A fragment that is not there, of the same remainder as the first PROTO's name.
 fn fragments_absent(n: u32) -> Call {
     let names: Vec<u32> = (0..n).collect();
     let externs = several(n, |_| extern_of(vec![(1, Some(2 * n + 1))]));
@@ -358,7 +372,7 @@ fn dangling_protos(n: u32) -> Call {
     picked(vec![5; n as usize], vec![file], 1)
 }
 
-/// The same file, but its number has the place of another one's in the list of files.
+/// The same file, but its number is 256 more than another one's.
 fn second_file(n: u32) -> Call {
     let names: Vec<u32> = (0..n).collect();
     let mut files: Vec<File> = several(256, |i| file_of_names(if i == 0 { 1 } else { 9 }, &[1]));
@@ -593,6 +607,8 @@ pub fn all() -> Vec<(&'static str, Vec<Growing>)> {
             vec![
                 four("n externs by fragment", 500, fragments),
                 four("n externs by fragment, names of one rest", 500, fragments_of_one_rest),
+                four("n externs by fragment, names that fall", 500, fragments_falling),
+                four("n externs by fragment, four statements a PROTO", 500, fragments_declared_again),
                 four("n externs with a fragment that is not there", 800, fragments_absent),
                 four("n externs by fragment, one name", 500, fragments_of_one_name),
                 four("n externs, n Proto statements that lead nowhere", 800, dangling_protos),

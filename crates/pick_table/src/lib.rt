@@ -35,10 +35,11 @@ pub struct UrlChoice {
     pub memo: Memo,
 }
 
-// What a url leads to, by the file of its base.
+// What a url leads to, by the file of its base, which has a place in the table of bases. Another place would give the same.
 pub fn pick_from(
     library: &[u32],
     source: Source,
+    place: usize,
     fragment: u32,
     memo: Memo,
     slots: &mut [u32],
@@ -53,7 +54,7 @@ pub fn pick_from(
             memo,
         };
     }
-    let picked = pick_memo::pick_in(library, source.row, number, fragment, memo, slots);
+    let picked = pick_memo::pick_in(library, source.row, place, fragment, memo, slots);
     let memo = picked.memo;
     let top = picked.top;
     let TopProto::At { id, row: _ } = top else {
@@ -114,7 +115,7 @@ fn gather(
                 number: table.files[j],
                 row: table.rows[j],
             };
-            let led = pick_from(library, source, r.b, memo, &mut slots[..from]);
+            let led = pick_from(library, source, j, r.b, memo, &mut slots[..from]);
             memo = led.memo;
             at = after;
             let chosen = led.chosen;

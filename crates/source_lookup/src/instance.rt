@@ -81,7 +81,7 @@ pub fn pick_row<'a>(
                 number: dir[j + 1],
                 row: wide(dir[source_directory::ROWS + (j + 1)]),
             };
-            let led = pick_table::pick_from(library, source, r.b, memo, slots);
+            let led = pick_table::pick_from(library, source, j, r.b, memo, slots);
             memo = led.memo;
             let chosen = led.chosen;
             if let Chosen::Proto { document: _, id } = chosen {
