@@ -17,7 +17,7 @@ use Rattle.sheet_walks.specs.declared.walk.Found.the-variants as walked
 use Rattle.sheet_lookup.specs.Lookup.{rootAndFiles, Located}
 use Rattle.sheet_walks.specs.Walk.{rowsAt}
 use Rattle.sheet_walks.proofs.WalkLaws.{front-drop}
-use Rattle.pick_table.specs.Picks.{prototypeIn}
+use Rattle.pick_definition.specs.Picks.{prototypeIn}
 use Rattle.source_directory.specs.Directory.{numberOf, Slot}
 use Rattle.source_lookup.specs.declared.instance.Target.{Target}
 use Rattle.source_lookup.specs.declared.instance.Target.the-variants.{Plain, Of}

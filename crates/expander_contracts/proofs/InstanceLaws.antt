@@ -18,7 +18,7 @@ use Rattle.sheet_walks.specs.declared.walk.Found.the-variants.{At, Nothing}
 use Rattle.sheet_lookup.specs.Lookup.{rootAndFiles, Located}
 use Rattle.sheet_walks.specs.Walk.{rowsAt}
 use Rattle.sheet_walks.proofs.WalkLaws.{front-drop}
-use Rattle.pick_table.specs.Picks.{Prototype}
+use Rattle.pick_definition.specs.Picks.{Prototype}
 use Rattle.source_directory.specs.Directory.{numberOf, Slot}
 use Rattle.expansion_definition.specs.Input.{Input, docs}
 use Rattle.expansion_definition.specs.Scopes.{Scope}

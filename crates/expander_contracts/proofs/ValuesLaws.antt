@@ -13,7 +13,7 @@ use Rattle.sheet_rows.specs.Rows.{rest}
 use Rattle.sheet_rows.specs.Parse.{elements, interfaceOf, interfacesOf}
 use Rattle.sheet_walks.specs.Walk.{Stands}
 use Rattle.sheet_walks.proofs.WalkLaws.{rest-drop, each-at}
-use Rattle.pick_table.specs.Picks.{Prototype}
+use Rattle.pick_definition.specs.Picks.{Prototype}
 use Rattle.expansion_definition.specs.Input.{Input, lastField}
 use Rattle.expansion_definition.specs.Scopes.{Scope}
 use Rattle.expansion_definition.specs.State.{State, Result, refusal, ok, Comp, bindR, _>>=_, ret}

@@ -12,7 +12,7 @@ use Rattle.sheet_rows.specs.Rows.{rows, front, rest}
 use Rattle.sheet_rows.specs.Print.{row}
 use Rattle.sheet_rows.specs.Parse.{valueOf, fieldOf, interfaceOf, interfacesOf, statementOf, statementsOf, originOf}
 use Rattle.source_directory.specs.Directory.{numberOf, Slot}
-use Rattle.pick_table.specs.Picks.{Prototype}
+use Rattle.pick_definition.specs.Picks.{Prototype}
 use Rattle.expansion_definition.specs.Input.{Input, docs, lastField}
 use Rattle.expansion_definition.specs.Scopes.{Scope}
 use Rattle.expansion_definition.specs.State.{Comp, _>>=_, mapM, foldM, startState}

@@ -19,8 +19,8 @@ use Rattle.sheet_walks.specs.declared.walk.Found as walk
 use Rattle.sheet_walks.specs.declared.walk.Found.the-variants as walked
 use Rattle.sheet_lookup.specs.Lookup.{sheetOf, rootAndFiles, Located}
 use Rattle.sheet_walks.proofs.WalkLaws.{rest-drop}
-use Rattle.pick_table.specs.Picks.{pickOf, urlTaken}
-use Rattle.pick_table.specs.Chosen.{markOf, urlBy}
+use Rattle.pick_definition.specs.Picks.{pickOf, urlTaken}
+use Rattle.pick_definition.specs.Mark.{markOf, urlBy}
 use Rattle.expansion_definition.specs.Input.{Input, usedUrl}
 use Rattle.expansion_definition.specs.State.{State, Result, refusal, ok, Comp, bindR, _>>=_, _>>_, ret}
 use Rattle.expansion_definition.specs.Charges.{oneMore, charge, chargeEach}

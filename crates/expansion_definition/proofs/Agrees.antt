@@ -5,7 +5,7 @@ use mathlib.Core.List.{List, [], _∷_, _++_}
 use mathlib.Core.Option.{Option, none, some}
 use Prim.Native.Nat.{ℕ, suc}
 use Rattle.ast.specs.Ast.{FieldValue, FieldBinding, Field, InterfaceDecl, Node, ProtoDecl}
-use Rattle.pick_table.specs.Picks.{Prototype}
+use Rattle.pick_definition.specs.Picks.{Prototype}
 use Rattle.expansion_steps.specs.Steps.{Action, copyId, openDefault, copies}
 use Rattle.expansion_steps.proofs.Laws.{copies-map}
 use Rattle.expansion_definition.specs.Input.{Input, protoOfOrigin, lastField}

@@ -12,7 +12,7 @@ use Rattle.ast.specs.Ast.{NodeOrigin, FieldData, FieldValue, FieldBinding, Fiel
 use Rattle.ast.specs.Choice.{choose, andThen, orElse, mapO}
 use Rattle.ast.specs.Lists.{flat}
 use Rattle.ast.specs.Lookups.{nodeAt, externProtoAt}
-use Rattle.pick_table.specs.Picks.{Prototype}
+use Rattle.pick_definition.specs.Picks.{Prototype}
 use Rattle.expansion_steps.specs.Steps.{Kind, plainNode, instanceNode, Action, copyId, openDefault, addMapped, addPlain, addDefault, addBody, Mapped, count, Task, one, all, Run, mappedStep, plainStep, instanceStep, noAction, thenCopy, thenDefault, firstWorld, WholeRun}
 use Rattle.expansion_steps.specs.Steps
 use Rattle.expansion_definition.specs.Input.{Input, docs, usedUrl, protoOfOrigin, lastField}

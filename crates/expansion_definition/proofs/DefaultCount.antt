@@ -8,7 +8,7 @@ use Prim.Native.Nat.{ℕ, suc, _+_, _≤_}
 use native.Mathlib.Omega.{arith}
 use lib.ListN.{length, length-map}
 use Rattle.ast.specs.Ast.{FieldValue, FieldBinding, Field, InterfaceDecl, Node, ProtoDecl}
-use Rattle.pick_table.specs.Picks.{Prototype}
+use Rattle.pick_definition.specs.Picks.{Prototype}
 use Rattle.expansion_steps.specs.Lists.{Nodup, countIf}
 use Rattle.expansion_steps.proofs.ListLaws.{count-map, count-same}
 use Rattle.expansion_steps.specs.Steps.{Action, copyId, defaults, Instance, World, WholeRun, opened}

@@ -9,7 +9,7 @@ use native.Mathlib.Omega.{arith}
 use lib.ListN.{getElem?}
 use Rattle.ast.specs.Ast.{FieldValue, FieldBinding, Field, InterfaceDecl, Node, ProtoDecl}
 use Rattle.ast.specs.Choice.{andThen}
-use Rattle.pick_table.specs.Picks.{Prototype}
+use Rattle.pick_definition.specs.Picks.{Prototype}
 use Rattle.expansion_steps.specs.Steps.{Action, copyId, openDefault}
 use Rattle.expansion_definition.specs.Input.{Input, protoOfOrigin, lastField}
 use Rattle.expansion_definition.specs.Scopes.{Scope, scopeDocument}

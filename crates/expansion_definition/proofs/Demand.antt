@@ -14,7 +14,7 @@ use Rattle.ast.specs.Each.{Each}
 use Rattle.ast.specs.Expanded.{TopKept, InnerKept, InterfaceKept, NodeKept}
 use Rattle.ast.proofs.Basics.{each-mem, map-map}
 use Rattle.ast.specs.Lookups.{nodeAt, protoAt, externProtoAt}
-use Rattle.pick_table.specs.Picks.{Prototype}
+use Rattle.pick_definition.specs.Picks.{Prototype}
 use Rattle.expansion_steps.proofs.ListLaws.{nodup-map}
 use Rattle.expansion_steps.specs.Steps.{Kind, noNode, plainNode, instanceNode, Plain, Instance, ReachedIn, WholeRun}
 use Rattle.expansion_steps.proofs.Laws.{opened-all}

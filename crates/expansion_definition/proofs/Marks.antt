@@ -12,10 +12,10 @@ use borrow.Author.Tests.{eq-eqb, eqb-true}
 use Rattle.ast.specs.Ast.{Url, ExternProtoDecl, Document, File}
 use Rattle.ast.specs.Choice.{andThen, mapO}
 use Rattle.ast.specs.Lookups.{documents, externProtoAt}
-use Rattle.pick_table.specs.Picks.{Prototype, Pick, prototypeOf, Bases, Picked, pickUrl, remember, orNext, tryUrl, pickUrls, finalBases, pickOf, urlTaken}
-use Rattle.pick_table.specs.Walked.{PickedBy}
-use Rattle.pick_table.proofs.NewerLaws.{file-at}
-use Rattle.pick_table.proofs.WalkedLaws.{walked-whole}
+use Rattle.pick_definition.specs.Picks.{Prototype, Pick, prototypeOf, Bases, Picked, pickUrl, remember, orNext, tryUrl, pickUrls, finalBases, pickOf, urlTaken}
+use Rattle.pick_definition.specs.Walked.{PickedBy}
+use Rattle.pick_definition.proofs.NewerLaws.{file-at}
+use Rattle.pick_definition.proofs.WalkedLaws.{walked-whole}
 use Rattle.expansion_definition.specs.Input.{Input, docs, usedUrl}
 use Rattle.expansion_definition.specs.Externs.{isUsed, marked, declared}
 use Rattle.expansion_definition.specs.Expanded.{address, Supplied}

@@ -9,7 +9,7 @@ use lib.Dec.{eqb}
 use Rattle.ast.specs.Ast.{FieldValue, FieldBinding, Field, InterfaceDecl}
 use Rattle.ast.specs.Choice.{choose, andThen}
 use Rattle.ast.specs.Lists.{flat}
-use Rattle.pick_table.specs.Picks.{Prototype, member}
+use Rattle.pick_definition.specs.Picks.{Prototype, member}
 use Rattle.expansion_definition.specs.Input.{Input, lastField}
 use Rattle.expansion_definition.specs.Scopes.{Scope}
 use Rattle.expansion_definition.specs.State.{State, Result, refusal, ok, bindR}

@@ -13,7 +13,7 @@ use lib.Dec.{T, ltb, ltb→lt, lt→ltb}
 use Rattle.ast.specs.Ast.{NodeOrigin, FieldData, FieldValue, FieldBinding, Field, InterfaceDecl, Route, Statement, Association, Node, ProtoDecl, ExternProtoDecl}
 use Rattle.ast.specs.Choice.{andThen}
 use Rattle.ast.specs.Lookups.{nodeAt, protoAt, externProtoAt}
-use Rattle.pick_table.specs.Picks.{Prototype}
+use Rattle.pick_definition.specs.Picks.{Prototype}
 use Rattle.expansion_steps.specs.Steps.{World, WholeRun}
 use Rattle.expansion_definition.specs.Input.{Input, docs, protoOfOrigin, lastField}
 use Rattle.expansion_definition.specs.Scopes.{Scope}

@@ -13,7 +13,7 @@ use Rattle.ast.specs.Ast.{NodeOrigin, FieldData, FieldValue, FieldBinding, Fiel
 use Rattle.ast.specs.Choice.{choose, andThen, mapO}
 use Rattle.ast.specs.Expanded.{OriginKept}
 use Rattle.ast.specs.Lookups.{protoAt, externProtoAt}
-use Rattle.pick_table.specs.Picks.{Prototype, prototypeIn}
+use Rattle.pick_definition.specs.Picks.{Prototype, prototypeIn}
 use Rattle.expansion_definition.specs.Input.{Input, docs, usedUrl, protoOfOrigin, lastField}
 use Rattle.expansion_definition.specs.Scopes.{Scope}
 use Rattle.ast.specs.Ids.{dataIds, bindingIds}

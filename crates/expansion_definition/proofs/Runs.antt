@@ -14,7 +14,7 @@ use lib.Dec.{T, leb, ltb, ltb→lt, lt→ltb, le→leb}
 use Rattle.ast.specs.Ast.{NodeOrigin, FieldData, FieldValue, FieldBinding, Field, InterfaceDecl, Route, Statement, Association, Node, ProtoDecl, ExternProtoDecl, Document, File}
 use Rattle.ast.specs.Choice.{andThen}
 use Rattle.ast.specs.Lookups.{nodeAt, protoAt, externProtoAt}
-use Rattle.pick_table.specs.Picks.{Prototype}
+use Rattle.pick_definition.specs.Picks.{Prototype}
 use Rattle.expansion_definition.specs.Input.{Limits, Input, docs, protoOfOrigin, lastField}
 use Rattle.expansion_definition.specs.Scopes.{Scope}
 use Rattle.ast.specs.Ids.{dataIds}

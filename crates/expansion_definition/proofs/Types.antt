@@ -10,7 +10,7 @@ use Rattle.ast.proofs.Basics.{map-append}
 use Rattle.ast.specs.Ast.{NodeOrigin, FieldData, FieldValue, FieldBinding, Field, InterfaceDecl, Statement, Node, ProtoDecl}
 use Rattle.ast.specs.Choice.{andThen, mapO}
 use Rattle.ast.specs.Lookups.{nodeAt, protoAt}
-use Rattle.pick_table.specs.Picks.{Prototype}
+use Rattle.pick_definition.specs.Picks.{Prototype}
 use Rattle.expansion_definition.specs.Input.{Input, docs, protoOfOrigin, lastField}
 use Rattle.expansion_definition.specs.Scopes.{Scope, scopeDocument}
 use Rattle.expansion_definition.specs.State.{Bookkeeping, State, Result, refusal, ok, Comp, bindR, _>>=_, _>>_, ret, mapM, foldM, lookup, startState}

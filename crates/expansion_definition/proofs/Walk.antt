@@ -12,7 +12,7 @@ use Rattle.ast.proofs.Basics.{map-append}
 use Rattle.ast.specs.Ast.{NodeOrigin, FieldData, FieldValue, FieldBinding, Field, InterfaceDecl, Route, Statement, Association, ProtoInstance, Node, ProtoDecl, ExternProtoDecl}
 use Rattle.ast.specs.Choice.{choose, andThen}
 use Rattle.ast.specs.Lookups.{nodeAt, externProtoAt}
-use Rattle.pick_table.specs.Picks.{Prototype, member}
+use Rattle.pick_definition.specs.Picks.{Prototype, member}
 use Rattle.expansion_steps.specs.Steps.{instanceNode, Action, copyId, addMapped, addPlain, addDefault, addBody, Mapped, count, Task, one, all, Run, noAction, firstWorld, WholeRun}
 use Rattle.expansion_steps.proofs.Depth.{Within, mappedWithin, plainWithin, instanceWithin, noWithin, copyWithin, defaultWithin, within-run, append-within}
 use Rattle.expansion_steps.specs.Places.{Comes, here, inPlain, inValues, inRoot, inOthers, inCopy, afterCopy, inDefault, afterDefault, comes-left, comes-right}

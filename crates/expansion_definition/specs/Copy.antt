@@ -4,7 +4,7 @@ use mathlib.Core.Option.{Option, none, some}
 use Prim.Native.Nat.{ℕ, zero, suc}
 use Rattle.ast.specs.Ast.{Node}
 use Rattle.ast.specs.Lookups.{nodeAt, protoAt}
-use Rattle.pick_table.specs.Picks.{Prototype}
+use Rattle.pick_definition.specs.Picks.{Prototype}
 use Rattle.expansion_definition.specs.Input.{Input, docs, protoOfOrigin}
 use Rattle.expansion_definition.specs.State.{Comp, ret, fail, lookup}
 use Rattle.expansion_definition.specs.Values.{Env, src, Copier}

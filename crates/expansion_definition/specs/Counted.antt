@@ -6,7 +6,7 @@ use Prim.Native.Nat.{ℕ, _+_}
 use lib.ListN.{length}
 use Rattle.ast.specs.Ast.{FieldValue, FieldBinding, Field, InterfaceDecl, Statement, Node, ProtoDecl, Document}
 use Rattle.ast.specs.Choice.{andThen, orElse}
-use Rattle.pick_table.specs.Picks.{member}
+use Rattle.pick_definition.specs.Picks.{member}
 use Rattle.expansion_steps.specs.Steps.{World, Task, one, Run, mappedStep, plainStep, instanceStep, noAction, thenCopy, thenDefault}
 use Rattle.expansion_definition.specs.Input.{Input, lastField}
 use Rattle.expansion_definition.specs.Scopes.{Scope}

@@ -11,7 +11,7 @@ use Rattle.ast.specs.Choice.{mapO}
 use Rattle.ast.specs.Expanded.{IsExpanded}
 use Rattle.ast.specs.Lists.{flat}
 use Rattle.ast.specs.Lookups.{nodeAt, protoAt, externProtoAt}
-use Rattle.pick_table.specs.Picks.{Prototype, Pick, prototypeOf, pickUrl, pickOf}
+use Rattle.pick_definition.specs.Picks.{Prototype, Pick, prototypeOf, pickUrl, pickOf}
 use Rattle.expansion_steps.specs.Lists.{Nodup, countIf}
 use Rattle.expansion_steps.specs.Steps.{instanceNode, copyId, Plain, Instance, ReachedIn, World, addMapped, addPlain, addBody, firstWorld, Mapped, count, one, all, Run, WholeRun, opened}
 use Rattle.expansion_steps.specs.Places.{Comes}

@@ -6,7 +6,7 @@ use lib.Dec.{eqb}
 use Rattle.ast.specs.Ast.{NodeOrigin, FieldBinding, Field, Document, File}
 use Rattle.ast.specs.Choice.{choose, orElse}
 use Rattle.ast.specs.Lookups.{documents}
-use Rattle.pick_table.specs.Picks.{Prototype, pickOf, urlTaken, prototypeIn}
+use Rattle.pick_definition.specs.Picks.{Prototype, pickOf, urlTaken, prototypeIn}
 
 -- "max_nodes N", "max_depth D", "max_rows K"
 pub record Limits : Type 0 where

@@ -6,7 +6,7 @@ use lib.ListN.{length, getElem?, set}
 use lib.Dec.{eqb}
 use Rattle.ast.specs.Ast.{FieldValue, FieldBinding, Field, InterfaceDecl, Route, Statement, Association, ProtoInstance, Node, ProtoDecl}
 use Rattle.ast.specs.Choice.{choose, andThen, orElse}
-use Rattle.pick_table.specs.Picks.{Prototype}
+use Rattle.pick_definition.specs.Picks.{Prototype}
 use Rattle.expansion_definition.specs.Input.{Input, lastField}
 use Rattle.expansion_definition.specs.Scopes.{Scope}
 use Rattle.expansion_definition.specs.State.{State, ok, Comp, _>>=_, _>>_, ret, fail, foldM, withWorld, withNodes}

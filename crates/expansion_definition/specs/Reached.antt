@@ -8,7 +8,7 @@ use lib.ListN.{getElem?}
 use Rattle.ast.specs.Ast.{FieldValue, FieldBinding, Field, InterfaceDecl, Node, ProtoDecl}
 use Rattle.ast.specs.Choice.{choose, andThen}
 use Rattle.ast.specs.Lookups.{nodeAt, protoAt}
-use Rattle.pick_table.specs.Picks.{Prototype, member}
+use Rattle.pick_definition.specs.Picks.{Prototype, member}
 use Rattle.expansion_steps.specs.Steps.{Kind, noNode, plainNode, instanceNode, Action, copyId, openDefault, Graph}
 use Rattle.expansion_definition.specs.Input.{Input, docs, protoOfOrigin, lastField}
 use Rattle.expansion_definition.specs.Scopes.{Scope, scopeDocument, isBody}

@@ -5,8 +5,8 @@ use mathlib.Core.Option.{Option, none, some}
 use Prim.Native.Nat.{ℕ}
 use Rattle.ast.specs.Ast.{NodeOrigin, BodyElement, FieldData, FieldValue, FieldBinding, Field, InterfaceDecl, Route, Statement, Node, ProtoDecl, ExternProtoDecl, Url, Document}
 use Rattle.ast.specs.Lookups.{nodeAt, protoAt, externProtoAt}
-use Rattle.pick_file.specs.PickIn.{topProtos, firstNamed, pickIn}
-use Rattle.pick_table.specs.Picks.{libraryFile, pickUrl, member, remember, pickUrls, picksFrom, basesFrom, walkFiles, walk, picksUnder, picks, pickOf, prototypeIn}
+use Rattle.pick_definition.specs.PickIn.{topProtos, firstNamed, pickIn}
+use Rattle.pick_definition.specs.Picks.{libraryFile, pickUrl, member, remember, pickUrls, picksFrom, basesFrom, walkFiles, walk, picksUnder, picks, pickOf, prototypeIn}
 use Rattle.expansion_steps.specs.Lists.{countIf}
 use Rattle.expansion_definition.specs.Input.{Limits, Input, lastField}
 use Rattle.expansion_definition.specs.Scopes.{isBody}

@@ -2,7 +2,7 @@
 use mathlib.Core.Bool.{Bool, true, false}
 use mathlib.Core.List.{List, [], _∷_}
 use Prim.Native.Nat.{ℕ}
-use Rattle.pick_table.specs.Picks.{Prototype}
+use Rattle.pick_definition.specs.Picks.{Prototype}
 
 -- "Scope 0 is the root file. An instance opens a body scope; each declared default taken opens a default scope."
 -- A body: its PROTO, the opening scope. A default: its PROTO, the interface's index, the opening scope.

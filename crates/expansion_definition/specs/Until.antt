@@ -8,7 +8,7 @@ use Rattle.ast.specs.Ast.{NodeOrigin, FieldData, FieldValue, FieldBinding, Fiel
 use Rattle.ast.specs.Choice.{andThen}
 use Rattle.ast.specs.Lists.{flat}
 use Rattle.ast.specs.Lookups.{nodeAt, protoAt, externProtoAt}
-use Rattle.pick_table.specs.Picks.{Prototype, member}
+use Rattle.pick_definition.specs.Picks.{Prototype, member}
 use Rattle.expansion_steps.specs.Steps.{World, addMapped, addPlain, addDefault, addBody, count, copyId, Task, one, all, Run}
 use Rattle.expansion_definition.specs.Input.{Input, docs, protoOfOrigin, lastField}
 use Rattle.expansion_definition.specs.Scopes.{Scope}

@@ -9,7 +9,7 @@ use Rattle.sheet_check.specs.declared.grammar.Form.the-variants as form
 use Rattle.sheet_rows.specs.Rows.{rows}
 use Rattle.sheet_check.specs.Grammar.{checked}
 use Rattle.sheet_rows.specs.Parse.{documentOf}
-use Rattle.pick_table.specs.Picks.{Prototype}
+use Rattle.pick_definition.specs.Picks.{Prototype}
 use Rattle.expansion_definition.specs.Scopes.{Scope, scopeEntry}
 use Rattle.ast.specs.Lists.{flat}
 use Rattle.expansion_definition.specs.Expand.{LedgerEntry, Expansion, Answer, expand}

@@ -10,7 +10,7 @@ use lib.Dec.{T, ltb, ltb→lt}
 use Rattle.ast.specs.Ast.{NodeOrigin, FieldData, FieldValue, FieldBinding, Field, InterfaceDecl, Route, Statement, Association, ProtoInstance, Node, ProtoDecl, Url, ExternProtoDecl, File}
 use Rattle.ast.specs.Choice.{andThen, mapO}
 use Rattle.ast.specs.Lookups.{nodeAt, protoAt, externProtoAt}
-use Rattle.pick_table.specs.Picks.{Prototype}
+use Rattle.pick_definition.specs.Picks.{Prototype}
 use Rattle.ast.specs.Each.{Each}
 use Rattle.sheet_roundtrip.specs.Ranges.{IsName, IsPresent, DataInRange, ValueInRange, BindingInRange, FieldInRange, DefaultInRange, InterfaceInRange, RouteInRange, StatementInRange, AssociationInRange, InstanceInRange, OriginInRange, NodeInRange, ProtoInRange, ExternInterfaceInRange, UrlInRange, ExternProtoInRange, InRange, FileInRange}
 use Rattle.expansion_definition.specs.Input.{Input, docs, usedUrl, lastField}

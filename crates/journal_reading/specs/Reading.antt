@@ -12,8 +12,8 @@ use Rattle.sheet_rows.specs.Rows.{rows}
 use Rattle.sheet_rows.specs.Parse.{optional, statementOf, bodyElementOf, originOf, externProtoOf}
 use Rattle.sheet_rows.specs.Print.{row}
 use Rattle.sheet_lookup.specs.Lookup.{sheetOf}
-use Rattle.pick_table.specs.Picks.{Prototype}
-use Rattle.pick_table.specs.Chosen.{urlBy}
+use Rattle.pick_definition.specs.Picks.{Prototype}
+use Rattle.pick_definition.specs.Mark.{urlBy}
 use Rattle.expansion_definition.specs.Scopes.{Scope}
 use Rattle.expansion_definition.specs.State.{Entry, ExternEntry, State}
 use Rattle.expansion_definition.specs.Values.{Values}

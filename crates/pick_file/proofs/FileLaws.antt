@@ -24,7 +24,7 @@ use Rattle.sheet_walks.proofs.WalkLaws.{each-at, each-none, at-map, front-drop,
 use Rattle.ast.specs.declared.ProtoId.{ProtoId}
 use Rattle.pick_file.specs.declared.TopProto.{TopProto}
 use Rattle.pick_file.specs.declared.TopProto.the-variants as top
-use Rattle.pick_file.specs.PickIn.{topProtos, isNamed, firstNamed, pickIn}
+use Rattle.pick_definition.specs.PickIn.{topProtos, isNamed, firstNamed, pickIn}
 use Rattle.pick_file.specs.File.{idOf, protosFrom, StandsProto, NextProto, protosAt, FirstNamed}
 
 -- a column of the row that was read

@@ -12,7 +12,7 @@ use Rattle.sheet_index.specs.Index.{Filled}
 use Rattle.pick_file.specs.declared.ProtoIndex.{ProtoIndex}
 use Rattle.pick_file.specs.declared.TopProto.{TopProto}
 use Rattle.pick_file.specs.declared.TopProto.the-variants.{At, Nothing}
-use Rattle.pick_file.specs.PickIn.{topProtos, firstNamed}
+use Rattle.pick_definition.specs.PickIn.{topProtos, firstNamed}
 
 -- a sheet of at most 1,048,576 rows, as refusal 2 has it
 abbrev pub Capped : List ℕ → Type 0

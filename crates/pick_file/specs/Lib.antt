@@ -1,2 +1,1 @@
-pub mod PickIn
 pub mod File

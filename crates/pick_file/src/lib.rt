@@ -12,7 +12,7 @@ ghost use Rattle.sheet_rows.specs.Rows.{rows};
 ghost use Rattle.sheet_rows.specs.Parse.{elements, optional};
 ghost use Rattle.sheet_walks.specs.Walk.{Nth};
 ghost use Rattle.sheet_lookup.specs.Lookup.{documentAt};
-ghost use Rattle.pick_file.specs.PickIn.{isNamed, pickIn};
+ghost use Rattle.pick_definition.specs.PickIn.{isNamed, pickIn};
 ghost use Rattle.pick_file.specs.File.{Capped, idOf, NextProto, protosAt, ProtosIndexed, FirstNamed};
 
 // A top-level Proto statement: the id that it names, and its row.

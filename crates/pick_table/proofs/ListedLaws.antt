@@ -17,9 +17,9 @@ use Rattle.sheet_rows.specs.Parse.{elements, fileOf, filesOf}
 use Rattle.sheet_walks.specs.Walk.{Stands}
 use Rattle.sheet_walks.proofs.WalkLaws.{each-at, each-none, front-drop, rest-drop, at-drop}
 use Rattle.pick_table.specs.declared.table.Source.{Source}
-use Rattle.pick_table.specs.Picks.{libraryFile}
+use Rattle.pick_definition.specs.Picks.{libraryFile}
 use Rattle.pick_table.specs.Table.{IsFileOf, FilesListed}
-use Rattle.pick_table.proofs.NewerLaws.{newer-counts}
+use Rattle.pick_definition.proofs.NewerLaws.{newer-counts}
 use Rattle.pick_table.proofs.SourceLaws.{filesFrom}
 
 drop-one : {A : Type 0} (n : ℕ) (l : List A) (x : A) (t : List A) → drop n l ≡ x ∷ t → drop (suc n) l ≡ t

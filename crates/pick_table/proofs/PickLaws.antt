@@ -21,7 +21,7 @@ use Rattle.sheet_rows.specs.Parse.{kindOf, passes, elements, optional, urlOf, e
 use Rattle.sheet_walks.specs.Walk.{Stands}
 use Rattle.sheet_lookup.specs.Lookup.{documentAt}
 use Rattle.sheet_walks.proofs.WalkLaws.{elements-take, elements-pass, elements-stop, elements-end, each-at, each-none, front-drop, rest-drop}
-use Rattle.pick_file.specs.PickIn.{pickIn}
+use Rattle.pick_definition.specs.PickIn.{pickIn}
 use Rattle.pick_file.specs.File.{idOf}
 use Rattle.pick_file.specs.declared.TopProto.{TopProto}
 use Rattle.pick_file.specs.declared.TopProto.the-variants as top
@@ -32,13 +32,13 @@ use Rattle.pick_table.specs.declared.table.Source.{Source}
 use Rattle.pick_table.specs.declared.table.Table.{Table}
 use Rattle.pick_table.specs.declared.Chosen.{Chosen}
 use Rattle.pick_table.specs.declared.Chosen.the-variants.{Proto, Nothing}
-use Rattle.pick_table.specs.Picks.{Prototype, Bases, Picked, libraryFile, pickFrom, pickUrl, member, remember, orNext, pickUrls, basesFrom, Walked, fetched, walkFetched, walkFiles, walk, finalBases}
+use Rattle.pick_definition.specs.Picks.{Prototype, Bases, Picked, libraryFile, pickFrom, pickUrl, member, remember, orNext, pickUrls, basesFrom, Walked, fetched, walkFetched, walkFiles, walk, finalBases}
 use Rattle.pick_table.specs.Table.{basesOf, sourceAt, Empty, TableSound, FilesListed, Position, BaseAdded, IsFileOf}
 use Rattle.pick_table.specs.Chosen.{prototypeBy, Leads, Scratch, Tried, afterFile, FileTried, Final}
 use Rattle.pick_table.proofs.TableLaws.{position-known, position-new, count-is, base-at, sound-added, bases-added}
 use Rattle.pick_table.proofs.ListedLaws.{listed-on}
-use Rattle.pick_table.proofs.GrowLaws.{tried-known, tried-again, tried-full}
-use Rattle.pick_table.proofs.WalkedLaws.{walk-past}
+use Rattle.pick_definition.proofs.GrowLaws.{tried-known, tried-again, tried-full}
+use Rattle.pick_definition.proofs.WalkedLaws.{walk-past}
 
 -- ---- what a url leads to, by the file of its base
 

@@ -18,7 +18,7 @@ use Rattle.sheet_lookup.specs.Lookup.{documentAt}
 use Rattle.sheet_walks.specs.Walk.{Stands}
 use Rattle.sheet_walks.proofs.WalkLaws.{each-at, each-none, front-drop, rest-drop}
 use Rattle.pick_table.specs.declared.table.Source.{Source}
-use Rattle.pick_table.specs.Picks.{libraryFile}
+use Rattle.pick_definition.specs.Picks.{libraryFile}
 use Rattle.pick_table.specs.Table.{fileAt, IsFileOf}
 use Rattle.ast.proofs.OptionLaws.{or-assoc, or-none}
 

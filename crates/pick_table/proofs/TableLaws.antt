@@ -12,9 +12,9 @@ use lib.Seq.{length-take-le, take-suc-set, getD-set-same, getD-set-other}
 use Rattle.sheet_rows.specs.declared.row.Row.{Row}
 use Rattle.pick_table.specs.declared.table.Source.{Source}
 use Rattle.pick_table.specs.declared.table.Table.{Table}
-use Rattle.pick_table.specs.Picks.{member}
+use Rattle.pick_definition.specs.Picks.{member}
 use Rattle.pick_table.specs.Table.{basesOf, IsFileOf, sourceAt, TableSound, Position, BaseAdded}
-use Rattle.pick_table.proofs.MemberLaws.{member-at, member-none}
+use Rattle.pick_definition.proofs.MemberLaws.{member-at, member-none}
 
 -- a base among the first of a list, by its position
 module _ {bases : List ℕ} {count base j : ℕ} (p : Position bases count base j) where

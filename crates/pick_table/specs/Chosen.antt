@@ -16,22 +16,13 @@ use Rattle.pick_table.specs.declared.table.Source.{Source}
 use Rattle.pick_table.specs.declared.table.Table.{Table}
 use Rattle.pick_table.specs.declared.Chosen.{Chosen}
 use Rattle.pick_table.specs.declared.Chosen.the-variants.{Proto, Nothing}
-use Rattle.pick_table.specs.Picks.{Prototype, Bases, pickFrom, basesFrom, fetched, finalBases}
+use Rattle.pick_definition.specs.Picks.{Prototype, Bases, pickFrom, basesFrom, fetched, finalBases}
 use Rattle.pick_table.specs.Table.{fileAt, basesOf, FilesListed, TableSound}
 
 -- the prototype that an answer stands for
 abbrev pub prototypeBy : Chosen → Option Prototype
 prototypeBy (Proto document id) = some (record { document = document; proto = id .0 })
 prototypeBy Nothing = none
-
--- the url that was taken as a number: its index with one added, 0 where none was
-abbrev pub markOf : Option ℕ → ℕ
-markOf none = 0
-markOf (some k) = suc k
-
-abbrev pub urlBy : ℕ → Option ℕ
-urlBy zero = none
-urlBy (suc k) = some k
 
 -- what a url with a fragment leads to, by the file of its base
 abbrev pub Leads : List Row → Source → ℕ → Chosen → Type 0

@@ -12,7 +12,7 @@ use Rattle.sheet_rows.specs.Parse.{fileOf, filesOf}
 use Rattle.sheet_lookup.specs.Lookup.{documentAt}
 use Rattle.pick_table.specs.declared.table.Source.{Source}
 use Rattle.pick_table.specs.declared.table.Table.{Table}
-use Rattle.pick_table.specs.Picks.{Bases, libraryFile}
+use Rattle.pick_definition.specs.Picks.{Bases, libraryFile}
 
 -- the bases that a table holds, in order
 abbrev pub basesOf : Table → Bases
@@ -62,8 +62,3 @@ pub record BaseAdded (before : Table) (base : ℕ) (s : Source) (t : Table) : Ty
   pub bases : t .bases ≡ set (before .bases) (before .count) base
   pub files : t .files ≡ set (before .files) (before .count) (s .number)
   pub rows : t .rows ≡ set (before .rows) (before .count) (s .row)
-
--- the table once a base is looked for; it stays where the base is skipped
-abbrev pub tableAfter : Bases → Option Bases → Bases
-tableAfter bases none = bases
-tableAfter bases (some table) = table

@@ -14,14 +14,14 @@ use Rattle.sheet_rows.specs.Parse.{documentOf, filesOf}
 use Rattle.sheet_lookup.specs.Lookup.{sheetOf, rootAndFiles, documentAt}
 use Rattle.sheet_lookup.proofs.DocLaws.{begins-root}
 use Rattle.pick_table.specs.declared.table.Table.{Table}
-use Rattle.pick_table.specs.Picks.{libraryFile}
+use Rattle.pick_definition.specs.Picks.{libraryFile}
 use Rattle.pick_table.specs.Table.{IsFileOf}
-use Rattle.pick_table.specs.Walked.{PickedBy}
+use Rattle.pick_definition.specs.Walked.{PickedBy}
 use Rattle.pick_table.specs.Chosen.{Final}
-use Rattle.pick_table.proofs.MemberLaws.{member-here}
+use Rattle.pick_definition.proofs.MemberLaws.{member-here}
 use Rattle.pick_table.proofs.TableLaws.{count-is, base-at}
-use Rattle.pick_table.proofs.NewerLaws.{file-at}
-use Rattle.pick_table.proofs.WalkedLaws.{walked-whole}
+use Rattle.pick_definition.proofs.NewerLaws.{file-at}
+use Rattle.pick_definition.proofs.WalkedLaws.{walked-whole}
 use Rattle.words_lent.specs.Words.{Outside}
 use Rattle.source_directory.specs.Directory.{size, numberOf, rowOf, baseOf, baseCount, Slot, DocumentBegins, TableStored, basesFound, Directory}
 use Rattle.words_lent.proofs.WordLaws.{three, three-first, three-second, three-third, three-other}

@@ -14,8 +14,8 @@ use Rattle.sheet_walks.specs.declared.walk.Found.the-variants.{At}
 use Rattle.sheet_walks.specs.Walk.{Nth}
 use Rattle.sheet_lookup.specs.Lookup.{sheetOf, rootAndFiles, documentAt}
 use Rattle.pick_table.specs.declared.table.Table.{Table}
-use Rattle.pick_table.specs.Picks.{Bases, finalBases}
-use Rattle.pick_table.specs.Walked.{PickedBy}
+use Rattle.pick_definition.specs.Picks.{Bases, finalBases}
+use Rattle.pick_definition.specs.Walked.{PickedBy}
 use Rattle.pick_table.specs.Table.{IsFileOf}
 
 -- how many words it has at least

@@ -4,7 +4,7 @@ use mathlib.Core.List.{List}
 use Prim.Native.Nat.{ℕ, zero, suc}
 use Rattle.ast.specs.Ast.{Document, File}
 use Rattle.ast.specs.Choice.{mapO}
-use Rattle.pick_table.specs.Picks.{prototypeOf, pickOf, prototypeIn}
+use Rattle.pick_definition.specs.Picks.{prototypeOf, pickOf, prototypeIn}
 use Rattle.source_lookup.specs.declared.instance.Target.{Target}
 use Rattle.source_lookup.specs.declared.instance.Target.the-variants.{Plain, Of}
 use Rattle.source_directory.specs.Directory.{numberOf, Slot}

@@ -23,16 +23,16 @@ use Rattle.sheet_walks.specs.declared.walk.Found.{Found}
 use Rattle.sheet_walks.specs.declared.walk.Found.the-variants as found
 use Rattle.sheet_walks.specs.Walk.{Stands}
 use Rattle.sheet_lookup.specs.Lookup.{sheetOf, documentAt, Looked}
-use Rattle.pick_file.specs.PickIn.{pickIn}
+use Rattle.pick_definition.specs.PickIn.{pickIn}
 use Rattle.pick_table.specs.declared.table.Source.{Source}
 use Rattle.pick_table.specs.declared.Chosen.{Chosen}
 use Rattle.pick_table.specs.declared.Chosen.the-variants.{Proto, Nothing}
-use Rattle.pick_table.specs.Picks.{Prototype, Pick, Bases, Picked, pickUrl, member, orNext, pickUrls, pickOf}
+use Rattle.pick_definition.specs.Picks.{Prototype, Pick, Bases, Picked, pickUrl, member, orNext, pickUrls, pickOf}
 use Rattle.pick_table.specs.Table.{Position}
 use Rattle.pick_table.specs.Chosen.{prototypeBy, Leads}
-use Rattle.pick_table.proofs.MemberLaws.{member-here, member-index}
-use Rattle.pick_table.proofs.GrowLaws.{tried-known, tried-unknown}
-use Rattle.pick_table.proofs.WalkedLaws.{some-below}
+use Rattle.pick_definition.proofs.MemberLaws.{member-here, member-index}
+use Rattle.pick_definition.proofs.GrowLaws.{tried-known, tried-unknown}
+use Rattle.pick_definition.proofs.WalkedLaws.{some-below}
 use Rattle.pick_table.proofs.PickLaws.{urlIn, urlsFrom, urls-at, urls-none, extern-urls, url-leads}
 use Rattle.source_lookup.specs.declared.instance.Target.the-variants.{Plain, Of}
 use Rattle.source_directory.specs.Directory.{numberOf, rowOf, baseOf, baseCount, Slot, basesFound, Directory}

@@ -10,8 +10,8 @@ use Rattle.ast.specs.Choice.{choose, mapO}
 use Rattle.sheet_rows.specs.declared.row.Row.{Row}
 use Rattle.sheet_rows.specs.Rows.{rows}
 use Rattle.sheet_rows.specs.Parse.{externProtoOf, filesOf}
-use Rattle.pick_table.specs.Picks.{Prototype, Pick, Picked, pickUrls, prototypeOf, urlTaken}
-use Rattle.pick_table.specs.Chosen.{markOf}
+use Rattle.pick_definition.specs.Picks.{Prototype, Pick, Picked, pickUrls, prototypeOf, urlTaken}
+use Rattle.pick_definition.specs.Mark.{markOf}
 use Rattle.source_lookup.specs.declared.instance.Target.{Target}
 use Rattle.source_lookup.specs.declared.instance.Target.the-variants.{Plain, Of}
 use Rattle.source_directory.specs.Directory.{numberOf, Slot, basesFound}

@@ -5,7 +5,7 @@ use Prim.Native.Nat.{ℕ, _+_, _*_, _≤_, _<_}
 use lib.ListN.{length, getD}
 use Rattle.sheet_rows.specs.Rows.{rows}
 use Rattle.sheet_rows.specs.Parse.{documentOf, filesOf}
-use Rattle.pick_table.specs.Picks.{pickOf}
+use Rattle.pick_definition.specs.Picks.{pickOf}
 use Rattle.source_names.specs.Names.{TablesListed}
 use Rattle.source_directory.specs.Directory.{fromOf, endOf, cacheOf, cachedOf, namesOf, spreadOf, Slot, Directory, HeldAt}
 use Rattle.source_lookup.specs.Instance.{PickedAs, targetAt}

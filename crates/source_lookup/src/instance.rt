@@ -19,7 +19,7 @@ ghost use lib.ListN.{length};
 ghost use Rattle.sheet_rows.specs.Rows.{rows};
 ghost use Rattle.sheet_rows.specs.Parse.{externProtoOf, documentOf, filesOf};
 ghost use Rattle.sheet_lookup.specs.Lookup.{sheetOf, documentAt, Looked};
-ghost use Rattle.pick_table.specs.Picks.{pickOf};
+ghost use Rattle.pick_definition.specs.Picks.{pickOf};
 ghost use Rattle.pick_memo.specs.Memo.{MemoSound};
 ghost use Rattle.source_directory.specs.Directory.{numberOf, rowOf, Slot, basesFound, Directory};
 ghost use Rattle.source_lookup.specs.Instance.{PickedAs, targetAt, urlsPicked};

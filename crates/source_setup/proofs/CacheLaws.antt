@@ -15,7 +15,7 @@ use Rattle.sheet_walks.specs.declared.walk.Found.{Found}
 use Rattle.sheet_walks.specs.declared.walk.Found.the-variants.{At}
 use Rattle.sheet_lookup.specs.Lookup.{sheetOf, documentAt, Looked}
 use Rattle.pick_memo.specs.declared.Memo.{Memo}
-use Rattle.pick_table.specs.Picks.{Prototype, Pick, pickOf}
+use Rattle.pick_definition.specs.Picks.{Prototype, Pick, pickOf}
 use Rattle.source_lookup.specs.declared.instance.Target.{Target}
 use Rattle.source_lookup.specs.declared.instance.Target.the-variants.{Plain, Of}
 use Rattle.words_lent.specs.Words.{Outside}

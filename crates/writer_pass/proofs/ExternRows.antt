@@ -20,7 +20,7 @@ use Rattle.sheet_walks.specs.Walk.{Stands}
 use Rattle.sheet_lookup.specs.Lookup.{sheetOf}
 use Rattle.sheet_walks.proofs.WalkLaws.{front-drop, rest-drop}
 use Rattle.expansion_definition.specs.Externs.{isUsed, noValue, marked}
-use Rattle.pick_table.specs.Chosen.{urlBy}
+use Rattle.pick_definition.specs.Mark.{urlBy}
 use Rattle.journal_records.specs.Records.{tagExtern, cell}
 use Rattle.ast.specs.Ast.{ExternProtoDecl}
 use Rattle.journal_records.specs.Logs.{logUp}

@@ -9,7 +9,7 @@ use Rattle.sheet_rows.specs.Rows.{front}
 use Rattle.sheet_rows.specs.Parse.{kindOf, elements, externProtoOf}
 use Rattle.sheet_rows.specs.Print.{row, mark, externProtoRows}
 use Rattle.ast.specs.Choice.{choose}
-use Rattle.pick_table.specs.Chosen.{urlBy}
+use Rattle.pick_definition.specs.Mark.{urlBy}
 use Rattle.expansion_definition.specs.Externs.{declared}
 
 -- a url's row, or an interface's of class 0

@@ -10,8 +10,8 @@ use lib.Dec.{eqb}
 use borrow.Author.Tests.{eq-eqb, ne-eqb}
 use Rattle.ast.specs.Ast.{File}
 use Rattle.ast.specs.Choice.{choose, orElse}
-use Rattle.pick_table.specs.Picks.{libraryFile, pickUrl}
-use Rattle.pick_table.specs.Newer.{Newest, NewerCounts}
+use Rattle.pick_definition.specs.Picks.{libraryFile, pickUrl}
+use Rattle.pick_definition.specs.Newer.{Newest, NewerCounts}
 
 -- the library's file of a base is the one of its number
 pub file-at : (base n : ℕ) (l : List File) (m : ℕ) (f : File) → libraryFile base n l ≡ some (m, f) → (n ≤ m) × (getElem? l (m - n) ≡ some f)

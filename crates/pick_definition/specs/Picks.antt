@@ -7,7 +7,7 @@ use lib.ListN.{length, getElem?}
 use lib.Dec.{ltb, eqb}
 use Rattle.ast.specs.Ast.{NodeOrigin, Url, ExternProtoDecl, Document, File}
 use Rattle.ast.specs.Choice.{choose, andThen, orElse, mapO}
-use Rattle.pick_file.specs.PickIn.{pickIn}
+use Rattle.pick_definition.specs.PickIn.{pickIn}
 
 -- a prototype: the number of its document, and the PROTO's id in it
 pub record Prototype : Type 0 where

@@ -7,7 +7,7 @@ use Prim.Native.Nat.{ℕ, _≤_, _<_}
 use lib.ListN.{length, getElem?}
 use Rattle.ast.specs.Ast.{ExternProtoDecl, Document, File}
 use Rattle.ast.specs.Choice.{andThen}
-use Rattle.pick_table.specs.Picks.{Pick, Bases, libraryFile, member, pickUrls, finalBases, pickOf}
+use Rattle.pick_definition.specs.Picks.{Pick, Bases, libraryFile, member, pickUrls, finalBases, pickOf}
 
 -- "a fetched file (one found for a base in the table, pick or none)": document d is one
 pub record Fetched (library : List File) (bases : Bases) (d : ℕ) : Type 0 where

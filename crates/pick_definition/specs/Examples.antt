@@ -5,8 +5,8 @@ use mathlib.Core.List.{List, [], _∷_, map}
 use mathlib.Core.Option.{Option, none, some}
 use Prim.Native.Nat.{ℕ, zero, suc}
 use Rattle.ast.specs.Ast.{NodeOrigin, Statement, Url, Document, File}
-use Rattle.pick_file.specs.PickIn.{topProtos, firstNamed, pickIn}
-use Rattle.pick_table.specs.Picks.{Pick, libraryFile, pickUrl, member, remember, pickUrls, picksFrom, basesFrom, walkFiles, walk, finalBases, picksUnder, picks, pickOf, prototypeIn}
+use Rattle.pick_definition.specs.PickIn.{topProtos, firstNamed, pickIn}
+use Rattle.pick_definition.specs.Picks.{Pick, libraryFile, pickUrl, member, remember, pickUrls, picksFrom, basesFrom, walkFiles, walk, finalBases, picksUnder, picks, pickOf, prototypeIn}
 
 -- a root with an extern for each list of urls
 abbrev root : List (List Url) → Document

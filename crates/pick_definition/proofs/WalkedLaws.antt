@@ -11,12 +11,12 @@ use lib.Dec.{ltb, eqb}
 use borrow.Author.Tests.{eq-eqb, ne-eqb}
 use Rattle.ast.specs.Ast.{Url, ExternProtoDecl, Document, File}
 use Rattle.ast.specs.Choice.{choose, andThen, mapO}
-use Rattle.pick_file.specs.PickIn.{pickIn}
-use Rattle.pick_table.specs.Picks.{Prototype, Pick, Bases, Picked, libraryFile, pickFrom, pickUrl, member, remember, orNext, tryUrl, pickUrls, picksFrom, basesFrom, Walked, fetched, walkFetched, walkFiles, walk, finalBases, picksUnder, picks, pickOf}
-use Rattle.pick_table.specs.Walked.{Fetched, pickBases, Settled, PickedBy, WalkedWhole}
-use Rattle.pick_table.proofs.MemberLaws.{member-last, member-here, member-index}
-use Rattle.pick_table.proofs.NewerLaws.{file-at}
-use Rattle.pick_table.proofs.GrowLaws.{Grows, grows-same, grows-on, grows-all, final, stays}
+use Rattle.pick_definition.specs.PickIn.{pickIn}
+use Rattle.pick_definition.specs.Picks.{Prototype, Pick, Bases, Picked, libraryFile, pickFrom, pickUrl, member, remember, orNext, tryUrl, pickUrls, picksFrom, basesFrom, Walked, fetched, walkFetched, walkFiles, walk, finalBases, picksUnder, picks, pickOf}
+use Rattle.pick_definition.specs.Walked.{Fetched, pickBases, Settled, PickedBy, WalkedWhole}
+use Rattle.pick_definition.proofs.MemberLaws.{member-last, member-here, member-index}
+use Rattle.pick_definition.proofs.NewerLaws.{file-at}
+use Rattle.pick_definition.proofs.GrowLaws.{Grows, grows-same, grows-on, grows-all, final, stays}
 
 -- ---- what the urls of an extern lead to
 

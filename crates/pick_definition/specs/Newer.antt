@@ -5,7 +5,7 @@ use mathlib.Core.Option.{none, some}
 use Prim.Native.Nat.{ℕ, _+_, _<_}
 use lib.ListN.{length, getElem?}
 use Rattle.ast.specs.Ast.{Url, File}
-use Rattle.pick_table.specs.Picks.{libraryFile, pickFrom, pickUrl}
+use Rattle.pick_definition.specs.Picks.{libraryFile, pickFrom, pickUrl}
 
 -- "Of several files with the same base, the last": f stands at place k, from 0, and is of the base; no file after it is
 pub record Newest (library : List File) (base k : ℕ) (f : File) : Type 0 where

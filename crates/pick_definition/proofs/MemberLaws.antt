@@ -9,7 +9,7 @@ use native.Mathlib.Decide.{ℕ-discrete}
 use lib.ListN.{length, getD, getElem?, take}
 use lib.Dec.{eqb}
 use borrow.Author.Tests.{eq-eqb, ne-eqb}
-use Rattle.pick_table.specs.Picks.{Bases, member}
+use Rattle.pick_definition.specs.Picks.{Bases, member}
 
 or-true : (b : Bool) → (b || true) ≡ true
 or-true true = refl

@@ -11,10 +11,14 @@ use lib.Dec.{ltb}
 use borrow.Author.Tests.{lt-ltb, le-ltb}
 use Rattle.ast.specs.Ast.{Url, ExternProtoDecl, File}
 use Rattle.ast.specs.Choice.{choose, andThen, mapO}
-use Rattle.pick_table.specs.Picks.{Prototype, Bases, Picked, member, remember, pickUrl, orNext, tryUrl, pickUrls, picksFrom, basesFrom}
-use Rattle.pick_table.specs.Walked.{Settled}
-use Rattle.pick_table.specs.Table.{tableAfter}
-use Rattle.pick_table.proofs.MemberLaws.{member-more, member-last}
+use Rattle.pick_definition.specs.Picks.{Prototype, Bases, Picked, member, remember, pickUrl, orNext, tryUrl, pickUrls, picksFrom, basesFrom}
+use Rattle.pick_definition.specs.Walked.{Settled}
+use Rattle.pick_definition.proofs.MemberLaws.{member-more, member-last}
+
+-- the table once a base is looked for; it stays where the base is skipped
+abbrev pub tableAfter : Bases → Option Bases → Bases
+tableAfter bases none = bases
+tableAfter bases (some table) = table
 
 -- F may stand for T's table at the end
 pub record Grows (T F : Bases) : Type 0 where

@@ -1,0 +1,4 @@
+pub mod MemberLaws
+pub mod NewerLaws
+pub mod GrowLaws
+pub mod WalkedLaws
