@@ -47,7 +47,7 @@ module _ (root library : List ℕ) (n d k : ℕ) (out ledger scopes work : List 
   S = sourceOf root library d
 
   -- ---- the room of the run
-  pub fits : {dir : List ℕ} → 592 ≤ length dir → Fit root library work (k * 12 + slots) slots dir
+  pub fits : {dir : List ℕ} → 656 ≤ length dir → Fit root library work (k * 12 + slots) slots dir
   fits long = record {
     rootSmall = omega (arith, g .1 .0 .whole, g .1 .0 .cap);
     librarySmall = omega (arith, g .1 .1 .whole, g .1 .1 .cap);
