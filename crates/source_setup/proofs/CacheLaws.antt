@@ -1,8 +1,8 @@
 -- How the cache of picks grows.
-use mathlib.Core.Path.{_≡_, refl, sym, ap, subst, _∙_}
+use mathlib.Core.Path.{_≡_, refl, sym, subst, _∙_}
 use mathlib.Core.List.{List, _++_}
 use mathlib.Core.Option.{Option, none, some}
-use Prim.Native.Nat.{ℕ, suc, _+_, _*_, _/_, _%_, _≤_, _<_}
+use Prim.Native.Nat.{ℕ, _+_, _*_, _/_, _%_, _≤_, _<_}
 use native.Mathlib.Omega.{arith}
 use native.Mathlib.Decide.{ℕ-discrete, decLt}
 use lib.ListN.{length, getD, take, drop, set, length-set, List·getD-append}
@@ -10,18 +10,15 @@ use lib.Seq.{length-take-le, getD-set-same, getD-set-other, getD-take}
 use borrow.Author.Tests.{ne-eqb}
 use Rattle.sheet_rows.specs.declared.row.Row.{Row}
 use Rattle.sheet_rows.specs.Rows.{rows}
-use Rattle.sheet_rows.specs.Parse.{externProtoOf, documentOf, filesOf}
-use Rattle.sheet_walks.specs.declared.walk.Found.{Found}
-use Rattle.sheet_walks.specs.declared.walk.Found.the-variants.{At}
-use Rattle.sheet_lookup.specs.Lookup.{sheetOf, documentAt, Looked}
+use Rattle.sheet_rows.specs.Parse.{documentOf, filesOf}
 use Rattle.pick_memo.specs.declared.Memo.{Memo}
 use Rattle.pick_table.specs.Picks.{Prototype, Pick, pickOf}
 use Rattle.source_lookup.specs.declared.instance.Target.{Target}
 use Rattle.source_lookup.specs.declared.instance.Target.the-variants.{Plain, Of}
 use Rattle.words_lent.specs.Words.{Outside}
 use Rattle.pick_memo.specs.Memo.{MemoSound}
-use Rattle.source_directory.specs.Directory.{size, baseCount, picksPlace, cacheOf, fromOf, endOf, numberOf, rowOf, groupOf, Slot, Directory, HeldAt}
-use Rattle.source_lookup.specs.Instance.{Targeted, PickedAs, targetAt, markAt, Packs, urlsPicked}
+use Rattle.source_directory.specs.Directory.{size, baseCount, picksPlace, cacheOf, fromOf, endOf, numberOf, groupOf, Slot, Directory, HeldAt}
+use Rattle.source_lookup.specs.Instance.{Targeted, PickedAs, targetAt, Packs}
 use Rattle.source_lookup.specs.Sourced.{PickAt, SlotCached, Cached, Sourced}
 use Rattle.source_setup.specs.Prepared.{PickKept, NoneCached, CachedBefore, SlotAdded, PicksCached}
 use Rattle.pick_memo.proofs.MemoLaws.{kept-on}
