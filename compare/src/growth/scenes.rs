@@ -400,7 +400,7 @@ fn nodes_of_a_files_extern(n: u32) -> Call {
     naming.doc.externs.push(extern_of(vec![(2, Some(n - 1))]));
     let externs = vec![extern_of(vec![(1, None)])];
     let files = vec![naming, file_of_names(2, &names)];
-    call(with_files(vec![node(Origin::Extern(0), vec![])], externs, mention([0]), files), START + INSTANCE * (n + 1))
+    call(with_files(vec![node(Origin::Extern(0), vec![])], externs, mention([0]), files), START + 3 + INSTANCE * n)
 }
 
 /// n urls of one extern, none of which leads to a PROTO.
