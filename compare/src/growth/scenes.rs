@@ -407,6 +407,17 @@ fn picks_behind_names(n: u32) -> Call {
     call(with_files(list, externs, mention(0..n), vec![file]), START + INSTANCE * n)
 }
 
+/// A file with n nodes of its extern in a body, which picks the last of n PROTOs of another file.
+fn nodes_of_a_files_extern(n: u32) -> Call {
+    let names: Vec<u32> = (0..n).collect();
+    let list = several(n, |_| node(Origin::Extern(0), vec![]));
+    let mut naming = file(1, list, vec![proto(vec![], mention(0..n))], vec![Statement::Proto(0)]);
+    naming.doc.externs.push(extern_of(vec![(2, Some(n - 1))]));
+    let externs = vec![extern_of(vec![(1, None)])];
+    let files = vec![naming, file_of_names(2, &names)];
+    call(with_files(vec![node(Origin::Extern(0), vec![])], externs, mention([0]), files), START + 3 + INSTANCE * n)
+}
+
 /// n urls of one extern, none of which leads to a PROTO.
 fn urls_absent(n: u32) -> Call {
     let names: Vec<u32> = (0..n / 2).collect();
@@ -615,6 +626,7 @@ pub fn all() -> Vec<(&'static str, Vec<Growing>)> {
                 four("n externs of the 257th file, another of the first", 500, second_file),
                 four("5n externs without url, n nodes of one behind them, K = rows", 400, picks_without_room),
                 four("the same with 20n and n instances of 17 fields", 100, picks_behind_names),
+                four("n nodes of a file's extern, which picks among n PROTOs", 1000, nodes_of_a_files_extern),
                 four("n urls of one extern that lead nowhere", 2000, urls_absent),
                 four("n urls of one extern, n bases, n / 8 files", 2000, urls_of_bases),
                 four("n files, 64 bases behind them", 500, many_files),

@@ -6,7 +6,7 @@ const NAMES: u64 = 0xFFFF_0000;
 
 /// The slots of the journal's index.
 pub fn slots(max_rows: u32, max_depth: u32) -> u64 {
-    2 * max_rows as u64 + 32 * (max_depth as u64 + 1)
+    max_rows as u64 - max_rows as u64 / 4 + 32 * (max_depth as u64 + 1)
 }
 
 /// An id with two of its digits exchanged; exchanged again, the id.

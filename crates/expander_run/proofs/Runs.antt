@@ -1,7 +1,7 @@
 -- The run from its room to its answer, and what is written of an accepted one.
 use mathlib.Core.Path.{_≡_, refl, sym, ap, _∙_}
 use mathlib.Core.List.{List}
-use Prim.Native.Nat.{ℕ, _+_, _*_, _≤_}
+use Prim.Native.Nat.{ℕ, _+_, _-_, _*_, _/_, _≤_}
 use native.Mathlib.Omega.{arith}
 use lib.ListN.{length, length-map}
 use Rattle.sheet_rows.specs.Rows.{rows, words}
@@ -38,7 +38,10 @@ module _ (root library : List ℕ) (n d k : ℕ) (out ledger scopes work : List 
   c = callOf root library n d k out ledger scopes work
 
   abbrev slots : ℕ
-  slots = 2 * k + 32 * (d + 1)
+  slots = k - k / 4 + 32 * (d + 1)
+
+  abbrev room : ℕ
+  room = 3 * k + k / 4 + 32 * (d + 1)
 
   abbrev L : Limits
   L = record { nodes = n; rows = k; slots = slots }
@@ -47,7 +50,7 @@ module _ (root library : List ℕ) (n d k : ℕ) (out ledger scopes work : List 
   S = sourceOf root library d
 
   -- ---- the room of the run
-  pub fits : {dir : List ℕ} → 592 ≤ length dir → Fit root library work (k * 12 + slots) slots dir
+  pub fits : {dir : List ℕ} → 656 ≤ length dir → Fit root library work (k * 12 + slots) room dir
   fits long = record {
     rootSmall = omega (arith, g .1 .0 .whole, g .1 .0 .cap);
     librarySmall = omega (arith, g .1 .1 .whole, g .1 .1 .cap);
@@ -56,7 +59,7 @@ module _ (root library : List ℕ) (n d k : ℕ) (out ledger scopes work : List 
     long = long;
   }
 
-  module _ {dir w : List ℕ} (p : Prepared root library work w (k * 12 + slots) slots dir) where
+  module _ {dir w : List ℕ} (p : Prepared root library work w (k * 12 + slots) room dir) where
     pub blank : NothingRecorded root library dir w L
     blank = record {
       standing = record {

@@ -40,7 +40,8 @@ pub fn write<'a>(
     }
 }
 
-// Work holds K records, then the heads of the journal's index, then as many words for the source's tables.
+// Work holds K records, then the heads of the journal's index, fewer than one for each, then the words of the source's tables:
+// three and a quarter for each of K, so that with K at least the rows handed in all tables have room.
 pub fn run<'a>(
     root: &'a [u32],
     library: &'a [u32],
@@ -55,9 +56,10 @@ pub fn run<'a>(
     requires { ⌜ Allowed (callOf (now root) (now library) nodes depth rows (now out) (now ledger) (now scopes) (now work)) ⌝ }
     ensures { λ a. ⌜ Ran (callOf (now (root .entry)) (now (library .entry)) nodes depth rows (now (out .entry)) (now (ledger .entry)) (now (scopes .entry)) (now (work .entry))) a (now (out .exit)) (now (ledger .exit)) (now (scopes .exit)) ⌝ }
 {
-    let slots = 2 * rows + 32 * (depth + 1);
+    let slots = rows - rows / 4 + 32 * (depth + 1);
+    let room = 3 * rows + rows / 4 + 32 * (depth + 1);
     let mut dir = [0u32; source_directory::SIZE];
-    source_setup::prepare(root, library, work, rows * 12 + slots, slots, &mut dir);
+    source_setup::prepare(root, library, work, rows * 12 + slots, room, &mut dir);
     let lim = Limits { nodes, rows, slots };
     match expander_tops::top(root, library, &dir, work, lim, depth) {
         Answer::Done {

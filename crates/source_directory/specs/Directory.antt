@@ -1,4 +1,4 @@
--- The directory: for each slot the document and where its indexes stand; the table of bases; where the cache of picks stands.
+-- The directory: for each slot the document and where its indexes and the picks of its externs stand; the table of bases.
 -- Slot 0 is the root, slot j + 1 the file of base j.
 use mathlib.Core.Path.{_≡_}
 use mathlib.Core.List.{List}
@@ -20,7 +20,7 @@ use Rattle.pick_table.specs.Table.{IsFileOf}
 
 -- how many words it has at least
 abbrev pub size : ℕ
-size = 592
+size = 656
 
 -- a slot's document: its number, and the row where it begins
 abbrev pub numberOf : List ℕ → ℕ → ℕ
@@ -40,19 +40,12 @@ baseCount dir = getD dir 194 0
 abbrev pub strideOf : List ℕ → ℕ
 strideOf dir = getD dir 195 0
 
--- where the cache begins, and how many picks it has
-abbrev pub cacheOf : List ℕ → ℕ
-cacheOf dir = getD dir 196 0
-
-abbrev pub cachedOf : List ℕ → ℕ
-cachedOf dir = getD dir 197 0
-
 -- where the list of the tables of names begins, and how many places it has
 abbrev pub namesOf : List ℕ → ℕ
-namesOf dir = getD dir 590 0
+namesOf dir = getD dir 196 0
 
 abbrev pub spreadOf : List ℕ → ℕ
-spreadOf dir = getD dir 591 0
+spreadOf dir = getD dir 197 0
 
 -- the region of work that indexes, tables of names and cache stand in
 abbrev pub fromOf : List ℕ → ℕ
@@ -75,6 +68,13 @@ indexPlace dir s g = getD dir (groupOf s g) 0
 
 abbrev pub filledOf : List ℕ → ℕ → ℕ → ℕ
 filledOf dir s g = getD dir (groupOf s g + 1) 0
+
+-- where the cached picks of a slot's externs begin; they end where those of the next slot do. The cache begins with the root's
+abbrev pub picksPlace : List ℕ → ℕ → ℕ
+picksPlace dir s = getD dir (590 + s) 0
+
+abbrev pub cacheOf : List ℕ → ℕ
+cacheOf dir = getD dir 590 0
 
 -- a slot that stands for a document: the root's, or a resolved base's
 pub record Slot (dir : List ℕ) (s : ℕ) : Type 0 where

@@ -19,10 +19,10 @@ pub const BASES: usize = 130;
 pub const COUNT: usize = 194;
 // how many elements a word of an index stands for;
 pub const STRIDE: usize = 195;
-// where the cache of picks begins, and how many it has;
-pub const CACHE: usize = 196;
+// where the list of the tables of names begins, and how many places it has;
+pub const NAMES: usize = 196;
 
-pub const CACHED: usize = 197;
+pub const SPREAD: usize = 197;
 // where the region of work begins, and where it ends;
 pub const FROM: usize = 198;
 
@@ -33,12 +33,10 @@ pub const GROUPS: usize = 200;
 pub const ROOT_PROTOS: usize = GROUPS + 3;
 
 pub const ROOT_EXTERNS: usize = GROUPS + 5;
-// where the list of the tables of names begins, and how many places it has;
-pub const NAMES: usize = 590;
-
-pub const SPREAD: usize = 591;
+// where the cached picks of each slot's externs begin; they end where those of the next slot do;
+pub const PICKS: usize = 590;
 // how many words there are.
-pub const SIZE: usize = 592;
+pub const SIZE: usize = 656;
 
 // The number of a slot's document.
 pub fn number(dir: &[u32], slot: u32) -> u32

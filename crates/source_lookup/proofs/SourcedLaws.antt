@@ -9,11 +9,26 @@ use Rattle.sheet_rows.proofs.RowLaws.{rows-length}
 use Rattle.sheet_walks.specs.declared.walk.Found.{Found}
 use Rattle.sheet_index.specs.Index.{Filled}
 use Rattle.sheet_lookup.specs.Lookup.{sheetOf}
-use Rattle.source_directory.specs.Directory.{numberOf, rowOf, strideOf, cacheOf, namesOf, spreadOf, groupPart, indexPlace, filledOf, Slot}
+use Rattle.source_directory.specs.Directory.{numberOf, rowOf, strideOf, fromOf, endOf, picksPlace, cacheOf, namesOf, spreadOf, groupPart, indexPlace, filledOf, Slot}
 use Rattle.source_names.specs.Names.{LastField, NameTable, NodeTabled, tableSheet}
-use Rattle.source_lookup.specs.Sourced.{Sourced, Region}
+use Rattle.source_lookup.specs.Sourced.{PickAt, SlotCached, Cached, Sourced, Region}
 use Rattle.source_names.proofs.NameLaws.{sheet-small, listed-on}
 use Rattle.source_directory.proofs.GroupLaws.{held-filled, held-on}
+
+-- the picks of a slot stay where their words do
+slot-cached-on : {root library dir w w′ : List ℕ} {lo hi u : ℕ} → SlotCached root library dir w lo hi u → ((k : ℕ) → lo ≤ k → k < hi → getD w′ k 0 ≡ getD w k 0) → SlotCached root library dir w′ lo hi u
+slot-cached-on {dir = dir} {u = u} c same = record {
+  from = c .from;
+  upto = c .upto;
+  is = λ i h. rw (same (picksPlace dir u + 2 * i) (omega (arith, c .from)) (omega (arith, c .upto)), same (picksPlace dir u + 2 * i + 1) (omega (arith, c .from)) (omega (arith, c .upto))) (c .is i h);
+}
+
+pub cache-wide : {root library dir w : List ℕ} {lo hi : ℕ} → lo ≤ hi → Cached root library dir w lo → Cached root library dir w hi
+cache-wide h c = record {
+  from = c .from;
+  upto = omega (arith, c .upto);
+  slots = λ u x z. let y = c .slots u x z in record { from = y .from; upto = omega (arith, y .upto); is = y .is };
+}
 
 module _ {root library dir w : List ℕ} (s : Sourced root library dir w) where
   -- slot 0 is the root's, document 0
@@ -26,19 +41,34 @@ module _ {root library dir w : List ℕ} (s : Sourced root library dir w) where
   pub number-root : numberOf dir 0 ≡ 0
   number-root = s .directory .number
 
+  -- it stays where the words up to the end of the cache do
+  module _ {w′ : List ℕ} {hi : ℕ} (c : Cached root library dir w hi) (h : hi ≤ endOf dir) (same : (k : ℕ) → fromOf dir ≤ k → k < hi → getD w′ k 0 ≡ getD w k 0) where
+    pub cache-on : Cached root library dir w′ hi
+    cache-on = record { from = c .from; upto = c .upto; slots = λ u x z. slot-cached-on (c .slots u x z) (λ k a b. same k (omega (arith, c .from)) b) }
+
+    pub sourced-on : endOf dir ≤ length w′ → Sourced root library dir w′
+    sourced-on long = record {
+      directory = s .directory;
+      within = long;
+      held = λ u g i x. held-on (s .held u g i x) (omega arith) (omega arith) (λ k a b. same k a (omega (arith, c .upto)));
+      names = record { from = s .names .from; listed = listed-on (s .names .listed) (λ k a b. same k (omega (arith, s .names .from)) (omega (arith, c .upto))) };
+      cache = cache-wide h cache-on;
+    }
+
   -- the law of the region: it rests on no word of w but those of the region
   pub sourced-kept : (at len : ℕ) (w′ : List ℕ) → Region dir at len → at + len ≤ length w′ → ((k : ℕ) → at ≤ k → k < at + len → getD w′ k 0 ≡ getD w k 0) → Sourced root library dir w′
-  sourced-kept at len w′ r long same = record {
-    directory = s .directory;
-    within = omega (arith, r .end);
-    held = λ u g h x. held-on (s .held u g h x) (omega arith) (omega arith) (λ k a b. same k (omega (arith, r .from)) (omega (arith, r .end, s .cache .upto)));
-    names = record { from = s .names .from; listed = listed-on (s .names .listed) (λ k a b. same k (omega (arith, r .from, s .names .from)) (omega (arith, r .end, s .cache .upto))) };
-    cache = record {
-      from = s .cache .from;
-      upto = s .cache .upto;
-      is = λ i h. rw (same (cacheOf dir + 3 * i) (omega (arith, r .from, s .cache .from)) (omega (arith, r .end, s .cache .upto)), same (cacheOf dir + 3 * i + 1) (omega (arith, r .from, s .cache .from)) (omega (arith, r .end, s .cache .upto)), same (cacheOf dir + 3 * i + 2) (omega (arith, r .from, s .cache .from)) (omega (arith, r .end, s .cache .upto))) (s .cache .is i h);
-    };
-  }
+  sourced-kept at len w′ r long same =
+      sourced-on (s .cache) (omega arith) (λ k a b. same k (omega (arith, r .from)) (omega (arith, r .end))) (omega (arith, r .end))
+
+  -- ---- a pick in the cache
+
+  module _ {u v at next : ℕ} (i : ℕ) (x : Slot dir u) (isSlot : v ≡ u) (isAt : at ≡ getD dir (590 + v) 0 + 2 * i) (isNext : next ≡ getD dir (590 + (v + 1)) 0) (h : at + 2 ≤ next) where
+    pub pick-cached : PickAt root library dir w u i at × (at + 2 ≤ length w)
+    pick-cached =
+        let a : at ≡ picksPlace dir u + 2 * i = rw isSlot at isAt in
+        let b : next ≡ picksPlace dir (u + 1) = rw isSlot at isNext in
+        let c = s .cache .slots u x (omega arith) in
+        (rw a (c .is i (omega arith)), omega (arith, c .upto, s .within))
 
   -- ---- a lookup by an index of the region
 

@@ -2,7 +2,7 @@
 use mathlib.Core.Path.{_≡_}
 use mathlib.Core.List.{List, [], _∷_}
 use mathlib.Core.Option.{Option, none, some}
-use Prim.Native.Nat.{ℕ, _+_, _-_, _<_}
+use Prim.Native.Nat.{ℕ, _+_, _/_, _%_, _≤_, _<_}
 use lib.ListN.{getD, drop}
 use lib.Dec.{eqb}
 use Rattle.ast.specs.Ast.{NodeOrigin}
@@ -40,13 +40,17 @@ pub record PickedAs (dir : List ℕ) (wanted : Option Pick) (x : Target) (m : �
   pub target : Targeted dir (mapO prototypeOf wanted) x
   pub mark : m ≡ markOf (urlTaken wanted)
 
--- a target in two words: its slot + 1, or 0 for a plain node, and the PROTO's id
+-- a pick in two words: its mark and its slot, or 0 for a plain node, and the PROTO's id
 abbrev pub targetAt : List ℕ → ℕ → Target
-targetAt w p = choose (eqb (getD w p 0) 0) Plain (Of (getD w p 0 - 1) (record { 0 = getD w (p + 1) 0 }))
+targetAt w p = choose (eqb (getD w p 0) 0) Plain (Of (getD w p 0 % 65) (record { 0 = getD w (p + 1) 0 }))
 
-abbrev pub SlotSmall : Target → Type 0
-SlotSmall Plain = Unit {0}
-SlotSmall (Of s p) = s < 65
+abbrev pub markAt : List ℕ → ℕ → ℕ
+markAt w p = getD w p 0 / 65
+
+-- a target and a mark that two words can say
+abbrev pub Packs : Target → ℕ → Type 0
+Packs Plain m = m ≡ 0
+Packs (Of s p) m = (0 < m) × (m ≤ 1048576) × (s < 65)
 
 -- what the urls of the extern at a row of a sheet lead to, by the table of the whole walk
 abbrev pub urlsPicked : List ℕ → List ℕ → List Row → ℕ → Picked

@@ -1,4 +1,4 @@
-// The prototype that a node is an instance of, and the cache of the picks of the root's externs.
+// The prototype that a node is an instance of, and the cache of the picks of the externs.
 use super::group;
 use ast::ExternProtoId;
 use ast::ProtoId;
@@ -14,7 +14,7 @@ use sheet_walks::walk::Found;
 use source_directory;
 use words_lent::wide;
 ghost use mathlib.Core.Path.{_≡_};
-ghost use Prim.Native.Nat.{_+_, _<_};
+ghost use Prim.Native.Nat.{_+_, _≤_, _<_};
 ghost use lib.ListN.{length};
 ghost use Rattle.sheet_rows.specs.Rows.{rows};
 ghost use Rattle.sheet_rows.specs.Parse.{externProtoOf, documentOf, filesOf};
@@ -22,7 +22,7 @@ ghost use Rattle.sheet_lookup.specs.Lookup.{sheetOf, documentAt, Looked};
 ghost use Rattle.pick_definition.specs.Picks.{pickOf};
 ghost use Rattle.pick_memo.specs.Memo.{MemoSound};
 ghost use Rattle.source_directory.specs.Directory.{numberOf, rowOf, Slot, basesFound, Directory};
-ghost use Rattle.source_lookup.specs.Instance.{PickedAs, targetAt, urlsPicked};
+ghost use Rattle.source_lookup.specs.Instance.{PickedAs, targetAt, markAt, urlsPicked};
 ghost use Rattle.source_lookup.specs.Sourced.{Sourced};
 
 // A plain node, or an instance of a PROTO of a slot's document.
@@ -57,7 +57,7 @@ pub fn pick_row<'a>(
 ) -> PickedTarget
     requires { ⌜ Directory (now root) (now library) (now dir) × Slot (now dir) slot × (row < length (rows (sheetOf (now root) (now library) (numberOf (now dir) slot)))) ⌝ }
     requires { ⌜ (urlsPicked (now root) (now library) (rows (sheetOf (now root) (now library) (numberOf (now dir) slot))) row .1 ≡ basesFound (now root) (now library)) × MemoSound (rows (now library)) (now slots) memo ⌝ }
-    ensures { λ x. ⌜ PickedAs (now (dir .entry)) (urlsPicked (now (root .entry)) (now (library .entry)) (rows (sheetOf (now (root .entry)) (now (library .entry)) (numberOf (now (dir .entry)) slot))) row .0) (x .target) (x .mark) × MemoSound (rows (now (library .entry))) (now (slots .exit)) (x .memo) ⌝ }
+    ensures { λ x. ⌜ PickedAs (now (dir .entry)) (urlsPicked (now (root .entry)) (now (library .entry)) (rows (sheetOf (now (root .entry)) (now (library .entry)) (numberOf (now (dir .entry)) slot))) row .0) (x .target) (x .mark) × (x .mark ≤ 1048576) × MemoSound (rows (now (library .entry))) (now (slots .exit)) (x .memo) ⌝ }
 {
     let count = wide(dir[source_directory::COUNT]);
     let sheet = rows::select(root, library, source_directory::number(dir, slot));
@@ -114,22 +114,29 @@ pub fn slot_extern<'a>(
     group::locate(root, library, dir, work, slot, 2, id.0)
 }
 
-// The target that stands in two words: its slot + 1, or 0 for a plain node, and the PROTO's id.
-fn kept(work: &[u32], at: usize) -> Target
+// The pick that stands in two words: its mark * 65 + its slot, or 0 for a plain node; the PROTO's id.
+fn kept(work: &[u32], at: usize) -> Taken
     requires { ⌜ at + 1 < length (now work) ⌝ }
-    ensures { λ x. ⌜ x ≡ targetAt (now (work .entry)) at ⌝ }
+    ensures { λ x. ⌜ (x .target ≡ targetAt (now (work .entry)) at) × (x .mark ≡ markAt (now (work .entry)) at) ⌝ }
 {
     let word = work[at];
     if word == 0 {
-        return Target::Plain;
+        return Taken {
+            target: Target::Plain,
+            mark: 0,
+        };
     }
-    Target::Of {
-        slot: word - 1,
+    let target = Target::Of {
+        slot: word % 65,
         proto: ProtoId(work[at + 1]),
+    };
+    Taken {
+        target,
+        mark: word / 65,
     }
 }
 
-// The pick of an extern of a slot's document.
+// The pick of an extern of a slot's document: by the cache, else by a walk.
 pub fn picked<'a>(
     root: &'a [u32],
     library: &'a [u32],
@@ -141,16 +148,10 @@ pub fn picked<'a>(
     requires { ⌜ Sourced (now root) (now library) (now dir) (now work) × Slot (now dir) slot ⌝ }
     ensures { λ x. ⌜ PickedAs (now (dir .entry)) (pickOf (documentOf (rows (now (root .entry)))) (filesOf (rows (now (library .entry)))) (numberOf (now (dir .entry)) slot) (id .0)) (x .target) (x .mark) ⌝ }
 {
-    let n = id.0;
-    if slot == 0 {
-        if n < dir[source_directory::CACHED] {
-            let at = wide(dir[source_directory::CACHE]) + 3 * wide(n);
-            let target = kept(work, at);
-            return Taken {
-                target,
-                mark: work[at + 2],
-            };
-        }
+    let s = wide(slot);
+    let at = wide(dir[source_directory::PICKS + s]) + 2 * wide(id.0);
+    if at + 2 <= wide(dir[source_directory::PICKS + (s + 1)]) {
+        return kept(work, at);
     }
     let Found::At(row) = slot_extern(root, library, dir, work, slot, id) else {
         return Taken {

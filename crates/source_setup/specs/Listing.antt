@@ -10,4 +10,4 @@ use Rattle.source_directory.specs.Directory.{namesOf, spreadOf}
 pub record Listing (root library dir₀ dir w₀ w : List ℕ) (free at end next : ℕ) : Type 0 where
   pub at-is : namesOf dir ≡ at
   pub grown : TablesGrown root library free at (spreadOf dir) at end next w₀ w
-  pub dirStays : Outside 590 592 dir₀ dir
+  pub dirStays : Outside 196 198 dir₀ dir

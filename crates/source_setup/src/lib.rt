@@ -43,7 +43,7 @@ pub fn prepare<'a>(
     let end = at + len;
     let indexed = indexes::index_all(root, library, dir, work, at, end);
     let next = listing::list(root, library, dir, work, at, indexed, end);
-    dir[source_directory::CACHE] = next as u32;
-    dir[source_directory::CACHED] = 0;
+    words_lent::clear(dir, source_directory::PICKS, source_directory::SIZE);
+    dir[source_directory::PICKS] = next as u32;
     cache::remember(root, library, dir, work);
 }

@@ -4,24 +4,39 @@ use Rattle.expander_run.proofs.run.run.Statement.{statement}
 use Rattle.expander_run.proofs.run.run.Tie as tie
 use Rattle.expander_run.proofs.run.run.Reads as reads
 use Rattle.expander_run.proofs.run.run.Lts as lts
-use Rattle.expander_tops.proofs.top.Reads as top-reads
 use Rattle.expander_run.proofs.run.write.Reads as write-reads
+use Rattle.expander_tops.proofs.top.Reads as top-reads
 use Rattle.source_setup.proofs.prepare.Reads as prepare-reads
 use mathlib.Core.Path.{_≡_, refl, sym, _∙_}
 use Rattle.expander_run.proofs.Runs.{fits, blank, run-refused, writable, run-written}
 use native.Mathlib.Omega.{arith}
 
-mul-slots : tie.Need-mul-slots
-mul-slots c = omega (arith, c .before .before .before .before .before .before .pre .0 .maxRows, c .before .before .before .before .before .before .pre .0 .maxDepth)
+sub-slots : tie.Need-sub-slots
+sub-slots c = omega (arith, c .before .before .before .before .before .before .pre .0 .maxRows, c .before .before .before .before .before .before .pre .0 .maxDepth)
 
 add-slots : tie.Need-add-slots
 add-slots c = omega (arith, c .before .before .before .before .before .before .pre .0 .maxRows, c .before .before .before .before .before .before .pre .0 .maxDepth)
 
-mul-slots-2 : tie.Need-mul-slots-2
-mul-slots-2 c = omega (arith, c .before .before .before .before .before .before .pre .0 .maxRows, c .before .before .before .before .before .before .pre .0 .maxDepth)
+mul-slots : tie.Need-mul-slots
+mul-slots c = omega (arith, c .before .before .before .before .before .before .pre .0 .maxRows, c .before .before .before .before .before .before .pre .0 .maxDepth)
 
 add-slots-2 : tie.Need-add-slots-2
 add-slots-2 c = omega (arith, c .before .before .before .before .before .before .pre .0 .maxRows, c .before .before .before .before .before .before .pre .0 .maxDepth)
+
+mul-room : tie.Need-mul-room
+mul-room c = omega (arith, c .before .before .before .before .before .before .pre .0 .maxRows, c .before .before .before .before .before .before .pre .0 .maxDepth)
+
+add-room : tie.Need-add-room
+add-room c = omega (arith, c .before .before .before .before .before .before .pre .0 .maxRows, c .before .before .before .before .before .before .pre .0 .maxDepth)
+
+add-room-2 : tie.Need-add-room-2
+add-room-2 c = omega (arith, c .before .before .before .before .before .before .pre .0 .maxRows, c .before .before .before .before .before .before .pre .0 .maxDepth)
+
+mul-room-2 : tie.Need-mul-room-2
+mul-room-2 c = omega (arith, c .before .before .before .before .before .before .pre .0 .maxRows, c .before .before .before .before .before .before .pre .0 .maxDepth)
+
+add-room-3 : tie.Need-add-room-3
+add-room-3 c = omega (arith, c .before .before .before .before .before .before .pre .0 .maxRows, c .before .before .before .before .before .before .pre .0 .maxDepth)
 
 mul-prepare : tie.Need-mul-prepare
 mul-prepare c = omega (arith, c .before .before .before .before .before .before .before .pre .0 .maxRows, c .before .before .before .before .before .before .before .pre .0 .maxDepth)
@@ -75,10 +90,15 @@ pub run-spec : {M : Type 1} → statement M
 run-spec =
     tie.close
     (tie.spec
-    mul-slots
+    sub-slots
     add-slots
-    mul-slots-2
+    mul-slots
     add-slots-2
+    mul-room
+    add-room
+    add-room-2
+    mul-room-2
+    add-room-3
     mul-prepare
     add-prepare
     slice-aggregate-prepare

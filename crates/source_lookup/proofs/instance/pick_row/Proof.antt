@@ -61,7 +61,7 @@ same-length : tie.Need-same-length Inv-loop μ-loop
 same-length c = c .before .before .before .loop .inv .0
 
 returns : tie.Need-returns Inv-loop μ-loop
-returns c = (rw (c .before .before .before .before .select .ensures, c .before .before .before .before .before .number .ensures) at (try-none (c .before .before .before .before .before .before .before .before .before .before .before .before .pre .0 .0) (c .before .before .before .loop .inv .1) (missing Urls _ (c .before .before .before .loop .at) (c .before .before .seek .ensures) (c .enum-told .given .1))), c .before .before .before .loop .inv .2)
+returns c = (rw (c .before .before .before .before .select .ensures, c .before .before .before .before .before .number .ensures) at (try-none (c .before .before .before .before .before .before .before .before .before .before .before .before .pre .0 .0) (c .before .before .before .loop .inv .1) (missing Urls _ (c .before .before .before .loop .at) (c .before .before .seek .ensures) (c .enum-told .given .1))), omega arith, c .before .before .before .loop .inv .2)
 
 add-at-2 : tie.Need-add-at-2 Inv-loop μ-loop
 add-at-2 c = omega (arith, (stands Urls _ (c .before .before .before .before .loop .at) (c .before .before .before .seek .ensures) (c .before .q .given .1)) .below, sheet-small (c .before .before .before .before .before .before .before .before .before .before .before .before .before .pre .0 .0) (c .before .before .before .before .before .before .number .result) (c .before .before .before .before .before .select .ensures))
@@ -127,7 +127,7 @@ same-length-2 : tie.Need-same-length-2 Inv-loop μ-loop
 same-length-2 c = (c .before .before .before .before .before .before .pick-from .kept .1 .1 .1 .1 .1 .0) ∙ (c .before .before .before .before .before .before .before .before .before .before .before .before .before .before .before .before .before .before .before .loop .inv .0)
 
 returns-2 : tie.Need-returns-2 Inv-loop μ-loop
-returns-2 c = (rw (c .before .before .before .before .before .before .before .before .before .before .before .before .before .before .before .before .before .before .before .before .select .ensures, c .before .before .before .before .before .before .before .before .before .before .before .before .before .before .before .before .before .before .before .before .before .number .ensures) at (try-proto (c .before .before .before .before .before .before .before .before .before .before .before .before .before .before .before .before .before .before .before .before .before .before .before .before .before .before .before .before .pre .0 .0) (c .before .before .before .before .before .before .before .before .before .before .before .before .before .before .before .before .before .before .before .loop .inv .1) (stands Urls _ (c .before .before .before .before .before .before .before .before .before .before .before .before .before .before .before .before .before .before .before .loop .at) (c .before .before .before .before .before .before .before .before .before .before .before .before .before .before .before .before .before .before .seek .ensures) (c .before .before .before .before .before .before .before .before .before .before .before .before .before .before .before .before .q .given .1)) (c .before .before .before .before .before .before .before .before .before .before .before .before .before .before .row-at .ensures) (rw (c .before .before .before .before .before .before .before .before .before .before .before .before .before .before .before .before .before .before .before .before .before .before .wide .ensures .same) at (c .before .before .before .before .before .before .before .before .before .before .before .before .position .ensures)) (omega (arith, c .before .before .before .before .before .before .before .before .before .before .before .if1 .taken, c .before .before .before .before .before .before .before .before .before .before .before .before .before .before .before .before .before .before .before .before .before .before .wide .ensures .same)) (c .before .before .before .before .before .before .pick-from .result .chosen) (rw (c .before .before .before .before .before .before .before .before .wide2 .ensures .same) at (c .before .before .before .before .before .before .pick-from .ensures .0)) (c .before .chosen .given .0 .0) (c .before .chosen .given .0 .1 .0) _ (c .before .chosen .given .1) refl), c .before .before .before .before .before .before .pick-from .ensures .1)
+returns-2 c = (rw (c .before .before .before .before .before .before .before .before .before .before .before .before .before .before .before .before .before .before .before .before .select .ensures, c .before .before .before .before .before .before .before .before .before .before .before .before .before .before .before .before .before .before .before .before .before .number .ensures) at (try-proto (c .before .before .before .before .before .before .before .before .before .before .before .before .before .before .before .before .before .before .before .before .before .before .before .before .before .before .before .before .pre .0 .0) (c .before .before .before .before .before .before .before .before .before .before .before .before .before .before .before .before .before .before .before .loop .inv .1) (stands Urls _ (c .before .before .before .before .before .before .before .before .before .before .before .before .before .before .before .before .before .before .before .loop .at) (c .before .before .before .before .before .before .before .before .before .before .before .before .before .before .before .before .before .before .seek .ensures) (c .before .before .before .before .before .before .before .before .before .before .before .before .before .before .before .before .q .given .1)) (c .before .before .before .before .before .before .before .before .before .before .before .before .before .before .row-at .ensures) (rw (c .before .before .before .before .before .before .before .before .before .before .before .before .before .before .before .before .before .before .before .before .before .before .wide .ensures .same) at (c .before .before .before .before .before .before .before .before .before .before .before .before .position .ensures)) (omega (arith, c .before .before .before .before .before .before .before .before .before .before .before .if1 .taken, c .before .before .before .before .before .before .before .before .before .before .before .before .before .before .before .before .before .before .before .before .before .before .wide .ensures .same)) (c .before .before .before .before .before .before .pick-from .result .chosen) (rw (c .before .before .before .before .before .before .before .before .wide2 .ensures .same) at (c .before .before .before .before .before .before .pick-from .ensures .0)) (c .before .chosen .given .0 .0) (c .before .chosen .given .0 .1 .0) _ (c .before .chosen .given .1) refl), omega (arith, c .before .before .before .before .before .before .before .before .before .before .before .before .before .before .before .before .before .before .before .loop .inv .1 .few, (stands Urls _ (c .before .before .before .before .before .before .before .before .before .before .before .before .before .before .before .before .before .before .before .loop .at) (c .before .before .before .before .before .before .before .before .before .before .before .before .before .before .before .before .before .before .seek .ensures) (c .before .before .before .before .before .before .before .before .before .before .before .before .before .before .before .before .q .given .1)) .from, (stands Urls _ (c .before .before .before .before .before .before .before .before .before .before .before .before .before .before .before .before .before .before .before .loop .at) (c .before .before .before .before .before .before .before .before .before .before .before .before .before .before .before .before .before .before .seek .ensures) (c .before .before .before .before .before .before .before .before .before .before .before .before .before .before .before .before .q .given .1)) .below, sheet-small (c .before .before .before .before .before .before .before .before .before .before .before .before .before .before .before .before .before .before .before .before .before .before .before .before .before .before .before .before .pre .0 .0) (c .before .before .before .before .before .before .before .before .before .before .before .before .before .before .before .before .before .before .before .before .before .number .result) (c .before .before .before .before .before .before .before .before .before .before .before .before .before .before .before .before .before .before .before .before .select .ensures)), c .before .before .before .before .before .before .pick-from .ensures .1)
 
 enum-told-2 : tie.Need-enum-told-2 Inv-loop μ-loop
 enum-told-2 c = search needs

@@ -17,7 +17,7 @@ slice-write-dir : tie.Need-slice-write-dir
 slice-write-dir c = search needs
 
 slice-write-dir-2 : tie.Need-slice-write-dir-2
-slice-write-dir-2 c = search needs
+slice-write-dir-2 c = simp length-set (omega (arith, c .before .before .before .before .pre .2))
 
 slice-read-protos : tie.Need-slice-read-protos
 slice-read-protos c = simp length-set (omega (arith, c .before .before .before .before .before .pre .2))
@@ -50,7 +50,7 @@ cast-dir-2 : tie.Need-cast-dir-2
 cast-dir-2 c = search needs
 
 slice-write-dir-3 : tie.Need-slice-write-dir-3
-slice-write-dir-3 c = search needs
+slice-write-dir-3 c = simp length-set (omega (arith, c .before .before .before .before .before .before .before .before .pre .2))
 
 of-all-requires : tie.Need-of-all-requires
 of-all-requires c κs = (c .before .before .before .before .before .before .before .before .before .before .pre .0, c .before .before .before .before .before .before .before .before .before .before .pre .1, simp length-set (c .before .before .before .before .before .before .before .before .before .before .pre .2), rw (count-stays (now (c .before .before .before .before .before .before .before .before .before .before .args .root)) (now (c .before .before .before .before .before .before .before .before .before .before .args .library)) (now (c .before .before .before .before .before .before .before .before .before .before .args .dir)) (now (c .before .before .before .before .before .before .before .before .before .before .args .work)) (c .before .before .before .before .before .before .before .before .before .before .args .free) (c .before .before .before .before .before .before .before .before .before .before .args .at) (c .before .before .before .before .before .before .before .before .before .before .args .end) (c .before .before .before .before .before .before .before .before .before .before .pre .2) _) (c .before .before .before .before .before .before .before .before .before .before .pre .3), c .before .before .before .before .before .before .before .before .before .before .pre .4, omega (arith, c .before .before .if2 .left, c .before .before .before .before .before .before .before .before .before .before .pre .5), c .before .before .before .before .before .before .before .before .before .before .pre .6, c .before .before .before .before .before .before .before .before .before .before .pre .7)
