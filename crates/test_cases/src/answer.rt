@@ -1,12 +1,12 @@
 // The lines that the program writes.
 use expander_run::Outcome;
-use libc::STDOUT_FILENO;
 ghost use mathlib.Core.Path.{_≡_};
-ghost use Rattle.test_cases.specs.Answer.{answerLine};
+ghost use Rattle.text_lines.specs.Write.{line as lineBytes};
+ghost use Rattle.test_cases.specs.Answer.{answerNumbers, malformedNumbers};
 
 // Refusal, two place numbers, nodes, scopes, charges, rows of out, and the sum.
-fn line(outcome: Outcome, sum: u32) -> [u32; 8]
-    ensures { λ r. ⌜ r ≡ answerLine outcome sum ⌝ }
+fn numbers(outcome: Outcome, sum: u32) -> [u32; 8]
+    ensures { λ r. ⌜ r ≡ answerNumbers outcome sum ⌝ }
 {
     match outcome {
         Outcome::Expanded {
@@ -23,18 +23,18 @@ fn line(outcome: Outcome, sum: u32) -> [u32; 8]
     }
 }
 
-fn print_words(words: &[u32; 8]) {
-    let text = text_lines::line_of(words);
-    io::write_all(STDOUT_FILENO, &text);
+// The line of a case.
+pub fn line(outcome: Outcome, sum: u32) -> [u8; 89]
+    ensures { λ r. ⌜ r ≡ lineBytes (answerNumbers outcome sum) ⌝ }
+{
+    let words = numbers(outcome, sum);
+    text_lines::line_of(&words)
 }
 
-pub fn print(outcome: Outcome, sum: u32) {
-    let words = line(outcome, sum);
-    print_words(&words);
-}
-
-// 99, which is no refusal, and the number of the case.
-pub fn print_malformed(number: u32) {
+// The line of a case that is malformed: 99, which is no refusal, and the number of the case.
+pub fn malformed(number: u32) -> [u8; 89]
+    ensures { λ r. ⌜ r ≡ lineBytes (malformedNumbers number) ⌝ }
+{
     let words = [99, number, 0, 0, 0, 0, 0, 0];
-    print_words(&words);
+    text_lines::line_of(&words)
 }

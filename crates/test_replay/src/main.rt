@@ -1,6 +1,7 @@
 // Runs the stored cases of Expand on standard input and writes a line for each: refusal, its places, nodes, scopes,
 // charges, rows, and a sum over out, ledger and scopes as they stand after the call. vectors/README.md says what a case is
 // made of.
+use libc::STDOUT_FILENO;
 use test_cases::answer;
 use test_cases::fill;
 use test_cases::frame;
@@ -35,7 +36,8 @@ fn run<'a>(
         test_checksum::of_words(test_checksum::of_words(0, out), ledger),
         scopes,
     );
-    answer::print(outcome, sum);
+    let text = answer::line(outcome, sum);
+    io::write_all(STDOUT_FILENO, &text);
 }
 
 // A call with lent slices of its lengths: whether the program's own are long enough.
@@ -96,12 +98,17 @@ fn case<'a>(root: &'a mut [u32], library: &'a mut [u32]) -> bool {
     lend(&root[..n], &library[..m], call)
 }
 
+fn print_malformed(number: u32) {
+    let text = answer::malformed(number);
+    io::write_all(STDOUT_FILENO, &text);
+}
+
 // So many cases, up to one that is malformed.
 fn cases<'a>(count: u32, root: &'a mut [u32], library: &'a mut [u32]) {
     let mut i = 0;
     while i < count {
         if !case(root, library) {
-            answer::print_malformed(i);
+            print_malformed(i);
             return;
         }
         i += 1;
@@ -114,7 +121,7 @@ fn main() {
     let mut library = [0u32; 1000];
     let mut first = [0u32; 8];
     if !frame::lines(1, &mut first) {
-        answer::print_malformed(0);
+        print_malformed(0);
     }
     cases(first[0], &mut root, &mut library);
 }

@@ -3,8 +3,8 @@ use Rattle.test_replay.proofs.cases.Statement.{statement}
 use Rattle.test_replay.proofs.cases.Tie as tie
 use Rattle.test_replay.proofs.cases.Reads as reads
 use Rattle.test_replay.proofs.cases.Lts as lts
-use Rattle.test_cases.proofs.answer.print_malformed.Reads as print-malformed-reads
 use Rattle.test_replay.proofs.case.Reads as case-reads
+use Rattle.test_replay.proofs.print_malformed.Reads as print-malformed-reads
 use Prim.Native.Nat.{_-_}
 use mathlib.Core.Path.{_≡_, _∙_, refl}
 use lib.ListN.{length}

@@ -4,18 +4,19 @@ use Rattle.test_cases.proofs.answer.line.Statement.{statement}
 use Rattle.test_cases.proofs.answer.line.Tie as tie
 use Rattle.test_cases.proofs.answer.line.Reads as reads
 use Rattle.test_cases.proofs.answer.line.Lts as lts
+use Rattle.test_cases.proofs.answer.numbers.Reads as numbers-reads
+use Rattle.text_lines.proofs.line_of.Reads as line-of-reads
+use mathlib.Core.Path.{ap, _∙_}
+use Rattle.text_lines.specs.Write.{line}
 
-enum-known-outcome : tie.Need-enum-known-outcome
-enum-known-outcome c = search needs
+numbers-requires : tie.Need-numbers-requires
+numbers-requires c κs = search needs
 
-enum-known-outcome-2 : tie.Need-enum-known-outcome-2
-enum-known-outcome-2 c = search needs
+line-of-requires : tie.Need-line-of-requires
+line-of-requires c κs = search needs
 
 returns : tie.Need-returns
-returns c = rw (c .before .outcome .given .1)
-
-returns-2 : tie.Need-returns-2
-returns-2 c = rw (c .before .outcome2 .given .1)
+returns c = (c .line-of .ensures) ∙ ap line (c .before .before .numbers .ensures)
 
 pub line-spec : {M : Type 1} → statement M
-line-spec = tie.close (tie.spec enum-known-outcome enum-known-outcome-2 returns returns-2)
+line-spec = tie.close (tie.spec numbers-requires line-of-requires returns)
