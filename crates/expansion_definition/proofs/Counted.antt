@@ -33,7 +33,8 @@ use Rattle.expansion_definition.specs.Until.{idsFirst, plainFirst, given
 use Rattle.expansion_definition.proofs.Marks.{marked-length}
 use Rattle.expansion_definition.proofs.Outcome.{Outcome, refused, accepted, Any, bindOut, mapOut, both, atOk}
 use Rattle.expansion_definition.proofs.Names.{Shows, known, none-shown, values-shown, anything}
-use Rattle.expansion_definition.proofs.Walk.{key, lookup-here, lookup-none, at-length}
+use Rattle.expansion_definition.proofs.Worlds.{key, lookup-here, lookup-none}
+use Rattle.expansion_definition.proofs.InstanceRuns.{at-length}
 use Rattle.expansion_definition.proofs.Types.{set-map, set-behind}
 use Rattle.expansion_definition.proofs.Books.{sum-append, valueless-rows, optionRow, optionField, somes-fields, somes-rows}
 

@@ -1,6 +1,10 @@
 pub mod Outcome
 pub mod Marks
 pub mod Names
+pub mod Worlds
+pub mod Running
+pub mod PlainRuns
+pub mod InstanceRuns
 pub mod Walk
 pub mod Agrees
 pub mod Defaults
