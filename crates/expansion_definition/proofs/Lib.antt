@@ -15,6 +15,11 @@ pub mod Ids
 pub mod Books
 pub mod Rows
 pub mod Types
+pub mod Sizes
+pub mod Costs
+pub mod Paying
+pub mod PlainPays
+pub mod InstancePays
 pub mod Counted
 pub mod Parts
 pub mod Stopped
