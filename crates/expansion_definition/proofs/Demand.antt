@@ -33,7 +33,9 @@ use Rattle.expansion_definition.specs.Expand.{statements, LedgerEntry, l
 use Rattle.expansion_definition.specs.Reached.{Known, knownEntry, bodyIds, declOf, bodyNames, bodyScope, kindBy, nodeKind, defaultScope, graph}
 use Rattle.expansion_definition.specs.Expanded.{scopeAt, TakesDefault, Expanded, Met, knownDocument, PlainAt, InstanceAt, Dangling, fourOrigin, fourStatement, fourBody, six, seven, eight, Needs, Refusal, atTop, nowhere, tooDeep, atNode, tooMany}
 use Rattle.expansion_definition.proofs.Outcome.{atOk, atRefusal}
-use Rattle.expansion_definition.proofs.Walk.{see, Fair, Whole, whole-run, Halt, noRow, because, statements-run}
+use Rattle.expansion_definition.proofs.Worlds.{see}
+use Rattle.expansion_definition.proofs.Running.{Fair}
+use Rattle.expansion_definition.proofs.Walk.{Whole, whole-run, Halt, noRow, because, statements-run}
 use Rattle.expansion_definition.proofs.Agrees.{agrees}
 use Rattle.expansion_definition.proofs.Defaults.{defaults-exact}
 use Rattle.expansion_definition.proofs.DefaultCount.{default-count}

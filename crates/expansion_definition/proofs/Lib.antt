@@ -1,6 +1,10 @@
 pub mod Outcome
 pub mod Marks
 pub mod Names
+pub mod Worlds
+pub mod Running
+pub mod PlainRuns
+pub mod InstanceRuns
 pub mod Walk
 pub mod Agrees
 pub mod Defaults
@@ -11,6 +15,11 @@ pub mod Ids
 pub mod Books
 pub mod Rows
 pub mod Types
+pub mod Sizes
+pub mod Costs
+pub mod Paying
+pub mod PlainPays
+pub mod InstancePays
 pub mod Counted
 pub mod Parts
 pub mod Stopped

@@ -16,8 +16,11 @@ use Rattle.expansion_definition.specs.Outputs.{sumOf}
 use Rattle.expansion_definition.specs.Counted.{routesIn, ofScope, ofValue, ofRun, held, valuesOr}
 use Rattle.expansion_definition.specs.Until.{Fit, Named, scopeOf, Charged, DefaultCharged, BodyDone, ofBody, BodyCharged, PartsCharged}
 use Rattle.expansion_definition.proofs.Outcome.{atOk}
-use Rattle.expansion_definition.proofs.Walk.{Unseen, see, Fits, PartRan, DefaultRan, BodyPartRan, plain-ran, given-ran, default-ran, body-ran}
-use Rattle.expansion_definition.proofs.Counted.{Sees, row-is, plain-first, given-first, default-first, body-part}
+use Rattle.expansion_definition.proofs.Worlds.{Unseen, see}
+use Rattle.expansion_definition.proofs.Running.{Fits}
+use Rattle.expansion_definition.proofs.Walk.{PartRan, DefaultRan, BodyPartRan, plain-ran, given-ran, default-ran, body-ran}
+use Rattle.expansion_definition.proofs.Costs.{Sees}
+use Rattle.expansion_definition.proofs.Counted.{row-is, plain-first, given-first, default-first, body-part}
 
 module _ (I : Input) where
   -- A state that has a world's entries fits it,

@@ -19,7 +19,8 @@ use Rattle.expansion_definition.specs.Expand.{statement, rootEnv, statem
 use Rattle.expansion_definition.specs.Counted.{tops}
 use Rattle.expansion_definition.specs.Expanded.{TopsDone, Stopped, atStart, atStatement}
 use Rattle.expansion_definition.proofs.Outcome.{atOk}
-use Rattle.expansion_definition.proofs.Walk.{see, tops-ran}
+use Rattle.expansion_definition.proofs.Worlds.{see}
+use Rattle.expansion_definition.proofs.Walk.{tops-ran}
 use Rattle.expansion_definition.proofs.Counted.{tops-counted, copies-charged}
 use Rattle.expansion_definition.proofs.Parts.{fit, parts-charged}
 

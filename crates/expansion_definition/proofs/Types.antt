@@ -21,7 +21,7 @@ use Rattle.expansion_definition.specs.Instances.{pushScope, openScope, t
 use Rattle.expansion_definition.specs.Copy.{copyNode, mappedOr, copy}
 use Rattle.expansion_definition.specs.Expand.{statement, rootEnv, statements}
 use Rattle.expansion_definition.proofs.Outcome.{Outcome, refused, accepted, Any, bindOut, mapOut, turnOut, both}
-use Rattle.expansion_definition.proofs.Walk.{typesOf, Same, Short, Keep, keep-ret, keep-bind, charge-keep, chargeEach-keep, paid-keep, clone-keep, associate-keep, externProto-keep, copyOrigin-keep, isField-keep, isInterface-keep, copyRoute-keep, copyExtern-keep, copyStatement-keep, mapM-keep, store-keep, recordInstance-keep}
+use Rattle.expansion_definition.proofs.Worlds.{typesOf, Same, Short, Keep, keep-ret, keep-bind, charge-keep, chargeEach-keep, paid-keep, clone-keep, associate-keep, externProto-keep, copyOrigin-keep, isField-keep, isInterface-keep, copyRoute-keep, copyExtern-keep, copyStatement-keep, mapM-keep, store-keep, recordInstance-keep}
 
 -- ---- lists
 
