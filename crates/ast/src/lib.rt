@@ -1,9 +1,10 @@
+#![tactic(auto)]
 // Ids are three numberings kept apart, as in ast.rs.
-#[derive(Drop)]
+#[derive(Clone, Copy)]
 pub struct NodeId(pub u32);
 
-#[derive(Drop)]
+#[derive(Clone, Copy)]
 pub struct ProtoId(pub u32);
 
-#[derive(Drop)]
+#[derive(Clone, Copy)]
 pub struct ExternProtoId(pub u32);

@@ -1,3 +1,4 @@
+#![tactic(auto)]
 // The counts of documents one after another, added to a total for each type name (document 02, wish 5).
 ghost use Rattle.std.specs.Prelude.{◌≡◌};
 ghost use Rattle.sheet_rows.specs.Rows.{rows};

@@ -1,3 +1,4 @@
+#![tactic(auto)]
 // Count sheet as C calls it: the answer in lent words.
 ghost use Rattle.std.specs.Prelude.{◌≡◌, length};
 ghost use Rattle.words_answer.specs.Answer.{exported};
@@ -14,7 +15,7 @@ pub fn export(
     work: &mut [u32],
     answer: &mut [u64],
 ) -> u32
-    ensures* { λ r. ⌜ record { result = r; lent = totals.new; answer = answer.new } ≡ exported 17 2 totals.old answer.old (said_counted (counted_sheet documents.now protocols.now names.now (length work.old) totals.old)) ⌝ }
+    ensures { record { result = result; lent = totals.new; answer = answer.new } ≡ exported 17 2 totals.old answer.old (said_counted (counted_sheet documents.now protocols.now names.now (length work.old) totals.old)) }
 {
     if answer.len() < 2 {
         return 17;

@@ -1,3 +1,4 @@
+#![tactic(auto)]
 // Count sheet under both protocols (document 02, wish 5).
 ghost use Rattle.std.specs.Prelude.{◌≡◌, ◌≤◌, length, drop};
 ghost use Rattle.graph_definition.specs.Graph.{among};
@@ -10,7 +11,7 @@ use sheet_rows::part::Part;
 use sheet_walks::walk;
 
 // What counting answers: how many totals were written, or which refusal.
-#[derive(Drop)]
+#[derive(Clone, Copy)]
 pub enum Counted {
     Totals(usize),
     Wrong,

@@ -1,3 +1,4 @@
+#![tactic(auto)]
 // The steps of an expansion about IS bindings, and the record of an instance: they copy no node.
 ghost use Rattle.journal_records.specs.Records.{tag_stored};
 ghost use Rattle.journal_reading.specs.WellFormed.{HandleAt};
@@ -43,7 +44,7 @@ fn class_of(x: u32) -> u32
 }
 
 // What an IS target has in a scope: nothing outside a body; in a body no value, or one, cloned: its charges are made.
-#[derive(Drop)]
+#[derive(Clone, Copy)]
 pub enum Given {
     Outside,
     Without,

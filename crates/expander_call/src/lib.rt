@@ -1,3 +1,4 @@
+#![tactic(auto)]
 // Expand whole (document 01): what is refused before the first step, then the run.
 ghost use Rattle.std.specs.Prelude.{◌≡◌};
 ghost use Rattle.expansion_operation.specs.Operation.{wrong_length};

@@ -1,3 +1,4 @@
+#![tactic(auto)]
 // Expand: copy, instantiate and value with their parts, which call each other: a node here, its fields and interfaces in
 // contents, a value in values, an instance in instances. Remaining depth falls at each node entered.
 mod contents;

@@ -1,3 +1,4 @@
+#![tactic(auto)]
 // Expand as C calls it: the answer in lent words.
 ghost use Rattle.expander_run.specs.Calls.{call_of};
 ghost use Rattle.expander_export.specs.Exports.{SaysC, Demand1C, Demand3C};

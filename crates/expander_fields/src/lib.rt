@@ -1,3 +1,4 @@
+#![tactic(auto)]
 // A plain node's fields and interfaces that have an IS.
 ghost use Rattle.std.specs.Prelude.{◌≡◌};
 ghost use Rattle.journal_records.specs.Records.{tag_field, tag_interface};

@@ -1,3 +1,4 @@
+#![tactic(auto)]
 // The record of an instance, and the routes of its body.
 ghost use Rattle.std.specs.Prelude.{◌≡◌};
 ghost use Rattle.ast.specs.Choice.{or_else};

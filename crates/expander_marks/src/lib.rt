@@ -1,3 +1,4 @@
+#![tactic(auto)]
 // The filter over a node's body order: which marks are kept, by two positions (document 02, wish 3).
 ghost use Rattle.std.specs.Prelude.{◌≡◌, ◌<◌, [], ◌∷◌, length};
 ghost use Rattle.sheet_rows.specs.Rows.{rows};
@@ -17,28 +18,28 @@ use sheet_walks::walk;
 use sheet_walks::walk::Found;
 
 // The positions at a mark: how many Field and how many Statement marks stand before it.
-#[derive(Drop)]
+#[derive(Clone, Copy)]
 struct Positions {
     field: usize,
     statement: usize,
 }
 
 // How far a list is looked through: its entries from the position up to `upto` are kept, and the next ones stand from a row on.
-#[derive(Drop)]
+#[derive(Clone, Copy)]
 struct Reach {
     upto: usize,
     row: usize,
 }
 
 // Entries that are kept, one after another: how many, and the row where that ends.
-#[derive(Drop)]
+#[derive(Clone, Copy)]
 struct Run {
     count: usize,
     row: usize,
 }
 
 // Whether a mark is kept, and how far the lists are looked through at the next.
-#[derive(Drop)]
+#[derive(Clone, Copy)]
 struct Taken {
     kept: bool,
     fields: Reach,

@@ -1,3 +1,4 @@
+#![tactic(auto)]
 // Steps of an expansion that copy no node: externs, routes, a node's statements and its body order.
 ghost use Rattle.std.specs.Prelude.{◌<◌, ◌≤◌, length};
 ghost use Rattle.sheet_rows.specs.Rows.{rows};

@@ -1,3 +1,4 @@
+#![tactic(auto)]
 // The top statements of the root, each over the expander's copy.
 ghost use Rattle.std.specs.Prelude.{◌≡◌, ◌<◌, length};
 ghost use Rattle.sheet_rows.specs.Rows.{rows};

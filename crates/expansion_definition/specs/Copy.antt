@@ -18,7 +18,7 @@ copy_node I f env i node (some p) = instantiate I f env i node p (proto_at (docs
 
 -- "A mapped id answers its copy; else 5"; then next, of the node
 unfoldable pub mapped_or : Env → ℕ → (Node → Comp ℕ) → Option ℕ → Option Node → Comp ℕ
-mapped_or env i next (some o) node = ret o
+mapped_or env i next (some o) _ = ret o
 mapped_or env i next none none = fail 5 (src env) i
 mapped_or env i next none (some node) = next node
 

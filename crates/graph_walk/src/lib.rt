@@ -1,3 +1,4 @@
+#![tactic(auto)]
 // A walk over all that is reached in an expanded document (document 02, wish 5): each node once, with how often it is
 // mentioned, in lent words. Five words for each node: the place of its row in two, how often it is mentioned in two, and,
 // one after another, the ids of the nodes reached.
@@ -10,21 +11,21 @@ ghost use Rattle.graph_walk.specs.Steps.{with_pair, Mentionable, MentionsNoted, 
 use sheet_rows::row;
 
 // The nodes of a document, and the row of kind 11.
-#[derive(Drop)]
+#[derive(Clone, Copy)]
 pub struct Table {
     pub nodes: usize,
     pub top: usize,
 }
 
 // The nodes that the top statements lead to, and the row after these.
-#[derive(Drop)]
+#[derive(Clone, Copy)]
 pub struct Starts {
     pub tail: usize,
     pub next: usize,
 }
 
 // The nodes of a document, how many of them are reached, and the row after the document.
-#[derive(Drop)]
+#[derive(Clone, Copy)]
 pub struct Walk {
     pub nodes: usize,
     pub tail: usize,

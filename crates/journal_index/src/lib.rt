@@ -1,3 +1,4 @@
+#![tactic(auto)]
 // Records found by their key: an index over the records, in words behind them.
 ghost use Rattle.std.specs.Prelude.{◌≡◌, ◌+◌, ◌*◌, ◌-◌, ◌<◌, ◌≤◌, length};
 ghost use Rattle.journal_records.specs.Records.{keyed};
@@ -11,7 +12,7 @@ use words_lent::wide;
 const BITS: usize = 64;
 
 // The newest record of a key, if there is one.
-#[derive(Drop)]
+#[derive(Clone, Copy)]
 pub enum Newest {
     At(usize),
     Nothing,

@@ -1,3 +1,4 @@
+#![tactic(auto)]
 // Records in lists: those that a scope owns, and the families of stored values.
 ghost use Rattle.std.specs.Prelude.{◌+◌, ◌*◌, ◌≤◌, length};
 ghost use Rattle.journal_lists.specs.Owned.{Ownable, Appended};

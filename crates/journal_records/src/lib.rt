@@ -1,3 +1,4 @@
+#![tactic(auto)]
 // The arena: records of twelve words in a lent slice, one to a charge.
 mod made;
 
@@ -36,7 +37,7 @@ pub const TAG_ASSOCIATION: u32 = 13;
 pub const TAG_INSTANCE: u32 = 14;
 
 // Word 0 is the tag; module `made` says what the other words of a record are.
-#[derive(Drop)]
+#[derive(Clone, Copy)]
 pub struct Record {
     pub tag: u32,
     pub a: u32,

@@ -1,3 +1,4 @@
+#![tactic(auto)]
 // What C calls (include/luhetami.h). A slice is a pointer and a length; the result is the refusal, 0 where accepted, but for
 // luhetami_check. Each operation's own crate has what it does and its wrong programs; here stand the names and the promises.
 ghost use Rattle.std.specs.Prelude.{◌≡◌, length};
@@ -36,7 +37,7 @@ pub extern "C" fn luhetami_expand<'a>(
 // Read lines. Answer: refusal, place, rows. More lines than a u32 counts are refused.
 #[unsafe(no_mangle)]
 pub extern "C" fn luhetami_read_lines(lines: &[u8], words: &mut [u32], answer: &mut [u32]) -> u32
-    ensures* { λ r. ⌜ record { result = r; lent = words.new; answer = answer.new } ≡ read_c lines.now words.old answer.old ⌝ }
+    ensures { record { result = result; lent = words.new; answer = answer.new } ≡ read_c lines.now words.old answer.old }
 {
     text_export::read_lines(lines, words, answer)
 }
@@ -44,7 +45,7 @@ pub extern "C" fn luhetami_read_lines(lines: &[u8], words: &mut [u32], answer: &
 // Write lines. Answer: refusal, place, bytes. Rows of more bytes than a u32 counts are refused.
 #[unsafe(no_mangle)]
 pub extern "C" fn luhetami_write_lines(words: &[u32], lines: &mut [u8], answer: &mut [u32]) -> u32
-    ensures* { λ r. ⌜ record { result = r; lent = lines.new; answer = answer.new } ≡ write_c words.now lines.old answer.old ⌝ }
+    ensures { record { result = result; lent = lines.new; answer = answer.new } ≡ write_c words.now lines.old answer.old }
 {
     text_export::write_lines(words, lines, answer)
 }
@@ -57,7 +58,7 @@ pub extern "C" fn luhetami_moving(
     totals: &mut [u64],
     answer: &mut [u64],
 ) -> u32
-    ensures* { λ r. ⌜ record { result = r; lent = totals.new; answer = answer.new } ≡ exported 27 4 totals.old answer.old (said_of (moved counts.now «width» totals.old)) ⌝ }
+    ensures { record { result = result; lent = totals.new; answer = answer.new } ≡ exported 27 4 totals.old answer.old (said_of (moved counts.now «width» totals.old)) }
 {
     moving_export::export(counts, width, totals, answer)
 }
@@ -71,7 +72,7 @@ pub extern "C" fn luhetami_pages(
     work: &mut [u32],
     answer: &mut [u64],
 ) -> u32
-    ensures* { λ r. ⌜ record { result = r; lent = text.new; answer = answer.new } ≡ exported 29 2 text.old answer.old (said_paged (paged document.now ledger.now (length work.old) text.old)) ⌝ }
+    ensures { record { result = result; lent = text.new; answer = answer.new } ≡ exported 29 2 text.old answer.old (said_paged (paged document.now ledger.now (length work.old) text.old)) }
 {
     pages_export::export(document, ledger, text, work, answer)
 }
@@ -86,7 +87,7 @@ pub extern "C" fn luhetami_count(
     work: &mut [u32],
     answer: &mut [u64],
 ) -> u32
-    ensures* { λ r. ⌜ record { result = r; lent = totals.new; answer = answer.new } ≡ exported 17 2 totals.old answer.old (said_counted (counted_sheet documents.now protocols.now names.now (length work.old) totals.old)) ⌝ }
+    ensures { record { result = result; lent = totals.new; answer = answer.new } ≡ exported 17 2 totals.old answer.old (said_counted (counted_sheet documents.now protocols.now names.now (length work.old) totals.old)) }
 {
     count_export::export(documents, protocols, names, totals, work, answer)
 }
@@ -94,7 +95,7 @@ pub extern "C" fn luhetami_count(
 // The check of a sheet by a form's number. Answer: 1 where it fits, else 0; the row. The result is the first of these.
 #[unsafe(no_mangle)]
 pub extern "C" fn luhetami_check(words: &[u32], form: u32, answer: &mut [u64]) -> u32
-    ensures* { λ r. ⌜ record { result = r; answer = answer.new } ≡ check_c words.now form answer.old ⌝ }
+    ensures { record { result = result; answer = answer.new } ≡ check_c words.now form answer.old }
 {
     sheet_export::export(words, form, answer)
 }

@@ -1,3 +1,4 @@
+#![tactic(auto)]
 // Moving totals as C calls them: the answer in lent words.
 ghost use Rattle.std.specs.Prelude.{◌≡◌};
 ghost use Rattle.words_answer.specs.Answer.{exported};
@@ -7,7 +8,7 @@ use moving_definition::Moved;
 
 // Moving totals. Answer: refusal, totals, largest, place.
 pub fn export(counts: &[u64], width: u32, totals: &mut [u64], answer: &mut [u64]) -> u32
-    ensures* { λ r. ⌜ record { result = r; lent = totals.new; answer = answer.new } ≡ exported 27 4 totals.old answer.old (said_of (moved counts.now «width» totals.old)) ⌝ }
+    ensures { record { result = result; lent = totals.new; answer = answer.new } ≡ exported 27 4 totals.old answer.old (said_of (moved counts.now «width» totals.old)) }
 {
     if answer.len() < 4 {
         return 27;

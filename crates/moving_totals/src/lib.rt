@@ -1,3 +1,4 @@
+#![tactic(auto)]
 // Moving totals along the coast (document 02, wish 11): the code.
 ghost use Rattle.std.specs.Prelude.{◌≡◌, length, take};
 ghost use Rattle.moving_definition.specs.Moving.{sum, any_over, answer_of, moved};

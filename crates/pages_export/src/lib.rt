@@ -1,3 +1,4 @@
+#![tactic(auto)]
 // Pages as C calls them: the answer in lent words.
 ghost use Rattle.std.specs.Prelude.{◌≡◌, length};
 ghost use Rattle.words_answer.specs.Answer.{exported};
@@ -13,7 +14,7 @@ pub fn export(
     work: &mut [u32],
     answer: &mut [u64],
 ) -> u32
-    ensures* { λ r. ⌜ record { result = r; lent = text.new; answer = answer.new } ≡ exported 29 2 text.old answer.old (said_paged (paged document.now ledger.now (length work.old) text.old)) ⌝ }
+    ensures { record { result = result; lent = text.new; answer = answer.new } ≡ exported 29 2 text.old answer.old (said_paged (paged document.now ledger.now (length work.old) text.old)) }
 {
     if answer.len() < 2 {
         return 29;

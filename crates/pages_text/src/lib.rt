@@ -1,3 +1,4 @@
+#![tactic(auto)]
 // The lines of a page (document 02, wish 13): a heading, a node's line, a blank line.
 ghost use Rattle.std.specs.Prelude.{◌≡◌, ◌++◌, ◌+◌, ◌*◌, ◌≤◌, length, drop};
 ghost use Rattle.std.proofs.lemmas.List.Edits.{sets};

@@ -1,3 +1,4 @@
+#![tactic(auto)]
 // Pages (document 02, wish 13): every page of a document's ledger.
 ghost use Rattle.std.specs.Prelude.{◌≡◌, ◌+◌, ◌*◌, length};
 ghost use Rattle.std.proofs.lemmas.List.Edits.{sets};

@@ -9,7 +9,7 @@ use native.Mathlib.Numerals.{add-one}
 use lib.ListN.{length, get_or, drop, get_elem?, length-drop, drop_of_length-le}
 use lib.Dec.{eqb}
 use borrow.Author.Tests.{eq-eqb, ne_eqb}
-use Rattle.ast.specs.Ast.{Route, Statement, Document}
+use Rattle.ast.specs.Ast.{ProtoDecl, Route, Statement, Document}
 use Rattle.ast.specs.Choice.{choose, first}
 use Rattle.sheet_rows.specs.declared.row.Row.{Row}
 use Rattle.sheet_rows.specs.declared.part.Part.{Part}
@@ -139,7 +139,12 @@ module _ {R : List Row} {protos name : ℕ} where
       -- it has another, or dangles
       pub first_pass : b ≡ false → Passing R protos name p (q + 1)
       unfolding first_named
-      first_pass e = record { is = λ file h. w.is file h ∙ rw (s.is, h, sym is, e) }
+      first_pass e =
+          record {
+            is = λ file h.
+                let z : is_named name (get_elem? file.protos id) ≡ false = ap (λ (ps : List ProtoDecl). is_named name (get_elem? ps id)) h ∙ sym is ∙ e in
+                w.is file h ∙ rw (s.is, z);
+          }
 
 -- ---- the pick in a document
 

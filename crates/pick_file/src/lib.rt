@@ -1,3 +1,4 @@
+#![tactic(auto)]
 // The pick within a file: a top-level Proto statement of its document.
 ghost use Rattle.std.specs.Prelude.{◌≡◌, ◌*◌, ◌≤◌, ◌<◌, length, drop};
 ghost use Rattle.std.proofs.Math.ListN.{get_elem?};
@@ -16,14 +17,14 @@ use sheet_walks::walk;
 use sheet_walks::walk::Found;
 
 // A top-level Proto statement: the id that it names, and its row.
-#[derive(Drop)]
+#[derive(Clone, Copy)]
 pub enum TopProto {
     At { id: ProtoId, row: usize },
     Nothing,
 }
 
 // The prototypes from a row on: how many they are, and an index of them in lent words.
-#[derive(Drop)]
+#[derive(Clone, Copy)]
 pub struct ProtoIndex {
     pub from: usize,
     pub count: usize,

@@ -1,3 +1,4 @@
+#![tactic(auto)]
 // Picks (document 01, Modules: Picks; document 02, wish 12): what the urls of an extern lead to, and the table of bases.
 pub mod table;
 
@@ -18,7 +19,7 @@ use sheet_walks::walk::Found;
 use table::{Source, Table};
 
 // The picked document's number and the PROTO's id in it.
-#[derive(Drop)]
+#[derive(Clone, Copy)]
 pub enum Chosen {
     Proto { document: u32, id: ProtoId },
     Nothing,
@@ -32,7 +33,7 @@ pub struct Gathered {
 }
 
 // What a url leads to, beside the memo.
-#[derive(Drop)]
+#[derive(Clone, Copy)]
 pub struct UrlChoice {
     pub chosen: Chosen,
     pub memo: Memo,
@@ -93,7 +94,7 @@ fn gather(
     if sheet.len() / 8 <= document {
         return Gathered { table, memo };
     }
-    let mut trying = 0;
+    let mut trying: u32 = 0;
     let mut at = document + 1;
     loop {
         if trying == 0 {

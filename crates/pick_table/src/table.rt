@@ -12,7 +12,7 @@ use sheet_walks::walk::Found;
 use words_lent::wide;
 
 // A file of the library: its number, from 1, and the row where its document begins. Number 0 stands for no file.
-#[derive(Drop)]
+#[derive(Clone, Copy)]
 pub struct Source {
     pub number: u32,
     pub row: usize,

@@ -1,3 +1,4 @@
+#![tactic(auto)]
 // The steps that make a node, map a source id to it, look the copy up, and fill it.
 ghost use Rattle.std.specs.Prelude.{◌+◌, ◌-◌};
 ghost use Rattle.journal_records.specs.Records.{Pushed};

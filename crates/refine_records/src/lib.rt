@@ -1,3 +1,4 @@
+#![tactic(auto)]
 // What an expansion keeps by value, and the steps that write one record of the journal.
 ghost use Rattle.std.specs.Prelude.{◌≡◌, ◌+◌, ◌-◌, ◌≤◌};
 ghost use Rattle.refine_records.specs.Sound.{Standing};
@@ -8,7 +9,7 @@ use journal_records;
 use journal_records::Record;
 
 // N, K, the heads of the journal's index; the index starts behind K records.
-#[derive(Drop)]
+#[derive(Clone, Copy)]
 pub struct Limits {
     pub nodes: usize,
     pub rows: usize,
@@ -16,7 +17,7 @@ pub struct Limits {
 }
 
 // How many of each there are so far. A record is a charge.
-#[derive(Drop)]
+#[derive(Clone, Copy)]
 pub struct Counts {
     pub nodes: u32,
     pub scopes: u32,
@@ -26,7 +27,7 @@ pub struct Counts {
 
 // The Rust's Env: the scope's number and the place of its record, its document's slot, and in a body the handle of the
 // instance's interface values.
-#[derive(Drop)]
+#[derive(Clone, Copy)]
 pub struct Env {
     pub scope: u32,
     pub place: usize,
@@ -37,7 +38,7 @@ pub struct Env {
 
 // What a step gives: a node id, a payload or a handle, and where it is of use a place; or a refusal with its two place
 // numbers.
-#[derive(Drop)]
+#[derive(Clone, Copy)]
 pub enum Answer {
     Done {
         st: Counts,

@@ -1,3 +1,4 @@
+#![tactic(auto)]
 // The steps on an instance's values: storing one, finding one by its name, cloning one.
 ghost use Rattle.std.specs.Prelude.{◌≡◌, ◌+◌, ◌-◌, length};
 ghost use Rattle.journal_records.specs.Records.{tag_id, tag_stored};

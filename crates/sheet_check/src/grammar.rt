@@ -6,7 +6,7 @@ use sheet_rows::row::{NONE, Row};
 
 // What a sheet is to be: a root sheet; a library; an expanded document, which is a root sheet without prototypes; expanded
 // documents one after another; protos without body statements.
-#[derive(Drop)]
+#[derive(Clone, Copy)]
 pub enum Form {
     Root,
     Library,
@@ -81,7 +81,7 @@ fn takes_marks(form: Form) -> bool
 
 // What a row does, by its kind: it starts a document; it opens a node, a proto, an extern or the top; it stands inside one
 // of these; it starts a file; it comes only where a row before it counted it; it fits nowhere.
-#[derive(Drop)]
+#[derive(Clone, Copy)]
 pub enum Role {
     Starts,
     Opens,
@@ -107,7 +107,7 @@ fn role_of(kind: u32) -> Role
 // Where the check stands. part: 0 before a document, 1 after its row and before the first of protos, 2 in a node, 7 in a
 // proto, 8 in an extern, 11 in the top, 12 before the first of files or documents. last: the kind of the part's last row but
 // those owed, or 0. ids, routes, associations: how many such rows are owed, in this order.
-#[derive(Drop)]
+#[derive(Clone, Copy)]
 pub struct State {
     pub part: u32,
     pub last: u32,
@@ -116,7 +116,7 @@ pub struct State {
     pub associations: u32,
 }
 
-#[derive(Drop)]
+#[derive(Clone, Copy)]
 pub enum Next {
     Go(State),
     No,

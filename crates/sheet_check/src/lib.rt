@@ -1,3 +1,4 @@
+#![tactic(auto)]
 // The check of a sheet, and the first row that doesn't fit (document 01, Sheets).
 pub mod grammar;
 
@@ -10,7 +11,7 @@ use sheet_rows::row;
 
 // Whether a sheet fits its form, or else the first row, from 0, that doesn't: the row count, where the sheet ends early.
 // Words past the last whole row are no row.
-#[derive(Drop)]
+#[derive(Clone, Copy)]
 pub enum Checked {
     Fits,
     Bad(usize),

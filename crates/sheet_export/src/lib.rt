@@ -1,3 +1,4 @@
+#![tactic(auto)]
 // The check of a sheet as C calls it: the answer in lent words.
 ghost use Rattle.std.specs.Prelude.{◌≡◌};
 ghost use Rattle.sheet_export.specs.Exports.{check_c};
@@ -6,7 +7,7 @@ use sheet_check::Checked;
 
 // The check of a sheet by a form's number. Answer: 1 where it fits, else 0; the row. The result is the first of these.
 pub fn export(words: &[u32], form: u32, answer: &mut [u64]) -> u32
-    ensures* { λ r. ⌜ record { result = r; answer = answer.new } ≡ check_c words.now form answer.old ⌝ }
+    ensures { record { result = result; answer = answer.new } ≡ check_c words.now form answer.old }
 {
     if answer.len() <= 1 {
         return 0;

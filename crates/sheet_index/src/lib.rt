@@ -1,3 +1,4 @@
+#![tactic(auto)]
 // An index of a part: a table of rows in lent words, so that a lookup walks at most from one slot to the next.
 ghost use Rattle.std.specs.Prelude.{◌*◌, ◌<◌, ◌≤◌};
 ghost use Rattle.sheet_rows.specs.Rows.{rows};

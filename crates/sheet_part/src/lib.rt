@@ -1,3 +1,4 @@
+#![tactic(auto)]
 // A part of one of two sheets, and the rows of a prototype as such a part.
 ghost use Rattle.std.specs.Prelude.{◌≡◌, ◌<◌, length};
 ghost use Rattle.ast.specs.Lookups.{proto_at};

@@ -1,1 +1,2 @@
+#![tactic(auto)]
 // A sheet and the document that it says determine each other: theorems only.

@@ -3,7 +3,7 @@ ghost use Rattle.std.specs.Prelude.{◌≡◌};
 ghost use Rattle.sheet_rows.specs.Parse.{kind_of, passes};
 
 // What a walk over rows collects: the rows of one kind, each the first row of an element.
-#[derive(Drop)]
+#[derive(Clone, Copy)]
 pub enum Part {
     Files,
     Documents,

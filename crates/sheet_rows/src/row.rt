@@ -5,7 +5,7 @@ ghost use Rattle.sheet_rows.specs.Rows.{rows, blank};
 // What a column has for no name, no id, no value.
 pub const NONE: u32 = 4294967295;
 
-#[derive(Drop)]
+#[derive(Clone, Copy)]
 pub struct Row {
     pub kind: u32,
     pub a: u32,

@@ -1,3 +1,4 @@
+#![tactic(auto)]
 // The columns of a row, by its kind (document 01, Sheets, the table).
 ghost use Rattle.std.specs.Prelude.{◌≡◌};
 ghost use Rattle.sheet_rows.specs.Print.{mark};

@@ -1,2 +1,3 @@
+#![tactic(auto)]
 // Walks over the parts of a sheet.
 pub mod walk;

@@ -7,7 +7,7 @@ ghost use Rattle.sheet_walks.specs.Walk.{Sought, Bared, Nth, Child};
 use sheet_rows::part::Part;
 use sheet_rows::{part, row};
 
-#[derive(Drop)]
+#[derive(Clone, Copy)]
 pub enum Found {
     At(usize),
     Nothing,

@@ -1,3 +1,4 @@
+#![tactic(auto)]
 // The directory of the documents that an expansion can meet, in lent words: at each of the 65 slots its document's number, then
 // what the constants say.
 pub mod indexes;

@@ -23,21 +23,21 @@ use source_directory;
 use words_lent::wide;
 
 // A plain node, or an instance of a PROTO of a slot's document.
-#[derive(Drop)]
+#[derive(Clone, Copy)]
 pub enum Target {
     Plain,
     Of { slot: u32, proto: ProtoId },
 }
 
 // The pick of an extern, and the mark of the url that it took: its index with one added, 0 where there is no pick.
-#[derive(Drop)]
+#[derive(Clone, Copy)]
 pub struct Taken {
     pub target: Target,
     pub mark: u32,
 }
 
 // The same beside the memo of the library's files.
-#[derive(Drop)]
+#[derive(Clone, Copy)]
 pub struct PickedTarget {
     pub target: Target,
     pub mark: u32,

@@ -1,3 +1,4 @@
+#![tactic(auto)]
 // What an expansion asks of the two sheets (document 01, Modules: Lookups, Picks, Reached): where a node, prototype or
 // extern stands, and which prototype a node is an instance of; in constant time where the lent words have room.
 // The documents that an expansion can meet are known by slots: 0 the root, j + 1 the file of base j.

@@ -1,3 +1,4 @@
+#![tactic(auto)]
 // The last field of a name, of a node: by a walk over its fields, or by a table where it is an instance and the walk takes
 // many rows. A table has the rows of the node's fields, sorted by name. The list of the tables has a place for 16 rows,
 // fewer than such a node has: first for the root's rows, then for the library's.

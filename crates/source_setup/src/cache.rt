@@ -13,7 +13,7 @@ use source_lookup::instance::Target;
 use words_lent::wide;
 
 // Where the cache ends so far, beside the memo of the library's files.
-#[derive(Drop)]
+#[derive(Clone, Copy)]
 struct Added {
     at: usize,
     memo: Memo,

@@ -1,3 +1,4 @@
+#![tactic(auto)]
 // What `source` answers by is written here: the directory, and in the lent words the indexes, the tables of names and the cache of
 // picks.
 mod cache;

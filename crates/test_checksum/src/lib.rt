@@ -1,3 +1,4 @@
+#![tactic(auto)]
 // Sums over words and bytes, in which each number and its place count.
 ghost use Rattle.std.specs.Prelude.{◌≡◌};
 ghost use Rattle.test_checksum.specs.Sum.{with, checksum_of};

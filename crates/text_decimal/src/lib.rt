@@ -1,3 +1,4 @@
+#![tactic(auto)]
 // Decimal text: a number right-justified with spaces in any width of bytes.
 ghost use Rattle.std.specs.Prelude.{◌≡◌, ◌+◌, ◌%◌, ◌≤◌, ◌<◌, length};
 ghost use Rattle.std.proofs.lemmas.List.Edits.{sets};

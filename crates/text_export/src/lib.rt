@@ -1,3 +1,4 @@
+#![tactic(auto)]
 // Read lines and Write lines as C calls them: the answer in lent words.
 ghost use Rattle.std.specs.Prelude.{◌≡◌};
 ghost use Rattle.text_export.specs.Exports.{read_c, write_c};
@@ -6,7 +7,7 @@ use text_lines::{Read, Written};
 
 // Read lines. Answer: refusal, place, rows. More lines than a u32 counts are refused.
 pub fn read_lines(lines: &[u8], words: &mut [u32], answer: &mut [u32]) -> u32
-    ensures* { λ r. ⌜ record { result = r; lent = words.new; answer = answer.new } ≡ read_c lines.now words.old answer.old ⌝ }
+    ensures { record { result = result; lent = words.new; answer = answer.new } ≡ read_c lines.now words.old answer.old }
 {
     if answer.len() < 3 {
         return 12;
@@ -23,7 +24,7 @@ pub fn read_lines(lines: &[u8], words: &mut [u32], answer: &mut [u32]) -> u32
 
 // Write lines. Answer: refusal, place, bytes. Rows of more bytes than a u32 counts are refused.
 pub fn write_lines(words: &[u32], lines: &mut [u8], answer: &mut [u32]) -> u32
-    ensures* { λ r. ⌜ record { result = r; lent = lines.new; answer = answer.new } ≡ write_c words.now lines.old answer.old ⌝ }
+    ensures { record { result = result; lent = lines.new; answer = answer.new } ≡ write_c words.now lines.old answer.old }
 {
     if answer.len() < 3 {
         return 14;

@@ -1,3 +1,4 @@
+#![tactic(auto)]
 // Rows of eight numbers as lines of text: the reader and the writer (document 01, Read lines, Write lines and Lines).
 ghost use Rattle.std.specs.Prelude.{◌≡◌, ◌+◌, ◌*◌, ◌≤◌, length, take, drop};
 ghost use Rattle.std.proofs.lemmas.List.Edits.{sets};
@@ -5,7 +6,7 @@ ghost use Rattle.text_lines.specs.Read.{with_digit, next, column_read, is_number
 ghost use Rattle.text_lines.specs.Write.{line, lines_of, write_answer, write_lines};
 
 // What the bytes of a field come to: spaces alone, a number, or neither.
-#[derive(Drop)]
+#[derive(Clone, Copy)]
 enum Field {
     Spaces,
     Number(u32),
@@ -13,7 +14,7 @@ enum Field {
 }
 
 // What reading answers: the row count, or which refusal.
-#[derive(Drop)]
+#[derive(Clone, Copy)]
 pub enum Read {
     Rows(usize),
     WrongLength,
@@ -21,7 +22,7 @@ pub enum Read {
 }
 
 // What writing answers: the byte count, or its one refusal.
-#[derive(Drop)]
+#[derive(Clone, Copy)]
 pub enum Written {
     Bytes(usize),
     Refused,

@@ -1,3 +1,4 @@
+#![tactic(auto)]
 // The answer of a C export: the refusal first. Words of 32 bits for document 01, of 64 for document 02.
 ghost use Rattle.std.specs.Prelude.{◌≡◌, ◌<◌, ◌≤◌, length, get_or};
 ghost use Rattle.words_lent.specs.Words.{over};

@@ -1,3 +1,4 @@
+#![tactic(auto)]
 // Lent words.
 ghost use Rattle.std.specs.Prelude.{◌≤◌, length};
 ghost use Rattle.words_lent.specs.Words.{Wide, Cleared};

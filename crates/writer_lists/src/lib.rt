@@ -1,3 +1,4 @@
+#![tactic(auto)]
 // The lists of the journal, each walked from its last record. A handle is a record's place with one added, 0 for none.
 pub mod rows;
 
@@ -13,7 +14,7 @@ use journal_records;
 use sheet_rows::row::Row;
 use words_lent::wide;
 
-#[derive(Drop)]
+#[derive(Clone, Copy)]
 pub enum Kind {
     Fields,
     Interfaces,

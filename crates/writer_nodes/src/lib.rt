@@ -1,3 +1,4 @@
+#![tactic(auto)]
 // The nodes of the journal, with their instances.
 ghost use Rattle.std.specs.Prelude.{◌≡◌, ◌+◌, ◌*◌, ◌<◌, ◌≤◌, length};
 ghost use Rattle.sheet_rows.specs.Rows.{front};

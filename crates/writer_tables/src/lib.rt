@@ -1,3 +1,4 @@
+#![tactic(auto)]
 // An entry of the scopes or of the ledger.
 ghost use Rattle.std.specs.Prelude.{◌≡◌, [], ◌∷◌, ◌+◌, ◌*◌, ◌≤◌, length};
 ghost use Rattle.expansion_definition.specs.Scopes.{scope_entry};

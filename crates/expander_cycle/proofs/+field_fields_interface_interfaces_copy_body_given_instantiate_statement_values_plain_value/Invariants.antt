@@ -1,0 +1,76 @@
+use Prim.Native.Nat.{◌+◌, ◌*◌, ◌-◌, ◌≤◌}
+use lib.ListN.{length}
+use Rattle.expander_contracts.proofs.ValueLaws.{Valuing}
+use Rattle.expander_contracts.proofs.FieldLaws.{Fielding}
+use Rattle.expander_parts.specs.Contract.{rows_of}
+use Rattle.expander_contracts.proofs.InterfaceLaws.{Interfacing}
+use Rattle.sheet_rows.specs.Rows.{rows}
+use Rattle.expander_contracts.proofs.BodyLaws.{Bodying}
+use Rattle.expander_contracts.proofs.ValuesLaws.{Storing}
+use Rattle.expander_cycle.proofs.+field_fields_interface_interfaces_copy_body_given_instantiate_statement_values_plain_value.Given as goal
+
+abbrev pub decreases-contents::field : goal.decreases-contents::field
+decreases-contents::field l = l.depth * 16 + 2
+
+abbrev pub decreases-contents::fields : goal.decreases-contents::fields
+decreases-contents::fields l = l.depth * 16 + 3
+
+abbrev pub decreases-contents::interface : goal.decreases-contents::interface
+decreases-contents::interface l = l.depth * 16 + 2
+
+abbrev pub decreases-contents::interfaces : goal.decreases-contents::interfaces
+decreases-contents::interfaces l = l.depth * 16 + 3
+
+abbrev pub decreases-copy : goal.decreases-copy
+decreases-copy l = l.depth * 16
+
+abbrev pub decreases-instances::body : goal.decreases-instances::body
+decreases-instances::body l = l.depth * 16 + 2
+
+abbrev pub decreases-instances::given : goal.decreases-instances::given
+decreases-instances::given l = l.depth * 16 + 2
+
+abbrev pub decreases-instances::instantiate : goal.decreases-instances::instantiate
+decreases-instances::instantiate l = l.depth * 16 + 4
+
+abbrev pub decreases-instances::statement : goal.decreases-instances::statement
+decreases-instances::statement l = l.depth * 16 + 1
+
+abbrev pub decreases-instances::values : goal.decreases-instances::values
+decreases-instances::values l = l.depth * 16 + 3
+
+abbrev pub decreases-plain : goal.decreases-plain
+decreases-plain l = l.depth * 16 + 4
+
+abbrev pub decreases-values::value : goal.decreases-values::value
+decreases-values::value l = l.depth * 16 + 1
+
+abbrev pub invariant-contents::fields-loop-q : goal.invariant-contents::fields-loop-q
+invariant-contents::fields-loop-q l = Fielding l.root l.library l.dir l.initial.work l.lim l.initial.cur l.env l.new.0 l.row l.depth l.work l.cur l.h l.at
+
+abbrev pub decreases-contents::fields-loop-q : goal.decreases-contents::fields-loop-q
+decreases-contents::fields-loop-q l = length (rows_of l.root l.library l.dir l.env.slot) - l.at
+
+abbrev pub invariant-contents::interfaces-loop-q : goal.invariant-contents::interfaces-loop-q
+invariant-contents::interfaces-loop-q l = Interfacing l.root l.library l.dir l.initial.work l.lim l.initial.cur l.env l.new.0 l.row l.depth l.work l.cur l.h l.at
+
+abbrev pub decreases-contents::interfaces-loop-q : goal.decreases-contents::interfaces-loop-q
+decreases-contents::interfaces-loop-q l = length (rows_of l.root l.library l.dir l.env.slot) - l.at
+
+abbrev pub invariant-instances::body-loop-q : goal.invariant-instances::body-loop-q
+invariant-instances::body-loop-q l = Bodying l.root l.library l.dir l.initial.work l.lim l.initial.cur l.env l.id.0 l.inner (rows l.part) l.depth l.work l.cur l.out l.place l.at
+
+abbrev pub decreases-instances::body-loop-q : goal.decreases-instances::body-loop-q
+decreases-instances::body-loop-q l = length (rows l.part) - l.at
+
+abbrev pub invariant-instances::values-loop-q : goal.invariant-instances::values-loop-q
+invariant-instances::values-loop-q l = (l.at ≤ length (rows l.part)) × Storing l.root l.library l.dir l.initial.work l.lim l.initial.cur l.env l.row l.slot l.proto.0 l.decl l.depth l.work l.cur l.h (l.decl + l.at) l.k
+
+abbrev pub decreases-instances::values-loop-q : goal.decreases-instances::values-loop-q
+decreases-instances::values-loop-q l = length (rows l.part) - l.at
+
+abbrev pub invariant-values::value-loop-q : goal.invariant-values::value-loop-q
+invariant-values::value-loop-q l = Valuing l.root l.library l.dir l.initial.work l.lim l.initial.cur l.env l.row l.depth l.work l.cur l.h l.at
+
+abbrev pub decreases-values::value-loop-q : goal.decreases-values::value-loop-q
+decreases-values::value-loop-q l = length (rows_of l.root l.library l.dir l.env.slot) - l.at

@@ -1,0 +1,16 @@
+use mathlib.Core.Path.{refl}
+use Rattle.source_lookup.proofs.SourcedLaws.{slot_within}
+use Rattle.expander_contracts.proofs.OriginLaws.{origin_extern, origin_other}
+use Rattle.expander_cycle.proofs.origin.Goals as goal
+
+pub row_of-r-requires : goal.row_of-r-requires
+row_of-r-requires c = slot_within c.requires.lent.sourced c.requires.slot
+
+pub extern_proto-requires : goal.extern_proto-requires
+extern_proto-requires c = record { standing = c.requires.standing; lent = c.requires.lent; slot = c.requires.slot }
+
+pub returns-then-r-eq2 : goal.returns-then-r-eq2
+returns-then-r-eq2 c = origin_extern _ _ _ _ _ _ _ _ c.requires _ c.row_of-r.ensures c.if-r-eq2.true c.extern_proto.ensures
+
+pub returns : goal.returns
+returns c = origin_other _ _ _ _ _ _ _ _ c.requires _ c.row_of-r.ensures c.if-r-eq2.false refl

@@ -1,0 +1,63 @@
+use mathlib.Core.Path.{◌∙◌}
+use Prim.Native.Nat.{◌≤◌}
+use lib.ListN.{length}
+use lib.Seq.{length-take-le}
+use Rattle.sheet_rows.specs.Rows.{rows}
+use Rattle.words_lent.proofs.WordLaws.{stays, stays_front}
+use Rattle.source_setup.proofs.CacheLaws.{before_first, slot_upto, remember_more, remembered}
+use native.Mathlib.Omega.{arith}
+use borrow.Author.Rules.{rules}
+use Rattle.source_setup.proofs.cache.remember.Goals as goal
+
+pub bounds-dir-198 : goal.bounds-dir-198
+bounds-dir-198 c = omega (arith, c.requires.sourced.directory.long)
+
+pub bounds-dir-194 : goal.bounds-dir-194
+bounds-dir-194 c = omega (arith, c.requires.sourced.directory.long)
+
+pub slice_bounds-fresh-end : goal.slice_bounds-fresh-end
+slice_bounds-fresh-end c = omega (arith, c.wide-from.ensures.same, c.requires.sourced.cache.from, c.requires.sourced.cache.upto, c.requires.sourced.within)
+
+pub slice_bounds-fresh-end-2 : goal.slice_bounds-fresh-end-2
+slice_bounds-fresh-end-2 c =
+    let w = c.args.work.now in
+    let h : c.wide-from.result ≤ length w = omega (arith, c.wide-from.ensures.same, c.requires.sourced.cache.from, c.requires.sourced.cache.upto, c.requires.sourced.within) in
+    let z = length-take-le c.wide-from.result w h in search rules
+
+pub bounds-dir-590 : goal.bounds-dir-590
+bounds-dir-590 c = omega (arith, c.requires.sourced.directory.long)
+
+pub loop-slot-init : goal.loop-slot-init
+loop-slot-init c =
+    let w = c.args.work.now in
+    let h : c.wide-from.result ≤ length w = omega (arith, c.wide-from.ensures.same, c.requires.sourced.cache.from, c.requires.sourced.cache.upto, c.requires.sourced.within) in
+    let e = c.fresh-memo.auto.slots ∙ length-take-le c.wide-from.result w h in
+    (omega arith, record { before = before_first c.fresh-memo.new.slots c.requires (c.fresh-memo.ensures (rows c.args.library.now)) e c.wide-from.ensures.same c.wide-at.ensures.same; dir_stays = stays _; work_stays = stays _ })
+
+pub of_slot-added-requires : goal.of_slot-added-requires
+of_slot-added-requires c = (c.loop-slot.invariant.1.before, slot_upto c.loop-slot.invariant.1 c.loop-slot-test.true)
+
+pub overflow_add-slot : goal.overflow_add-slot
+overflow_add-slot c = omega (arith, c.loop-slot-test.true, c.requires.sourced.directory.few)
+
+pub overflow_add-dir : goal.overflow_add-dir
+overflow_add-dir c = omega (arith, c.wide.ensures.same, c.loop-slot-test.true, c.requires.sourced.directory.few, c.requires.sourced.directory.long, c.loop-slot.invariant.1.dir_stays.long)
+
+pub offset_bounds-dir-wide : goal.offset_bounds-dir-wide
+offset_bounds-dir-wide c = omega (arith, c.wide.ensures.same, c.loop-slot-test.true, c.requires.sourced.directory.few, c.requires.sourced.directory.long, c.loop-slot.invariant.1.dir_stays.long)
+
+pub bounds-dir-wide : goal.bounds-dir-wide
+bounds-dir-wide c = omega (arith, c.wide.ensures.same, c.loop-slot-test.true, c.requires.sourced.directory.few, c.requires.sourced.directory.long, c.loop-slot.invariant.1.dir_stays.long)
+
+pub loop-slot-smaller : goal.loop-slot-smaller
+loop-slot-smaller c = omega (arith, c.loop-slot-test.true, c.requires.sourced.directory.few)
+
+pub loop-slot-preserved : goal.loop-slot-preserved
+loop-slot-preserved c = (omega (arith, c.loop-slot-test.true), rw c.wide.ensures.same (remember_more c.loop-slot.invariant.1 c.of_slot-added.ensures c.loop-slot-test.true))
+
+pub returns : goal.returns
+returns c =
+    let w = c.args.work.now in
+    let h : c.wide-from.result ≤ length w = omega (arith, c.wide-from.ensures.same, c.requires.sourced.cache.from, c.requires.sourced.cache.upto, c.requires.sourced.within) in
+    let e = c.fresh-memo.auto.slots ∙ length-take-le c.wide-from.result w h in
+    remembered c.loop-slot.invariant.1 (stays_front w c.fresh-memo.new.slots c.wide-from.result h e) c.wide-from.ensures.same
