@@ -1,7 +1,7 @@
 /*
  * Luhetami: a verified expander of VRML97 prototypes, by its C interface.
  *
- * Link libluhetami.a, which `rt staticlib luhetami` writes to target/staticlib (x86-64). Its functions:
+ * Link libluhetami.a, which `runner/library` builds into target/staticlib (x86-64). Its functions:
  *
  *     luhetami_read_lines     lines of text to the rows of a sheet
  *     luhetami_expand         a sheet with prototypes to one without

@@ -1,3 +1,4 @@
+#![tactic(auto)]
 // The program of document 01: expands the scene on standard input, in Lines form, with an empty library. It writes a line
 // with the refusal, its places and the counts, then the rows of the expanded scene. What it cannot write it tells on
 // standard error, since it has no exit status of its own.
@@ -9,15 +10,15 @@ ghost use Rattle.expand_text.specs.Answer.{Few};
 
 use expand_text::input::Input;
 use expander_run::Outcome;
-use libc::{STDERR_FILENO, STDIN_FILENO, STDOUT_FILENO};
+use std::io::Read;
 use text_lines::Written;
 
-// Standard input's scene, expanded into out. Input that is longer than the lines, or cannot be read, has no length that Read
+// A reader's scene, expanded into out. Input that is longer than the lines, or cannot be read, has no length that Read
 // lines takes.
-fn respond(text: &mut [u8], out: &mut [u32]) -> Outcome
+fn respond<R: Read>(reader: &mut R, text: &mut [u8], out: &mut [u32]) -> Outcome
     ensures { Few result }
 {
-    match input::read(STDIN_FILENO, text) {
+    match input::read(reader, text) {
         Input::Bytes(n) => scene::expand_text(&text[..n], out),
         Input::TooLong => answer::refused(12, 0),
         Input::Failed => answer::refused(12, 0),
@@ -25,32 +26,29 @@ fn respond(text: &mut [u8], out: &mut [u32]) -> Outcome
 }
 
 // Rows, as lines on standard output; there is room for as many as out holds. Whether all of them were written.
-fn print(rows: &[u32]) -> bool {
+fn print(rt: &impl Print, rows: &[u32]) -> bool {
     let mut text = [0u8; 35600];
     if let Written::Bytes(n) = text_lines::write_lines(rows, &mut text) {
-        return io::write_all(STDOUT_FILENO, &text[..n]);
+        return rt.write_all(&text[..n]).is_ok();
     }
     false
 }
 
 // The answer, and then so many rows of out. Whether all of it was written.
-fn print_all(line: &[u32], rows: &[u32]) -> bool {
-    if !print(line) {
+fn print_all(rt: &impl Print, line: &[u32], rows: &[u32]) -> bool {
+    if !print(rt, line) {
         return false;
     }
-    print(rows)
+    print(rt, rows)
 }
 
-fn main() {
+fn main(rt: HostRuntime) {
     let mut text = [0u8; 44500];
     let mut out = [0u32; 3200];
-    let outcome = respond(&mut text, &mut out);
+    let outcome = respond(&mut rt.stdin(), &mut text, &mut out);
     let line = answer::line(outcome);
     let rows = answer::rows(outcome);
-    if !print_all(&line, &out[..8 * rows]) {
-        io::write_all(
-            STDERR_FILENO,
-            b"expand: the answer could not be written whole\n",
-        );
+    if !print_all(&rt, &line, &out[..8 * rows]) {
+        let _ = rt.eprintln("expand: the answer could not be written whole");
     }
 }

@@ -2,11 +2,10 @@
 use mathlib.Core.List.{List}
 use mathlib.Core.Path.{◌≡◌, refl}
 use native.Mathlib.Omega.{arith}
-use Rattle.expansion_operation.specs.Operation.{Call}
 use Rattle.expander_run.specs.Calls.{Demand3}
 use Rattle.expander_run.specs.declared.Outcome.{Outcome}
 use Rattle.expander_run.specs.declared.Outcome.TheVariants.{Expanded, Refused}
-use Rattle.expand_text.specs.Answer.{answer_rows, Few, call_on}
+use Rattle.expand_text.specs.Answer.{Few, call_on}
 use Prim.Native.Nat.{ℕ}
 
 -- "In every accepted expansion rows ≤ charges ≤ K"

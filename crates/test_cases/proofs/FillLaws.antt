@@ -1,5 +1,5 @@
 -- A turn of the filling: one word more, and the next number.
-use Rattle.std.proofs.Common.{◌≡◌, ℕ, suc, ◌+◌, ◌%◌, ◌^◌, ◌<◌, List, length, get_or, set, refl, ◌∙◌, add-one, arith, get_or-set_other, get_or-set_same, below_more}
+use Rattle.std.proofs.Common.{◌≡◌, ℕ, ◌+◌, ◌%◌, ◌^◌, ◌<◌, List, length, get_or, set, refl, ◌∙◌, add-one, arith, get_or-set_other, get_or-set_same, below_more}
 use Rattle.test_cases.specs.Pattern.{stepped}
 
 module _ (first step : ℕ) where

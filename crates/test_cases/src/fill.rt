@@ -2,8 +2,6 @@
 ghost use Rattle.std.specs.Prelude.{◌≡◌, ℕ, ◌<◌, length, slice_index};
 ghost use Rattle.test_cases.specs.Pattern.{stepped};
 
-use std::num;
-
 // Each word a step more than the one before, wrapped.
 pub fn fill(words: &mut [u32], first: u32, step: u32)
     ensures { (k : ℕ) → k < length words.new → slice_index words.new k ≡ stepped first step k }
@@ -12,7 +10,7 @@ pub fn fill(words: &mut [u32], first: u32, step: u32)
     let mut i = 0;
     while i < words.len() {
         words[i] = n;
-        n = num::wrapping_add_u32(n, step);
+        n = n.wrapping_add(step);
         i += 1;
     }
 }

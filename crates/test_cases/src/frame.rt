@@ -2,12 +2,12 @@
 ghost use Rattle.std.specs.Prelude.{◌≡◌};
 ghost use Rattle.test_cases.specs.Frame.{call_read, or_stay, Text, Lines, SheetRead};
 
-use libc::STDIN_FILENO;
+use std::io;
 use text_lines::Read;
 
 // What Expand is called with: the limits, the words of both sheets and of what is lent, and the rows of each sheet that are
 // kept from the cases before.
-#[derive(Drop)]
+#[derive(Clone, Copy)]
 pub struct Call {
     pub max_nodes: u32,
     pub max_depth: u32,
@@ -40,11 +40,11 @@ pub fn read_head(head: &[u32; 16]) -> Call
     }
 }
 
-// Lines of standard input that fill the text, into the lent words: whether they are there, and all good.
-fn read(text: &mut [u8], words: &mut [u32]) -> bool
+// Lines of a reader that fill the text, into the lent words: whether they are there, and all good.
+fn read<R: io::Read>(reader: &mut R, text: &mut [u8], words: &mut [u32]) -> bool
     ensures { or_stay result (Text text.new) words.old words.new }
 {
-    if io::read_full(STDIN_FILENO, text) < text.len() {
+    if reader.read_exact(text).is_err() {
         return false;
     }
     match text_lines::read_lines(text, words) {
@@ -54,8 +54,8 @@ fn read(text: &mut [u8], words: &mut [u32]) -> bool
     }
 }
 
-// The next lines of standard input, into the lent words: whether there are so many, and all good.
-pub fn lines(count: usize, words: &mut [u32]) -> bool
+// The next lines of a reader, into the lent words: whether there are so many, and all good.
+pub fn lines<R: io::Read>(reader: &mut R, count: usize, words: &mut [u32]) -> bool
     ensures { or_stay result (Lines count) words.old words.new }
 {
     let mut text = [0u8; 11125];
@@ -63,12 +63,12 @@ pub fn lines(count: usize, words: &mut [u32]) -> bool
         return false;
     }
     let end = 89 * count;
-    read(&mut text[..end], words)
+    read(reader, &mut text[..end], words)
 }
 
 // A sheet of so many words: its first rows are kept from the cases before, the others are the next lines. The last one is
 // filled up where the words end within a row.
-pub fn sheet(kept: u32, length: u32, words: &mut [u32]) -> bool
+pub fn sheet<R: io::Read>(reader: &mut R, kept: u32, length: u32, words: &mut [u32]) -> bool
     ensures { or_stay result (SheetRead kept length) words.old words.new }
 {
     let from = kept as usize;
@@ -79,5 +79,5 @@ pub fn sheet(kept: u32, length: u32, words: &mut [u32]) -> bool
     if words.len() / 8 < from {
         return false;
     }
-    lines(rows - from, &mut words[8 * from..])
+    lines(reader, rows - from, &mut words[8 * from..])
 }

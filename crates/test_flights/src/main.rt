@@ -1,3 +1,4 @@
+#![tactic(auto)]
 // The ten flights of document 01 ("Flights to prove"), run through the code: each function's contract is its flight's answer.
 mod instances;
 mod loops;
@@ -9,7 +10,6 @@ ghost use Rattle.expander_run.specs.Calls.{numbers_of};
 ghost use Rattle.test_flights.specs.Flights.{number_line};
 
 use expander_run::Outcome;
-use libc::STDOUT_FILENO;
 
 // The numbers of an answer, and a 0.
 fn line(outcome: Outcome) -> [u32; 8]
@@ -30,21 +30,21 @@ fn line(outcome: Outcome) -> [u32; 8]
     }
 }
 
-fn print(outcome: Outcome) {
+fn print(rt: &impl Print, outcome: Outcome) {
     let row = line(outcome);
     let text = text_lines::line_of(&row);
-    io::write_all(STDOUT_FILENO, &text);
+    let _ = rt.write_all(&text);
 }
 
-fn main() {
-    print(plain::no_statements());
-    print(plain::one_node_of_none());
-    print(plain::one_node_no_depth());
-    print(plain::three_nested());
-    print(plain::one_node_twice());
-    print(instances::one_instance_twice());
-    print(instances::two_instances());
-    print(loops::from_the_instance());
-    print(loops::from_the_plain_node());
-    print(instances::body_without_node());
+fn main(rt: HostRuntime) {
+    print(&rt, plain::no_statements());
+    print(&rt, plain::one_node_of_none());
+    print(&rt, plain::one_node_no_depth());
+    print(&rt, plain::three_nested());
+    print(&rt, plain::one_node_twice());
+    print(&rt, instances::one_instance_twice());
+    print(&rt, instances::two_instances());
+    print(&rt, loops::from_the_instance());
+    print(&rt, loops::from_the_plain_node());
+    print(&rt, instances::body_without_node());
 }

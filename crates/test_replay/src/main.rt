@@ -1,12 +1,14 @@
+#![tactic(auto)]
 // Runs the stored cases of Expand on standard input and writes a line for each: refusal, its places, nodes, scopes,
 // charges, rows, and a sum over out, ledger and scopes as they stand after the call. vectors/README.md says what a case is
 // made of.
-use libc::STDOUT_FILENO;
+use std::io::Read;
 use test_cases::frame::Call;
 use test_cases::{answer, fill, frame};
 
 // A call on slices that hold patterns, and its line.
 fn run<'a>(
+    rt: &impl Print,
     root: &'a [u32],
     library: &'a [u32],
     call: Call,
@@ -35,11 +37,11 @@ fn run<'a>(
         scopes,
     );
     let text = answer::line(outcome, sum);
-    io::write_all(STDOUT_FILENO, &text);
+    let _ = rt.write_all(&text);
 }
 
 // A call with lent slices of its lengths: whether the program's own are long enough.
-fn lend<'a>(root: &'a [u32], library: &'a [u32], call: Call) -> bool {
+fn lend<'a>(rt: &impl Print, root: &'a [u32], library: &'a [u32], call: Call) -> bool {
     let mut out = [0u32; 3300];
     let mut ledger = [0u32; 1300];
     let mut scopes = [0u32; 2100];
@@ -61,6 +63,7 @@ fn lend<'a>(root: &'a [u32], library: &'a [u32], call: Call) -> bool {
         return false;
     }
     run(
+        rt,
         root,
         library,
         call,
@@ -73,16 +76,21 @@ fn lend<'a>(root: &'a [u32], library: &'a [u32], call: Call) -> bool {
 }
 
 // The next case, and its line: whether it is well formed.
-fn case<'a>(root: &'a mut [u32], library: &'a mut [u32]) -> bool {
+fn case<'a, R: Read>(
+    rt: &impl Print,
+    reader: &mut R,
+    root: &'a mut [u32],
+    library: &'a mut [u32],
+) -> bool {
     let mut head = [0u32; 16];
-    if !frame::lines(2, &mut head) {
+    if !frame::lines(reader, 2, &mut head) {
         return false;
     }
     let call = frame::read_head(&head);
-    if !frame::sheet(call.root_kept, call.root, root) {
+    if !frame::sheet(reader, call.root_kept, call.root, root) {
         return false;
     }
-    if !frame::sheet(call.library_kept, call.library, library) {
+    if !frame::sheet(reader, call.library_kept, call.library, library) {
         return false;
     }
     let n = call.root as usize;
@@ -93,20 +101,26 @@ fn case<'a>(root: &'a mut [u32], library: &'a mut [u32]) -> bool {
     if library.len() < m {
         return false;
     }
-    lend(&root[..n], &library[..m], call)
+    lend(rt, &root[..n], &library[..m], call)
 }
 
-fn print_malformed(number: u32) {
+fn print_malformed(rt: &impl Print, number: u32) {
     let text = answer::malformed(number);
-    io::write_all(STDOUT_FILENO, &text);
+    let _ = rt.write_all(&text);
 }
 
 // So many cases, up to one that is malformed.
-fn cases<'a>(count: u32, root: &'a mut [u32], library: &'a mut [u32]) {
+fn cases<'a, R: Read>(
+    rt: &impl Print,
+    reader: &mut R,
+    count: u32,
+    root: &'a mut [u32],
+    library: &'a mut [u32],
+) {
     let mut i = 0;
     while i < count {
-        if !case(root, library) {
-            print_malformed(i);
+        if !case(rt, reader, root, library) {
+            print_malformed(rt, i);
             return;
         }
         i += 1;
@@ -114,12 +128,13 @@ fn cases<'a>(count: u32, root: &'a mut [u32], library: &'a mut [u32]) {
 }
 
 // The first line says how many cases there are.
-fn main() {
+fn main(rt: HostRuntime) {
+    let mut stdin = rt.stdin();
     let mut root = [0u32; 1000];
     let mut library = [0u32; 1000];
     let mut first = [0u32; 8];
-    if !frame::lines(1, &mut first) {
-        print_malformed(0);
+    if !frame::lines(&mut stdin, 1, &mut first) {
+        print_malformed(&rt, 0);
     }
-    cases(first[0], &mut root, &mut library);
+    cases(&rt, &mut stdin, first[0], &mut root, &mut library);
 }

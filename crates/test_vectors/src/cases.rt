@@ -4,7 +4,6 @@ ghost use Rattle.test_vectors.specs.Cases.{form_of, check_at, read_at, write_at,
 
 use super::frame;
 use ast::{ExternProtoId, NodeId, ProtoId};
-use libc::STDOUT_FILENO;
 use sheet_check::Checked;
 use sheet_check::grammar::Form;
 use sheet_lookup::document;
@@ -13,13 +12,13 @@ use sheet_walks::walk::Found;
 use text_lines::{Read, Written};
 
 // Writes the line of a case.
-fn print(tag: u32, a: u32, b: u32, c: u32, d: u32) {
+fn print(rt: &impl Print, tag: u32, a: u32, b: u32, c: u32, d: u32) {
     let text = frame::line(tag, a, b, c, d);
-    io::write_all(STDOUT_FILENO, &text);
+    let _ = rt.write_all(&text);
 }
 
 // 1 check: a form, b number of words, c number of rows kept; the other rows follow.
-pub fn check(input: &[u8], at: usize, h: Row, words: &mut [u32]) -> usize
+pub fn check(rt: &impl Print, input: &[u8], at: usize, h: Row, words: &mut [u32]) -> usize
     ensures { check_at input.now at h words.old ≡ (result, words.new) }
 {
     let n = h.b as usize;
@@ -33,7 +32,7 @@ pub fn check(input: &[u8], at: usize, h: Row, words: &mut [u32]) -> usize
     if words.len() < n {
         return 0;
     }
-    print_check(sheet_check::check(&words[..n], form_of(h.a)));
+    print_check(rt, sheet_check::check(&words[..n], form_of(h.a)));
     next
 }
 
@@ -47,15 +46,15 @@ fn form_of(n: u32) -> Form
     }
 }
 
-fn print_check(checked: Checked) {
+fn print_check(rt: &impl Print, checked: Checked) {
     match checked {
-        Checked::Fits => print(1, 0, 0, 0, 0),
-        Checked::Bad(place) => print(1, 3, frame::word(place), 0, 0),
+        Checked::Fits => print(rt, 1, 0, 0, 0, 0),
+        Checked::Bad(place) => print(rt, 1, 3, frame::word(place), 0, 0),
     }
 }
 
 // 2 read lines: a number of bytes, b number of words lent; the bytes follow.
-pub fn read(input: &[u8], at: usize, h: Row) -> usize
+pub fn read(rt: &impl Print, input: &[u8], at: usize, h: Row) -> usize
     ensures { result ≡ read_at input.now at h }
 {
     let n = h.a as usize;
@@ -71,20 +70,34 @@ pub fn read(input: &[u8], at: usize, h: Row) -> usize
         return 0;
     }
     let end = at + n;
-    print_read(&input[at..end], &mut words[..lent]);
+    print_read(rt, &input[at..end], &mut words[..lent]);
     end
 }
 
-fn print_read(text: &[u8], words: &mut [u32]) {
+fn print_read(rt: &impl Print, text: &[u8], words: &mut [u32]) {
     match text_lines::read_lines(text, words) {
-        Read::Rows(n) => print(2, 0, 0, frame::word(n), test_checksum::of_words(0, words)),
-        Read::WrongLength => print(2, 12, 0, 0, test_checksum::of_words(0, words)),
-        Read::BadLine(i) => print(2, 13, frame::word(i), 0, test_checksum::of_words(0, words)),
+        Read::Rows(n) => print(
+            rt,
+            2,
+            0,
+            0,
+            frame::word(n),
+            test_checksum::of_words(0, words),
+        ),
+        Read::WrongLength => print(rt, 2, 12, 0, 0, test_checksum::of_words(0, words)),
+        Read::BadLine(i) => print(
+            rt,
+            2,
+            13,
+            frame::word(i),
+            0,
+            test_checksum::of_words(0, words),
+        ),
     }
 }
 
 // 3 write lines: a number of words, b number of bytes lent, c number of rows kept; the other rows follow.
-pub fn write(input: &[u8], at: usize, h: Row, words: &mut [u32]) -> usize
+pub fn write(rt: &impl Print, input: &[u8], at: usize, h: Row, words: &mut [u32]) -> usize
     ensures { write_at input.now at h words.old ≡ (result, words.new) }
 {
     let n = h.a as usize;
@@ -100,20 +113,28 @@ pub fn write(input: &[u8], at: usize, h: Row, words: &mut [u32]) -> usize
     if bytes.len() < lent {
         return 0;
     }
-    print_write(&words[..n], &mut bytes[..lent]);
+    print_write(rt, &words[..n], &mut bytes[..lent]);
     next
 }
 
-fn print_write(words: &[u32], bytes: &mut [u8]) {
+fn print_write(rt: &impl Print, words: &[u32], bytes: &mut [u8]) {
     match text_lines::write_lines(words, bytes) {
-        Written::Bytes(n) => print(3, 0, frame::word(n), test_checksum::of_bytes(0, bytes), 0),
-        Written::Refused => print(3, 14, 0, test_checksum::of_bytes(0, bytes), 0),
+        Written::Bytes(n) => print(
+            rt,
+            3,
+            0,
+            frame::word(n),
+            test_checksum::of_bytes(0, bytes),
+            0,
+        ),
+        Written::Refused => print(rt, 3, 14, 0, test_checksum::of_bytes(0, bytes), 0),
     }
 }
 
 // 4 lookup: a rows of the root, b rows of the library, c document, d what is looked up (0 node, 1 proto, 2 extern, 3 the rows
 // of a proto), e its id, f and g number of rows kept of each; the other rows follow.
 pub fn lookup<'a>(
+    rt: &impl Print,
     input: &[u8],
     at: usize,
     h: Row,
@@ -141,31 +162,35 @@ pub fn lookup<'a>(
     if library.len() / 8 < m {
         return 0;
     }
-    print_lookup(&root[..8 * n], &library[..8 * m], h);
+    print_lookup(rt, &root[..8 * n], &library[..8 * m], h);
     next
 }
 
-fn print_lookup<'a>(root: &'a [u32], library: &'a [u32], h: Row) {
+fn print_lookup<'a>(rt: &impl Print, root: &'a [u32], library: &'a [u32], h: Row) {
     let doc = h.c;
     let which = h.d;
     let id = h.e;
     match which {
-        0 => print_found(document::node(root, library, doc, NodeId(id))),
-        1 => print_found(document::proto(root, library, doc, ProtoId(id))),
-        2 => print_found(document::extern_proto(root, library, doc, ExternProtoId(id))),
-        _ => print_part(sheet_part::proto_rows(root, library, doc, ProtoId(id))),
+        0 => print_found(rt, document::node(root, library, doc, NodeId(id))),
+        1 => print_found(rt, document::proto(root, library, doc, ProtoId(id))),
+        2 => print_found(
+            rt,
+            document::extern_proto(root, library, doc, ExternProtoId(id)),
+        ),
+        _ => print_part(rt, sheet_part::proto_rows(root, library, doc, ProtoId(id))),
     }
 }
 
-fn print_found(found: Found) {
+fn print_found(rt: &impl Print, found: Found) {
     match found {
-        Found::At(row) => print(4, 1, frame::word(row), 0, 0),
-        Found::Nothing => print(4, 0, 0, 0, 0),
+        Found::At(row) => print(rt, 4, 1, frame::word(row), 0, 0),
+        Found::Nothing => print(rt, 4, 0, 0, 0, 0),
     }
 }
 
-fn print_part(part: &[u32]) {
+fn print_part(rt: &impl Print, part: &[u32]) {
     print(
+        rt,
         4,
         frame::word(part.len()),
         test_checksum::of_words(0, part),
