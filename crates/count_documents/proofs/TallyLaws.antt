@@ -7,6 +7,7 @@ use native.Mathlib.Numerals.{add-one}
 use native.Mathlib.Omega.{arith}
 use native.Mathlib.Decide.{ℕ_discrete}
 use lib.ListN.{length, get_or, set, drop, length-set}
+use Rattle.std.specs.Prelude.{Option, Some, None}
 use lib.Seq.{get_or-set_same, get_or-set_other, drop-cons}
 use lib.Dec.{eqb}
 use borrow.Author.Tests.{eq-eqb, ne_eqb}
@@ -22,59 +23,45 @@ use Rattle.graph_walk.specs.State.{pair_at, occurs}
 use Rattle.graph_walk.specs.Steps.{most_nodes, NodeStands, Reaches}
 use Rattle.graph_walk.proofs.Printed.{node_at, document_within, after_at}
 use Rattle.count_documents.specs.Count.{is_of_type, named, count, total_of}
-use Rattle.count_documents.specs.Steps.{nowhere, at, Place, Apart, weighed, added, Addable, CountReady, DocumentCounted, Are, AllReady, AllCounted}
+use Rattle.count_documents.specs.Steps.{Place, Apart, weighed, added, Addable, CountReady, DocumentCounted, Are, AllReady, AllCounted}
 use Rattle.count_documents.proofs.CountLaws.{weight_of, weights, weights_upto, count_rows}
 
 -- ---- a number added to a total
 
-module _ (names : List ℕ) (apart : Apart names) (t : List ℕ) (room : length names ≤ length t) (name s x : ℕ) where
+module _ (names : List ℕ) (apart : Apart names) (t : List ℕ) (room : length names ≤ length t) (name : ℕ) (s : Option ℕ) (x : ℕ) where
   added_long : length (added t s x) ≡ length t
-  added_long = go (eqb s 0)
+  added_long = go s
     where
-      go : (b : Bool) → length (choose b t (set t (s - 1) (get_or t (s - 1) 0 + x))) ≡ length t
-      go true = refl
-      go false = length-set t (s - 1) (get_or t (s - 1) 0 + x)
+      go : (r : Option ℕ) → length (added t r x) ≡ length t
+      go None = refl
+      go (Some j) = length-set t j (get_or t j 0 + x)
 
   module _ (p : Place names name s) where
     -- each total by its name
     added_at : (j : ℕ) → j < length names → get_or (added t s x) j 0 ≡ get_or t j 0 + choose (eqb name (get_or names j 0)) x 0
-    added_at j h = go p
+    added_at j h = go s p
       where
         miss : (name ≡ get_or names j 0 → ⊥) → get_or t j 0 ≡ get_or t j 0 + choose (eqb name (get_or names j 0)) x 0
         miss n = rw (ne_eqb name (get_or names j 0) n) (omega arith)
 
-        go : Place names name s → get_or (added t s x) j 0 ≡ get_or t j 0 + choose (eqb name (get_or names j 0)) x 0
-        go (nowhere z n) = rw (eq-eqb s 0 z) (miss (λ e. n j h (sym e)))
-        go (at i a b c) = rw (ne_eqb s 0 (λ e. omega arith)) (here (ℕ_discrete j i))
+        go : (r : Option ℕ) → Place names name r → get_or (added t r x) j 0 ≡ get_or t j 0 + choose (eqb name (get_or names j 0)) x 0
+        go None n = miss (λ e. n j h (sym e))
+        go (Some i) (b, c) = here (ℕ_discrete j i)
           where
-            back : s - 1 ≡ i
-            back = omega arith
-
-            here : Dec (j ≡ i) → get_or (set t (s - 1) (get_or t (s - 1) 0 + x)) j 0 ≡ get_or t j 0 + choose (eqb name (get_or names j 0)) x 0
-            here (yes e) = rw (back, eq-eqb name (get_or names j 0) (sym (ap (λ k. get_or names k 0) e ∙ c)), e) (get_or-set_same t i (get_or t i 0 + x) 0 (omega arith))
-            here (no e) = rw back (get_or-set_other t i j (get_or t i 0 + x) 0 e ∙ miss (λ q. e (apart j i h b (sym q ∙ sym c))))
+            here : Dec (j ≡ i) → get_or (set t i (get_or t i 0 + x)) j 0 ≡ get_or t j 0 + choose (eqb name (get_or names j 0)) x 0
+            here (yes e) = rw (eq-eqb name (get_or names j 0) (sym (ap (λ k. get_or names k 0) e ∙ c)), e) (get_or-set_same t i (get_or t i 0 + x) 0 (omega arith))
+            here (no e) = get_or-set_other t i j (get_or t i 0 + x) 0 e ∙ miss (λ q. e (apart j i h b (sym q ∙ sym c)))
 
     added_kept : (j : ℕ) → length names ≤ j → get_or (added t s x) j 0 ≡ get_or t j 0
-    added_kept j h = go p
+    added_kept j h = go s p
       where
-        go : Place names name s → get_or (added t s x) j 0 ≡ get_or t j 0
-        go (nowhere z n) = rw (eq-eqb s 0 z)
-        go (at i a b c) = rw (ne_eqb s 0 (λ e. omega arith)) (get_or-set_other t (s - 1) j (get_or t (s - 1) 0 + x) 0 (λ e. omega arith))
-
-    added_within : s ≤ length t
-    added_within = go p
-      where
-        go : Place names name s → s ≤ length t
-        go (nowhere z n) = omega arith
-        go (at i a b c) = omega arith
+        go : (r : Option ℕ) → Place names name r → get_or (added t r x) j 0 ≡ get_or t j 0
+        go None n = refl
+        go (Some i) (b, c) = get_or-set_other t i j (get_or t i 0 + x) 0 (λ e. omega arith)
 
     -- of the place that is added to
-    added_name : (j : ℕ) → s ≡ j + 1 → (j < length names) × (get_or names j 0 ≡ name)
-    added_name j e = go p
-      where
-        go : Place names name s → (j < length names) × (get_or names j 0 ≡ name)
-        go (nowhere z n) = absurd (omega arith)
-        go (at i a b c) = let q : j ≡ i = omega arith in (omega arith, ap (λ k. get_or names k 0) q ∙ c)
+    added_name : (j : ℕ) → s ≡ Some j → (j < length names) × (get_or names j 0 ≡ name)
+    added_name j e = subst (Place names name) e p
 
 -- ---- the nodes of a document
 
@@ -135,11 +122,11 @@ module _ (R : List Row) (from p : ℕ) (names t₀ : List ℕ) where
                 let u = get_or names j 0 in
                 omega (arith, x.tallied d ds e j g, weighs u, ap (λ y. sum_to y (weight_of d u p)) (add-one k))
 
-            module _ (few : length R < most_nodes) {w₀ : List ℕ} (c : CountReady R from names t₀ w₀) {t : List ℕ} (x : Tallying k t) {s : ℕ} (sp : Place names name s) where
+            module _ (few : length R < most_nodes) {w₀ : List ℕ} (c : CountReady R from names t₀ w₀) {t : List ℕ} (x : Tallying k t) {s : Option ℕ} (sp : Place names name s) where
               pub tally_addable : Addable t s by
               tally_addable =
                   record {
-                    within = added_within names c.apart t (omega (arith, c.room, x.long)) name s by sp;
+                    within = λ j z. omega (arith, (added_name names c.apart t (omega (arith, c.room, x.long)) name s by sp j z).0, c.room, x.long);
                     fits = λ j z.
                         let y = added_name names c.apart t (omega (arith, c.room, x.long)) name s by sp j z in
                         omega (arith, turn_sum x j y.0, ap (λ b. choose b by 0) (eq-eqb name (get_or names j 0) (sym y.1)), weights_upto d (get_or names j 0) p (k + 1) (omega (arith, below)), c.below j y.0, document_within R from d ds e);
@@ -149,8 +136,8 @@ module _ (R : List Row) (from p : ℕ) (names t₀ : List ℕ) where
         pub tally_skip : by ≡ 0 → Tallying (k + 1) t
         tally_skip z = record { tallied = λ d ds e j g. skip_sum d ds e q b z x j g; kept = x.kept; long = x.long }
 
-        pub tally_turn : {w₀ : List ℕ} (c : CountReady R from names t₀ w₀) → {place : ℕ} → place ≡ pair_at w (5 * k) → {name : ℕ} → name ≡ (get_or R place blank).a → {s : ℕ} → Place names name s → {t' : List ℕ} → t' ≡ added t s by → Tallying (k + 1) t'
-        tally_turn c pl {name} nm {s} sp {t'} e =
+        pub tally_turn : {w₀ : List ℕ} (c : CountReady R from names t₀ w₀) → {place : ℕ} → place ≡ pair_at w (5 * k) → {name : ℕ} → name ≡ (get_or R place blank).a → (s : Option ℕ) → Place names name s → {t' : List ℕ} → t' ≡ added t s by → Tallying (k + 1) t'
+        tally_turn c pl {name} nm s sp {t'} e =
             let room : length names ≤ length t = omega (arith, c.room, x.long) in
             subst (λ (v : List ℕ). Tallying (k + 1) v) (sym e)
             (record {

@@ -1,5 +1,5 @@
 -- What the functions that count ask and give.
-use Rattle.std.specs.Prelude.{◌≡◌, List, ℕ, ◌+◌, ◌-◌, ◌*◌, ◌≤◌, ◌<◌, length, get_or, set, eqb}
+use Rattle.std.specs.Prelude.{◌≡◌, Option, Some, None, MatchOption, List, ℕ, ◌+◌, ◌*◌, ◌≤◌, ◌<◌, length, get_or, set, eqb}
 use Rattle.ast.specs.Ast.{Document}
 use Rattle.ast.specs.Choice.{choose}
 use Rattle.ast.specs.Lists.{flat}
@@ -8,12 +8,12 @@ use Rattle.sheet_rows.specs.Print.{document_rows}
 use Rattle.graph_walk.specs.Steps.{most_nodes, NodeStands, WalkReady}
 use Rattle.count_documents.specs.Count.{count, total_of}
 
--- which of the first n names a name is: r is its place, from 1, or 0 where it is none of them
-pub data PlaceUpTo (names : List ℕ) (name n r : ℕ) : Type 0 where
-  nowhere : r ≡ 0 → ((j : ℕ) → j < n → get_or names j 0 ≡ name → ⊥) → PlaceUpTo names name n r
-  at : (j : ℕ) → r ≡ j + 1 → j < n → get_or names j 0 ≡ name → PlaceUpTo names name n r
+-- which of the first n names a name is: r is its place, or none
+abbrev pub PlaceUpTo : List ℕ → ℕ → ℕ → Option ℕ → Type 0
+PlaceUpTo names name n r =
+    MatchOption r ((j : ℕ) → j < n → get_or names j 0 ≡ name → ⊥) (λ j. (j < n) × (get_or names j 0 ≡ name))
 
-abbrev pub Place : List ℕ → ℕ → ℕ → Type 0
+abbrev pub Place : List ℕ → ℕ → Option ℕ → Type 0
 Place names name r = PlaceUpTo names name (length names) r
 
 -- how many names are remembered
@@ -21,10 +21,10 @@ abbrev pub slots : ℕ
 slots = 128
 
 -- names that were looked for, each with its place
-pub record Remembers (names keys places : List ℕ) : Type 0 where
+pub record Remembers (names keys : List ℕ) (places : List (Option ℕ)) : Type 0 where
   pub keys_long : length keys ≡ slots
   pub places_long : length places ≡ slots
-  pub each : (s : ℕ) → s < slots → Place names (get_or keys s 0) (get_or places s 0)
+  pub each : (s : ℕ) → s < slots → Place names (get_or keys s 0) (get_or places s None)
 
 -- no name twice
 abbrev pub Apart : List ℕ → Type 0
@@ -34,13 +34,14 @@ Apart names = (i j : ℕ) → i < length names → j < length names → get_or n
 abbrev pub weighed : (protocol times : ℕ) → ℕ
 weighed p x = choose (eqb p 1) x (choose (eqb x 0) 0 1)
 
--- a number added to the total at a place, from 1
-abbrev pub added : List ℕ → (place by : ℕ) → List ℕ
-added t p x = choose (eqb p 0) t (set t (p - 1) (get_or t (p - 1) 0 + x))
+-- a number added to the total at a place
+abbrev pub added : List ℕ → Option ℕ → ℕ → List ℕ
+added t None x = t
+added t (Some j) x = set t j (get_or t j 0 + x)
 
-pub record Addable (t : List ℕ) (place by : ℕ) : Type 0 where
-  pub within : place ≤ length t
-  pub fits : (j : ℕ) → place ≡ j + 1 → get_or t j 0 + by < most_nodes
+pub record Addable (t : List ℕ) (place : Option ℕ) (by : ℕ) : Type 0 where
+  pub within : (j : ℕ) → place ≡ Some j → j < length t
+  pub fits : (j : ℕ) → place ≡ Some j → get_or t j 0 + by < most_nodes
 
 -- ---- a document
 

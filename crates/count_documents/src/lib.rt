@@ -1,6 +1,7 @@
 #![tactic(auto)]
 // The counts of documents one after another, added to a total for each type name (document 02, wish 5).
 ghost use Rattle.std.specs.Prelude.{◌≡◌};
+ghost use Rattle.std.proofs.Props.{props};
 ghost use Rattle.sheet_rows.specs.Rows.{rows};
 ghost use Rattle.count_documents.specs.Steps.{Place, Remembers, weighed, added, Addable, CountReady, DocumentCounted, AllReady, AllCounted};
 
@@ -9,40 +10,57 @@ use sheet_rows::row;
 // How many of the names looked for are remembered.
 const SLOTS: usize = 128;
 
-// Which of the names a name is: its place, from 1, or 0. All are looked at, so that the compiler takes several at a time.
-fn place_of(names: &[u32], name: u32) -> usize
+// Which of the names a name is. All are looked at, so that the compiler takes several at a time.
+fn place_of(names: &[u32], name: u32) -> Option<usize>
     ensures { Place names.now name result }
 {
-    let mut found = 0;
-    let mut i = 0;
-    while i < names.len() {
-        if names[i] == name {
-            found = i + 1;
-            i += 1;
-        } else {
-            i += 1;
+    let mut found = None;
+    for (i, known) in names.iter().enumerate() {
+        if *known == name {
+            found = Some(i);
         }
     }
     found
 }
 
-// The same, remembered: a slot has the name that was looked for last of those that fall on it, and its place.
-fn find(names: &[u32], name: u32, keys: &mut [u32], places: &mut [usize]) -> usize
-    requires { Remembers names.now keys.old places.old }
-    ensures place { Place names.now name result }
-    ensures remembers { Remembers names.now keys.new places.new }
-{
-    let slot = words_lent::wide(name) % SLOTS;
-    if keys[slot] == name {
-        return places[slot];
+// The names that are counted, and what is remembered of those that were looked for: a slot has the name that was looked for
+// last of those that fall on it, and its place.
+#[derive(Drop)]
+pub struct Names<'a> {
+    pub names: &'a [u32],
+    pub keys: [u32; SLOTS],
+    pub places: [Option<usize>; SLOTS],
+    ghost remembers: { Remembers names.now keys places } by { Prim.hlevel props },
+}
+
+impl<'a> Names<'a> {
+    pub fn new(names: &'a [u32]) -> Names<'a>
+        ensures { result.names.now ≡ names.now }
+    {
+        Names {
+            names,
+            keys: [0; SLOTS],
+            places: [place_of(names, 0); SLOTS],
+        }
     }
-    let place = place_of(names, name);
-    keys[slot] = name;
-    places[slot] = place;
-    place
+
+    fn find(&mut self, name: u32) -> Option<usize>
+        ensures place { Place self.old.names.now name result }
+        ensures names { self.new.names ≡ self.old.names }
+    {
+        let slot = words_lent::wide(name) % SLOTS;
+        if self.keys[slot] == name {
+            return self.places[slot];
+        }
+        let place = place_of(self.names, name);
+        self.keys[slot] = name;
+        self.places[slot] = place;
+        place
+    }
 }
 
 // How much a node counts that is mentioned so often: every mention under protocol 1, else once.
+// Kept: a protocol is a number; an enum of the two would ask more of callers, who may hand in any.
 fn weight(times: usize, protocol: u32) -> usize
     ensures { result ≡ weighed protocol times }
 {
@@ -55,15 +73,13 @@ fn weight(times: usize, protocol: u32) -> usize
     1
 }
 
-fn add(totals: &mut [u64], place: usize, by: usize)
+fn add(totals: &mut [u64], place: Option<usize>, by: usize)
     requires { Addable totals.old place by }
     ensures { totals.new ≡ added totals.old place by }
 {
-    if place == 0 {
-        return;
+    if let Some(j) = place {
+        totals[j] = totals[j] + by as u64;
     }
-    let j = place - 1;
-    totals[j] = totals[j] + by as u64;
 }
 
 // Counts the document that begins at a row, node by node in the order of rows. The row after it.
@@ -71,30 +87,23 @@ pub fn count_document(
     sheet: &[u32],
     from: usize,
     protocol: u32,
-    names: &[u32],
+    names: &mut Names<'_>,
     totals: &mut [u64],
     work: &mut [u32],
-    keys: &mut [u32],
-    places: &mut [usize],
 ) -> usize
-    requires count_ready { CountReady (rows sheet.now) from names.now totals.old work.old }
-    requires remembers { Remembers names.now keys.old places.old }
-    ensures document_counted { DocumentCounted (rows sheet.now) from protocol names.now totals.old totals.new result }
-    ensures remembers_2 { Remembers names.now keys.new places.new }
+    requires { CountReady (rows sheet.now) from names.old.names.now totals.old work.old }
+    ensures document_counted { DocumentCounted (rows sheet.now) from protocol names.old.names.now totals.old totals.new result }
+    ensures names { names.new.names ≡ names.old.names }
 {
     let walk = graph_walk::reach(sheet, from, work);
-    let nodes = walk.nodes;
-    let mut id = 0;
-    while id < nodes {
+    for id in 0..walk.nodes {
         let by = weight(graph_walk::pair_at(work, 5 * id + 2), protocol);
         if by == 0 {
-            id += 1;
-        } else {
-            let place = graph_walk::pair_at(work, 5 * id);
-            let name = row::row_at(sheet, place).a;
-            add(totals, find(names, name, keys, places), by);
-            id += 1;
+            continue;
         }
+        let place = graph_walk::pair_at(work, 5 * id);
+        let name = row::row_at(sheet, place).a;
+        add(totals, names.find(name), by);
     }
     walk.next
 }
@@ -110,21 +119,9 @@ pub fn count_all(
     requires { AllReady (rows sheet.now) protocols.now names.now totals.old work.old }
     ensures { AllCounted (rows sheet.now) protocols.now names.now totals.old totals.new }
 {
-    let mut keys = [0u32; SLOTS];
-    let mut places = [place_of(names, 0); SLOTS];
+    let mut counted = Names::new(names);
     let mut from = 0;
-    let mut p = 0;
-    while p < protocols.len() {
-        from = count_document(
-            sheet,
-            from,
-            protocols[p],
-            names,
-            totals,
-            work,
-            &mut keys,
-            &mut places,
-        );
-        p += 1;
+    for protocol in protocols {
+        from = count_document(sheet, from, *protocol, &mut counted, totals, work);
     }
 }

@@ -4,8 +4,6 @@ ghost use Rattle.std.specs.Prelude.{◌≡◌, length};
 ghost use Rattle.words_answer.specs.Answer.{exported};
 ghost use Rattle.count_sheet.specs.Sheet.{counted_sheet, said_counted};
 
-use count_sheet::Counted;
-
 // Counts. Answer: refusal, totals.
 pub fn export(
     documents: &[u32],
@@ -21,8 +19,7 @@ pub fn export(
         return 17;
     }
     match count_sheet::count(documents, protocols, names, totals, work) {
-        Counted::Totals(n) => words_answer::put(answer, 0, &[n as u64]),
-        Counted::Wrong => words_answer::put(answer, 17, &[0]),
-        Counted::Malformed => words_answer::put(answer, 18, &[0]),
+        Ok(n) => words_answer::put(answer, Ok([n as u64])),
+        Err(error) => words_answer::put::<1>(answer, Err(u32::from(error))),
     }
 }

@@ -4,42 +4,29 @@ use mathlib.Core.Bool.{Bool, true, false, ◌&&◌, ◌||◌}
 use mathlib.Core.Logic.{◌⊎◌, inl, inr}
 use mathlib.Core.List.Memᴰ
 use mathlib.Core.List.{List, [], ◌∷◌, Memᴰ}
-use Prim.Native.Nat.{ℕ, zero, suc, ◌+◌, ◌≤◌, ◌<◌}
+use Prim.Native.Nat.{ℕ, zero, suc, ◌+◌, ◌-◌, ◌≤◌, ◌<◌}
 use native.Mathlib.Numerals.{add-one}
 use native.Mathlib.Omega.{arith}
 use native.Mathlib.Decide.{ℕ_discrete}
-use lib.ListN.{length, get_or, drop, set, length-set, drop_of_length-le}
-use lib.Seq.{drop-cons, get_or-set_same, get_or-set_other}
+use lib.ListN.{length, get_or, take, drop, drop_of_length-le, length-drop}
+use lib.Seq.{drop-cons, take-length}
 use lib.Dec.{eqb}
 use borrow.Author.Tests.{eqb-true, eqb-false, eq-eqb, ne_eqb}
+use Rattle.std.specs.List.{list_all, list_any}
 use Rattle.graph_definition.specs.Graph.{among}
 use Rattle.graph_definition.proofs.Distinct.{among_yes, among_no, mem_at}
 use Rattle.count_documents.specs.Steps.{Apart}
 use Rattle.count_sheet.specs.Sheet.{are_protocols, repeats}
-use Rattle.count_sheet.specs.Steps.{Zeroed}
 
 never : {A : Type 0} → true ≡ false → A
 never e = absurd (let z : ◌≡◌ {A = ℕ} 0 1 = cc in omega arith)
 
 -- ---- protocols, one after another
 
-module _ (ps : List ℕ) (i : ℕ) where
-  pub protocols_end : length ps ≤ i → true ≡ are_protocols (drop i ps)
-  unfolding are_protocols
-  protocols_end h = rw (drop_of_length-le ps h)
-
-  module _ (h : i < length ps) where
-    pub protocols_one : get_or ps i 0 ≡ 1 → are_protocols (drop i ps) ≡ are_protocols (drop (i + 1) ps)
-    unfolding are_protocols
-    protocols_one e = rw (add-one i, drop-cons ps i 0 h, eq-eqb (get_or ps i 0) 1 e)
-
-    pub protocols_two : (get_or ps i 0 ≡ 1 → ⊥) → get_or ps i 0 ≡ 2 → are_protocols (drop i ps) ≡ are_protocols (drop (i + 1) ps)
-    unfolding are_protocols
-    protocols_two n e = rw (add-one i, drop-cons ps i 0 h, ne_eqb (get_or ps i 0) 1 n, eq-eqb (get_or ps i 0) 2 e)
-
-    pub protocols_other : (get_or ps i 0 ≡ 1 → ⊥) → (get_or ps i 0 ≡ 2 → ⊥) → false ≡ are_protocols (drop i ps)
-    unfolding are_protocols
-    protocols_other n e = rw (drop-cons ps i 0 h, ne_eqb (get_or ps i 0) 1 n, ne_eqb (get_or ps i 0) 2 e)
+pub protocols_all : (ps : List ℕ) → list_all (λ p. eqb p 1 || eqb p 2) ps ≡ are_protocols ps
+unfolding are_protocols
+protocols_all [] = refl
+protocols_all (p ∷ ps) = ap (λ b. (eqb p 1 || eqb p 2) && b) (protocols_all ps)
 
 abbrev OneOrTwo : List ℕ → Type 0
 OneOrTwo ps = (i : ℕ) → i < length ps → (get_or ps i 0 ≡ 1) ⊎ (get_or ps i 0 ≡ 2)
@@ -69,19 +56,23 @@ are_protocols_lem (p ∷ ps) h = go (h 0 (omega arith)) (are_protocols_lem ps (�
 
 -- ---- names
 
-module _ (x : ℕ) (ns : List ℕ) (i : ℕ) where
-  pub among_end : length ns ≤ i → among x (drop i ns) ≡ false
-  unfolding among
-  among_end h = rw (drop_of_length-le ns h)
+eqb_swap : (a b : ℕ) → eqb a b ≡ eqb b a
+eqb_swap a b = go (ℕ_discrete a b)
+  where
+    go : Dec (a ≡ b) → eqb a b ≡ eqb b a
+    go (yes e) = eq-eqb a b e ∙ sym (eq-eqb b a (sym e))
+    go (no n) = ne_eqb a b n ∙ sym (ne_eqb b a (λ e. n (sym e)))
 
-  module _ (h : i < length ns) where
-    pub among_here : x ≡ get_or ns i 0 → true ≡ among x (drop i ns)
-    unfolding among
-    among_here e = rw (drop-cons ns i 0 h, eq-eqb x (get_or ns i 0) e)
+any_among : (x : ℕ) (l : List ℕ) → list_any (λ y. eqb y x) l ≡ among x l
+unfolding among
+any_among x [] = refl
+any_among x (y ∷ l) = rw (eqb_swap y x, any_among x l)
 
-    pub among_next : (x ≡ get_or ns i 0 → ⊥) → among x (drop i ns) ≡ among x (drop (i + 1) ns)
-    unfolding among
-    among_next n = rw (add-one i, drop-cons ns i 0 h, ne_eqb x (get_or ns i 0) n)
+-- a name among those after it
+pub among_after : (ns : List ℕ) (i : ℕ) {b : Bool} → b ≡ list_any (λ y. eqb y (get_or ns i 0)) (take (length ns - (i + 1)) (drop (i + 1) ns)) → b ≡ among (get_or ns i 0) (drop (i + 1) ns)
+among_after ns i e =
+    let z : length ns - (i + 1) ≡ length (drop (i + 1) ns) = omega (arith, length-drop (i + 1) ns) in
+    e ∙ any_among (get_or ns i 0) _ ∙ ap (among (get_or ns i 0)) (rw z (take-length (drop (i + 1) ns)))
 
 module _ (ns : List ℕ) (i : ℕ) where
   pub repeats_end : length ns ≤ i → repeats (drop i ns) ≡ false
@@ -128,23 +119,3 @@ apart_names (x ∷ ns) h = go (among x ns) refl (apart_names ns (λ i j a b q. l
     go : (a : Bool) → among x ns ≡ a → repeats ns ≡ false → (a || repeats ns) ≡ false
     go true p f = let z = place_of x ns (among_yes x ns p) in absurd (let e : 0 ≡ suc z.0 = h 0 (suc z.0) (omega arith) (omega (arith, z.1)) (sym z.2) in omega arith)
     go false p f = f
-
--- ---- totals set to 0
-
-pub zero_start : (n : ℕ) (t : List ℕ) → Zeroed n 0 t t
-zero_start n t = record { zero = λ j h. absurd (omega arith); kept = λ j h. refl; long = refl }
-
-pub zero_more : {n i : ℕ} {t₀ t : List ℕ} → Zeroed n i t₀ t → i < n → i < length t → Zeroed n (i + 1) t₀ (set t i 0)
-zero_more {n} {i} {t₀} {t} z h l =
-    record {
-      zero = λ j q. go j q (ℕ_discrete j i);
-      kept = λ j q. get_or-set_other t i j 0 0 (λ e. omega arith) ∙ z.kept j q;
-      long = length-set t i 0 ∙ z.long;
-    }
-  where
-    go : (j : ℕ) → j < i + 1 → Dec (j ≡ i) → get_or (set t i 0) j 0 ≡ 0
-    go j q (yes e) = rw e (get_or-set_same t i 0 0 l)
-    go j q (no e) = get_or-set_other t i j 0 0 e ∙ z.zero j (omega arith)
-
-pub zero_end : {n i : ℕ} {t₀ t : List ℕ} → Zeroed n i t₀ t → n ≤ i → Zeroed n n t₀ t
-zero_end z h = record { zero = λ j q. z.zero j (omega arith); kept = z.kept; long = z.long }

@@ -22,8 +22,8 @@ use Rattle.sheet_rows.specs.Parse.{elements, document_of, documents_of}
 use Rattle.sheet_rows.specs.Print.{document_rows, documents_rows}
 use Rattle.sheet_rows.proofs.RowLaws.{rows_count}
 use Rattle.sheet_check.specs.declared.grammar.Form.TheVariants.{Documents}
-use Rattle.sheet_check.specs.declared.Checked.{Checked}
-use Rattle.sheet_check.specs.declared.Checked.TheVariants.{Fits, Bad}
+use Rattle.std.specs.Prelude.{Ok, Err}
+use Rattle.sheet_check.specs.Checked.{Checked, Fits}
 use Rattle.sheet_check.specs.Grammar.{checked, is_fits, is_sheet}
 use Rattle.sheet_forms.proofs.Documents.{documents_printed_back}
 use Rattle.count_documents.specs.Count.{total_of}
@@ -81,8 +81,8 @@ fits_of : (s : List ℕ) → is_sheet Documents s ≡ true → checked Documents
 fits_of s e = go (eqb (length s % 8) 0) (checked Documents (rows s)) refl e
   where
     go : (b : Bool) (c : Checked) → checked Documents (rows s) ≡ c → choose b (is_fits c) false ≡ true → checked Documents (rows s) ≡ Fits
-    go true Fits q h = q
-    go true (Bad m) q h = absurd (let z : false ≡ true = h in let y : ◌≡◌ {A = ℕ} 0 1 = cc in omega arith)
+    go true (Ok _) q h = q
+    go true (Err b) q h = absurd (let z : false ≡ true = h in let y : ◌≡◌ {A = ℕ} 0 1 = cc in omega arith)
     go false c q h = absurd (let z : false ≡ true = h in let y : ◌≡◌ {A = ℕ} 0 1 = cc in omega arith)
 
 rows_are : (s : List ℕ) → is_sheet Documents s ≡ true → rows s ≡ flat document_rows (documents_in s)

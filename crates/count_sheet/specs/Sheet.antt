@@ -1,5 +1,5 @@
 -- Count sheet under both protocols (document 02, wish 5): the operation over words. What is counted is in count_documents' Count.
-use Rattle.std.specs.Prelude.{Bool, true, false, not, ◌&&◌, ◌||◌, List, [], ◌∷◌, map, ℕ, ◌*◌, ◌/◌, length, ltb, eqb}
+use Rattle.std.specs.Prelude.{Result, Ok, Err, Bool, true, false, not, ◌&&◌, ◌||◌, List, [], ◌∷◌, map, ℕ, ◌*◌, ◌/◌, length, ltb, eqb}
 use Rattle.ast.specs.Ast.{Document}
 use Rattle.ast.specs.Choice.{choose}
 use Rattle.words_lent.specs.Words.{over}
@@ -10,8 +10,8 @@ use Rattle.sheet_check.specs.Grammar.{is_sheet}
 use Rattle.graph_definition.specs.Graph.{among}
 use Rattle.count_documents.specs.Count.{total_of}
 use Rattle.words_answer.specs.Answer.{Said}
-use Rattle.count_sheet.specs.declared.Counted.{Counted}
-use Rattle.count_sheet.specs.declared.Counted.TheVariants.{Totals, Wrong, Malformed}
+use Rattle.count_sheet.specs.declared.CountError.{CountError}
+use Rattle.count_sheet.specs.declared.CountError.TheVariants.{WrongRequest, MalformedDocuments}
 
 -- ---- "Refused: 17, a protocol other than 1 or 2 or over 4,096 of them, a repeated type name, over 64 names, or fewer lent totals than names"
 
@@ -63,11 +63,15 @@ counted_sheet sheet ps ns work lent =
     (refused 17, lent)
     (choose (malformed sheet ps work) (refused 18, lent) (accepted (length ns), over (totals_of sheet ps ns) lent))
 
--- document 02's numbers for each case of the code's answer
-abbrev pub answer_of : Counted → Answer
-answer_of (Totals n) = accepted n
-answer_of Wrong = refused 17
-answer_of Malformed = refused 18
+-- document 02's numbers
+abbrev pub number_of : CountError → ℕ
+number_of WrongRequest = 17
+number_of MalformedDocuments = 18
+
+-- for each case of the code's answer
+abbrev pub answer_of : Result ℕ CountError → Answer
+answer_of (Ok n) = accepted n
+answer_of (Err e) = refused (number_of e)
 
 -- as a C export says it: "refusal, totals"
 abbrev pub said_counted : Answer × List ℕ → Said

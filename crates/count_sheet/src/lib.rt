@@ -1,8 +1,7 @@
 #![tactic(auto)]
 // Count sheet under both protocols (document 02, wish 5).
-ghost use Rattle.std.specs.Prelude.{◌≡◌, ◌≤◌, length, drop};
-ghost use Rattle.graph_definition.specs.Graph.{among};
-ghost use Rattle.count_sheet.specs.Sheet.{are_protocols, repeats, answer_of, counted_sheet};
+ghost use Rattle.std.specs.Prelude.{◌≡◌, ◌≤◌, length};
+ghost use Rattle.count_sheet.specs.Sheet.{are_protocols, repeats, number_of, answer_of, counted_sheet};
 ghost use Rattle.count_sheet.specs.Steps.{Zeroed};
 ghost use Rattle.count_sheet.specs.Promises.{Promises};
 
@@ -10,57 +9,40 @@ use sheet_check::grammar::Form;
 use sheet_rows::part::Part;
 use sheet_walks::walk;
 
-// What counting answers: how many totals were written, or which refusal.
-#[derive(Clone, Copy)]
-pub enum Counted {
-    Totals(usize),
-    Wrong,
-    Malformed,
+// Why documents are not counted: protocols, names or totals that may not be asked for, or documents that are no sheet of as
+// many.
+#[derive(Clone, Copy, Debug, PartialEq, Eq)]
+pub enum CountError {
+    WrongRequest,
+    MalformedDocuments,
+}
+
+impl From<CountError> for u32 {
+    ghost from_gives = { λ e n. n ≡ number_of e };
+
+    fn from(error: CountError) -> u32 {
+        match error {
+            CountError::WrongRequest => 17,
+            CountError::MalformedDocuments => 18,
+        }
+    }
 }
 
 // Whether each is 1 or 2.
 fn are_protocols(protocols: &[u32]) -> bool
     ensures { result ≡ are_protocols protocols.now }
 {
-    let mut i = 0;
-    while i < protocols.len() {
-        let p = protocols[i];
-        if p == 1 {
-            i += 1;
-        } else {
-            if p != 2 {
-                return false;
-            }
-            i += 1;
-        }
-    }
-    true
-}
-
-// Whether a name is among the names from a place on.
-fn holds(names: &[u32], from: usize, name: u32) -> bool
-    ensures { result ≡ among name (drop from names.now) }
-{
-    let mut i = from;
-    while i < names.len() {
-        if name == names[i] {
-            return true;
-        }
-        i += 1;
-    }
-    false
+    protocols.iter().all(|p| *p == 1 || *p == 2)
 }
 
 // Whether a name stands twice.
 fn repeat(names: &[u32]) -> bool
     ensures { result ≡ repeats names.now }
 {
-    let mut i = 0;
-    while i < names.len() {
-        if holds(names, i + 1, names[i]) {
+    for (i, name) in names.iter().enumerate() {
+        if names[i + 1..].contains(name) {
             return true;
         }
-        i += 1;
     }
     false
 }
@@ -70,11 +52,7 @@ fn clear(totals: &mut [u64], n: usize)
     requires { n ≤ length totals.old }
     ensures { Zeroed n n totals.old totals.new }
 {
-    let mut i = 0;
-    while i < n {
-        totals[i] = 0;
-        i += 1;
-    }
+    totals[..n].fill(0);
 }
 
 // A total for each name, over the documents, each under its protocol, into the lent totals; these stay on a refusal.
@@ -84,36 +62,36 @@ pub fn count(
     names: &[u32],
     totals: &mut [u64],
     work: &mut [u32],
-) -> Counted
+) -> Result<usize, CountError>
     ensures totals_after { (answer_of result, totals.new) ≡ counted_sheet documents.now protocols.now names.now (length work.old) totals.old }
     ensures promises { Promises documents.now protocols.now names.now (length work.old) totals.old (answer_of result) totals.new }
 {
     if 4096 < protocols.len() {
-        return Counted::Wrong;
+        return Err(CountError::WrongRequest);
     }
     if !are_protocols(protocols) {
-        return Counted::Wrong;
+        return Err(CountError::WrongRequest);
     }
     let n = names.len();
     if 64 < n {
-        return Counted::Wrong;
+        return Err(CountError::WrongRequest);
     }
     if repeat(names) {
-        return Counted::Wrong;
+        return Err(CountError::WrongRequest);
     }
     if totals.len() < n {
-        return Counted::Wrong;
+        return Err(CountError::WrongRequest);
     }
     if !sheet_check::is_sheet(documents, Form::Documents) {
-        return Counted::Malformed;
+        return Err(CountError::MalformedDocuments);
     }
     if work.len() / 16 < documents.len() / 8 {
-        return Counted::Malformed;
+        return Err(CountError::MalformedDocuments);
     }
     if walk::count(documents, Part::Documents, 0) != protocols.len() {
-        return Counted::Malformed;
+        return Err(CountError::MalformedDocuments);
     }
     clear(totals, n);
     count_documents::count_all(documents, protocols, names, totals, work);
-    Counted::Totals(n)
+    Ok(n)
 }

@@ -13,7 +13,7 @@ use Rattle.sheet_rows.specs.declared.row.Row.{Row}
 use Rattle.sheet_rows.specs.Parse.{document_of, documents_of}
 use Rattle.sheet_rows.specs.Print.{document_rows, documents_rows}
 use Rattle.sheet_check.specs.declared.grammar.Form.TheVariants as form
-use Rattle.sheet_check.specs.declared.Checked.TheVariants.{Fits}
+use Rattle.sheet_check.specs.Checked.{Fits}
 use Rattle.sheet_check.specs.Grammar.{checked}
 use Rattle.sheet_roundtrip.proofs.RoundTrip.{expanded_printed_back, expanded_in_range}
 use Rattle.sheet_forms.proofs.Documents.{documents_parsed_back, documents_fit}

@@ -9,7 +9,7 @@ use Rattle.ast.specs.Lookups.{node_at}
 use Rattle.sheet_rows.specs.Rows.{rows}
 use Rattle.sheet_rows.specs.Parse.{documents_of}
 use Rattle.sheet_check.specs.declared.grammar.Form.TheVariants as form
-use Rattle.sheet_check.specs.declared.Checked.TheVariants.{Fits}
+use Rattle.sheet_check.specs.Checked.{Fits}
 use Rattle.sheet_check.specs.Grammar.{checked}
 use Rattle.expansion_steps.specs.Steps.{World, Plain, ReachedIn}
 use Rattle.expansion_definition.specs.Input.{Input, docs}

@@ -9,7 +9,9 @@ use lib.ListN.{length, drop}
 use borrow.Author.Tests.{ltb-false, ltb-true}
 use Rattle.ast.specs.Choice.{choose}
 use Rattle.text_lines.specs.Answer.{Answer, accepted, refused}
-use Rattle.text_lines.specs.Read.{good_lines, words_of, read_lines}
+use Rattle.text_lines.specs.declared.ReadError.{ReadError}
+use Rattle.text_lines.specs.declared.ReadError.TheVariants.{WrongLength, BadLine}
+use Rattle.text_lines.specs.Read.{good_lines, words_of, read_lines, read_number, read_place}
 use Rattle.text_lines.specs.Write.{lines_of, write_lines}
 
 abbrev refusal_of : Answer × List ℕ → ℕ
@@ -46,11 +48,20 @@ rows_fit l w u k e =
     omega (arith, ltb-false, p.0, p.1)
 
 -- a bad line's number is below the number of rows that the lent words hold
-pub bad_line_fits : (l w u : List ℕ) (k : ℕ) → read_lines l w ≡ (refused 13 k, u) → k < length w / 8
+bad_line_fits : (l w u : List ℕ) (k : ℕ) → read_lines l w ≡ (refused 13 k, u) → k < length w / 8
 unfolding read_lines
 bad_line_fits l w u k e =
     let p = bad_read (not (eqb (length l % 89) 0)) (ltb (length w / 8) (length l / 89)) (ltb (good_lines (length l / 89) l) (length l / 89)) (length l / 89) (good_lines (length l / 89) l) k w (words_of (length l / 89) l ++ drop (8 * (length l / 89)) w) u e in
     omega (arith, ltb-false, ltb-true, p.0, p.1, p.2)
+
+pub read_refuses : (e : ReadError) → 0 < read_number e
+read_refuses WrongLength = omega arith
+read_refuses (BadLine i) = omega arith
+
+-- so the place of any error fits into a word
+pub place_fits : (l w u : List ℕ) (e : ReadError) → read_lines l w ≡ (refused (read_number e) (read_place e), u) → read_place e ≤ length w / 8
+place_fits l w u WrongLength h = omega arith
+place_fits l w u (BadLine i) h = omega (arith, bad_line_fits l w u i h)
 
 first_part : (a b g : Bool) (n m : ℕ) (w v x y : List ℕ) → (reading a b g n m w v).0 ≡ (reading a b g n m x y).0
 first_part true b g n m w v x y = refl

@@ -8,27 +8,29 @@ mod scene;
 
 ghost use Rattle.expand_text.specs.Answer.{Few};
 
-use expand_text::input::Input;
-use expander_run::Outcome;
+use expand_text::answer::SceneError;
+use expander_run::Expanded;
 use std::io::Read;
-use text_lines::Written;
 
 // A reader's scene, expanded into out. Input that is longer than the lines, or cannot be read, has no length that Read
 // lines takes.
-fn respond<R: Read>(reader: &mut R, text: &mut [u8], out: &mut [u32]) -> Outcome
+fn respond<R: Read>(
+    reader: &mut R,
+    text: &mut [u8],
+    out: &mut [u32],
+) -> Result<Expanded, SceneError>
     ensures { Few result }
 {
     match input::read(reader, text) {
-        Input::Bytes(n) => scene::expand_text(&text[..n], out),
-        Input::TooLong => answer::refused(12, 0),
-        Input::Failed => answer::refused(12, 0),
+        Ok(n) => scene::expand_text(&text[..n], out),
+        Err(_) => Err(SceneError::WrongLength),
     }
 }
 
 // Rows, as lines on standard output; there is room for as many as out holds. Whether all of them were written.
 fn print(rt: &impl Print, rows: &[u32]) -> bool {
     let mut text = [0u8; 35600];
-    if let Written::Bytes(n) = text_lines::write_lines(rows, &mut text) {
+    if let Ok(n) = text_lines::write_lines(rows, &mut text) {
         return rt.write_all(&text[..n]).is_ok();
     }
     false
@@ -45,9 +47,9 @@ fn print_all(rt: &impl Print, line: &[u32], rows: &[u32]) -> bool {
 fn main(rt: HostRuntime) {
     let mut text = [0u8; 44500];
     let mut out = [0u32; 3200];
-    let outcome = respond(&mut rt.stdin(), &mut text, &mut out);
-    let line = answer::line(outcome);
-    let rows = answer::rows(outcome);
+    let answered = respond(&mut rt.stdin(), &mut text, &mut out);
+    let line = answer::line(answered);
+    let rows = answer::rows(answered);
     if !print_all(&rt, &line, &out[..8 * rows]) {
         let _ = rt.eprintln("expand: the answer could not be written whole");
     }

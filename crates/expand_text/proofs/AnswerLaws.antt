@@ -2,16 +2,22 @@
 use mathlib.Core.List.{List}
 use mathlib.Core.Path.{◌≡◌, refl}
 use native.Mathlib.Omega.{arith}
-use Rattle.expander_run.specs.Calls.{Demand3}
-use Rattle.expander_run.specs.declared.Outcome.{Outcome}
-use Rattle.expander_run.specs.declared.Outcome.TheVariants.{Expanded, Refused}
-use Rattle.expand_text.specs.Answer.{Few, call_on}
 use Prim.Native.Nat.{ℕ}
+use Rattle.std.specs.declared.result.Result.TheVariants.{Ok, Err}
+use Rattle.expander_run.specs.declared.Expanded.{Expanded}
+use Rattle.expander_run.specs.Calls.{Outcome, Demand3}
+use Rattle.expand_text.specs.declared.answer.SceneError.{SceneError}
+use Rattle.expand_text.specs.declared.answer.SceneError.TheVariants.{WrongLength, BadLine, Expand}
+use Rattle.expand_text.specs.Answer.{Few, call_on}
 
 -- "In every accepted expansion rows ≤ charges ≤ K"
-pub few : (root out out' ledger scopes : List ℕ) (o : Outcome) → Demand3 (call_on root out) o out' ledger scopes → Few o
-few root out out' ledger scopes (Expanded n s c r) d = let a = d refl in record { rows = omega (arith, a.rows_paid, a.expanded.charge_limit) }
-few root out out' ledger scopes (Refused n i j) d = record { rows = omega arith }
+pub few : (root out out' ledger scopes : List ℕ) {o : Outcome} {x : Expanded} → o ≡ Ok x → Demand3 (call_on root out) o out' ledger scopes → Few (Ok x)
+few root out out' ledger scopes {o} {x} q d =
+    let e : Demand3 (call_on root out) (Ok x) out' ledger scopes = rw q at d in
+    let a = e refl in
+    record { rows = omega (arith, a.rows_paid, a.expanded.charge_limit) }
 
-pub few_refused : (o : Outcome) {n i j : ℕ} → o ≡ Refused n i j → Few o
-few_refused o e = rw e (record { rows = omega arith })
+pub few_refused : (e : SceneError) → Few (Err e)
+few_refused WrongLength = record { rows = omega arith }
+few_refused (BadLine line) = record { rows = omega arith }
+few_refused (Expand x') = record { rows = omega arith }

@@ -1,54 +1,78 @@
 // What the program writes of an answer: the first line, and how many rows of out come after it.
 ghost use Rattle.std.specs.Prelude.{◌≡◌};
-ghost use Rattle.expand_text.specs.Answer.{first_line, answer_rows, Few};
+ghost use Rattle.expander_run.specs.Calls.{told};
+ghost use Rattle.expand_text.specs.Answer.{refused_numbers, scene_numbers, first_line, answer_rows, Few};
+ghost use Rattle.expand_text.specs.declared.answer.SceneError.TheVariants.{Expand};
 
-use expander_run::Outcome;
+use expander_run::{Expanded, Numbers, Refusal};
 
-pub fn refused(number: u32, place: u32) -> Outcome
-    ensures { result ≡ Outcome.Refused number place 0 }
+// Why there is no expansion: what was read is no lines of rows, or Expand says no.
+#[derive(Clone, Copy, Debug, PartialEq, Eq)]
+pub enum SceneError {
+    WrongLength,
+    BadLine { line: u32 },
+    Expand(Refusal),
+}
+
+impl From<Refusal> for SceneError {
+    ghost from_gives = { λ e s. s ≡ Expand e };
+
+    fn from(e: Refusal) -> SceneError {
+        SceneError::Expand(e)
+    }
+}
+
+// A refusal of the program's own.
+fn refused(number: u32, place: u32) -> Numbers
+    ensures { told result ≡ refused_numbers number place }
 {
-    Outcome::Refused {
-        number,
-        first: place,
-        second: 0,
+    Numbers {
+        refusal: number,
+        first_place: place,
+        second_place: 0,
+        nodes: 0,
+        scopes: 0,
+        charges: 0,
+        rows: 0,
+    }
+}
+
+// An answer in numbers.
+fn numbers(answer: Result<Expanded, SceneError>) -> Numbers
+    ensures { told result ≡ scene_numbers answer }
+{
+    match answer {
+        Ok(expanded) => Numbers::of(Ok(expanded)),
+        Err(SceneError::Expand(refusal)) => Numbers::of(Err(refusal)),
+        Err(SceneError::WrongLength) => refused(12, 0),
+        Err(SceneError::BadLine { line }) => refused(13, line),
     }
 }
 
 // The first line: refusal or 0, two place numbers, 0, nodes, scopes, charges, 0.
-pub fn line(outcome: Outcome) -> [u32; 8]
-    ensures { result ≡ first_line outcome }
+pub fn line(answer: Result<Expanded, SceneError>) -> [u32; 8]
+    ensures { result ≡ first_line answer }
 {
-    match outcome {
-        Outcome::Expanded {
-            nodes,
-            scopes,
-            charges,
-            rows: _,
-        } => [0, 0, 0, 0, nodes, scopes, charges, 0],
-        Outcome::Refused {
-            number,
-            first,
-            second,
-        } => [number, first, second, 0, 0, 0, 0, 0],
-    }
+    let n = numbers(answer);
+    [
+        n.refusal,
+        n.first_place,
+        n.second_place,
+        0,
+        n.nodes,
+        n.scopes,
+        n.charges,
+        0,
+    ]
 }
 
 // How many rows of out are written: all that the answer has.
-pub fn rows(outcome: Outcome) -> usize
-    requires { Few outcome }
-    ensures { result ≡ answer_rows outcome }
+pub fn rows(answer: Result<Expanded, SceneError>) -> usize
+    requires { Few answer }
+    ensures { result ≡ answer_rows answer }
 {
-    match outcome {
-        Outcome::Expanded {
-            nodes: _,
-            scopes: _,
-            charges: _,
-            rows,
-        } => rows as usize,
-        Outcome::Refused {
-            number: _,
-            first: _,
-            second: _,
-        } => 0,
+    match answer {
+        Ok(expanded) => expanded.rows as usize,
+        Err(_) => 0,
     }
 }

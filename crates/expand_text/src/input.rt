@@ -2,39 +2,40 @@
 ghost use Rattle.std.specs.Prelude.{◌≤◌, length};
 ghost use Rattle.expand_text.specs.Input.{EndsWithin};
 
+use std::io;
 use std::io::Read;
 
-// What reading found: so many bytes and the end, more bytes than are lent, or an error.
-#[derive(Clone, Copy)]
-pub enum Input {
-    Bytes(usize),
+// Why there is no text: more bytes than are lent, or an error.
+#[derive(Clone, Copy, Debug, PartialEq, Eq)]
+pub enum InputError {
     TooLong,
     Failed,
 }
 
-// Whether the input ends after n bytes: one byte more is asked for.
-fn ended<R: Read>(reader: &mut R, n: usize) -> Input
-    ensures { EndsWithin result n }
-{
-    let mut byte = [0u8; 1];
-    match reader.read(&mut byte) {
-        Ok(0) => Input::Bytes(n),
-        Ok(_) => Input::TooLong,
-        Err(_) => Input::Failed,
+impl From<io::Error> for InputError {
+    fn from(_error: io::Error) -> InputError {
+        InputError::Failed
     }
 }
 
-// All that a reader has, into the lent bytes. A read that a signal interrupts counts as an error.
-pub fn read<R: Read>(reader: &mut R, bytes: &mut [u8]) -> Input
+// Kept: the loop reads into lent bytes; the library's reading to the end fills memory of its own, and there is no heap.
+// All that a reader has, into the lent bytes: how many there are. A read that a signal interrupts counts as an error.
+pub fn read<R: Read>(reader: &mut R, bytes: &mut [u8]) -> Result<usize, InputError>
     ensures { EndsWithin result (length bytes.old) }
 {
     let mut n = 0;
     while n < bytes.len() {
-        match reader.read(&mut bytes[n..]) {
-            Ok(0) => return Input::Bytes(n),
-            Ok(more) => n += more,
-            Err(_) => return Input::Failed,
+        let more = reader.read(&mut bytes[n..])?;
+        if more == 0 {
+            return Ok(n);
         }
+        n += more;
     }
-    ended(reader, n)
+    // One byte more is asked for.
+    let mut byte = [0u8; 1];
+    if reader.read(&mut byte)? == 0 {
+        Ok(n)
+    } else {
+        Err(InputError::TooLong)
+    }
 }

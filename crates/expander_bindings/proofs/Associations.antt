@@ -9,10 +9,9 @@ use Rattle.expansion_definition.specs.Values.{Env}
 use Rattle.expansion_definition.specs.PlainCopy.{is_value}
 use Rattle.journal_records.specs.Made.{association_record}
 use Rattle.refine_records.specs.declared.Limits.{Limits}
+use Rattle.refine_records.specs.Does.{Answer, did}
 use Rattle.refine_records.specs.declared.Counts.{Counts}
 use Rattle.refine_records.specs.declared.Env as code
-use Rattle.refine_records.specs.declared.Answer.{Answer}
-use Rattle.refine_records.specs.declared.Answer.TheVariants.{Done}
 use Rattle.refine_records.specs.Sound.{Standing, Later, EnvAt, env_of}
 use Rattle.refine_records.specs.Contract.{Ownership, RecordOwned}
 use Rattle.refine_records.proofs.Later.{later_standing, later_env, env_later}
@@ -25,7 +24,7 @@ owns w c e i n f env = record { env = env; tag = record { low = omega arith; hig
 pub associated : {L : Limits} {w : List ℕ} {t : Counts} {e : code.Env} {i n f : ℕ} {w' : List ℕ} {a : Answer} → RecordOwned L w t e (association_record e.scope i n f) w' a → Associated L w t e i n f w' a
 associated o = record { does = λ S young. o.association refl S young }
 
-module _ {L : Limits} {w : List ℕ} {t : Counts} {e : code.Env} {i n f : ℕ} (st : Standing L w t) (env : EnvAt w t.charges e) {w1 : List ℕ} {a : Answer} (ad : Associated L w t e i n f w1 a) {s : Counts} {v p : ℕ} (q : a ≡ Done s v p) where
+module _ {L : Limits} {w : List ℕ} {t : Counts} {e : code.Env} {i n f : ℕ} (st : Standing L w t) (env : EnvAt w t.charges e) {w1 : List ℕ} {a : Answer} (ad : Associated L w t e i n f w1 a) {s : Counts} {v p : ℕ} (q : a ≡ did s v p) where
   pub then_later : Later L 0 w t w1 s
   then_later = done_later (ad.does any_source 0) q
 

@@ -5,28 +5,27 @@ use Prim.Native.Nat.{ℕ}
 use Rattle.expansion_definition.specs.State.{Comp, bind_r, ◌>>=◌, ◌>>◌, ret}
 use Rattle.expansion_definition.specs.Charges.{charge, paid}
 use Rattle.refine_records.specs.declared.Limits.{Limits}
+use Rattle.std.specs.declared.result.Result.TheVariants.{Ok, Err}
 use Rattle.refine_records.specs.declared.Counts.{Counts}
-use Rattle.refine_records.specs.declared.Answer.{Answer}
-use Rattle.refine_records.specs.declared.Answer.TheVariants.{Done, Refused}
 use Rattle.refine_records.specs.Sound.{Source, input_of, Later}
-use Rattle.refine_records.specs.Does.{Decode, nothing, IfDone, Does, Doing}
+use Rattle.refine_records.specs.Does.{Answer, did, Decode, nothing, IfDone, Does, Doing}
 use Rattle.refine_records.proofs.Calculus.{finish, step, stop, last, paying}
 
 -- a source, where any will do
 abbrev pub any_source : Source
 any_source = record { root = []; library = []; depth = 0 }
 
-pub done_later : {A : Type 0} {S : Source} {L : Limits} {young : ℕ} {d : Decode A} {m : Comp A} {w : List ℕ} {t : Counts} {w' : List ℕ} {a : Answer} {t' : Counts} {v p : ℕ} → Does S L young d m w t w' a → a ≡ Done t' v p → Later L young w t w' t'
+pub done_later : {A : Type 0} {S : Source} {L : Limits} {young : ℕ} {d : Decode A} {m : Comp A} {w : List ℕ} {t : Counts} {w' : List ℕ} {a : Answer} {t' : Counts} {v p : ℕ} → Does S L young d m w t w' a → a ≡ did t' v p → Later L young w t w' t'
 done_later x e = rw e at x.later
 
 -- what holds of each answer, and of one from another
 pub always : (P : Counts → ℕ → ℕ → Type 0) → ((t : Counts) (v p : ℕ) → P t v p) → (a : Answer) → IfDone P a
-always P x (Done t v p) = x t v p
-always P x (Refused n i j) = tt
+always P x (Ok a') = x a'.st a'.value a'.place
+always P x (Err x') = tt
 
 pub if_map : (P Q : Counts → ℕ → ℕ → Type 0) → ((t : Counts) (v p : ℕ) → P t v p → Q t v p) → (a : Answer) → IfDone P a → IfDone Q a
-if_map P Q f (Done t v p) x = f t v p x
-if_map P Q f (Refused n i j) x = tt
+if_map P Q f (Ok a') x = f a'.st a'.value a'.place x
+if_map P Q f (Err x') x = tt
 
 module _ {M : Type 0} {S : Source} {L : Limits} {young : ℕ} {m₀ : Comp M} {w₀ : List ℕ} {t₀ : Counts} {w : List ℕ} {t : Counts} where
   -- a charge is left, and then an answer
@@ -34,8 +33,8 @@ module _ {M : Type 0} {S : Source} {L : Limits} {young : ℕ} {m₀ : Comp M} {w
   pays x d g {w'} {a} y e = by a y e
     where
       by : (b : Answer) → Does S L young nothing (charge (input_of S L)) w t w' b → IfDone (λ t' v p. x ≡ d w' v p) b → Does S L young d m₀ w₀ t₀ w' b
-      by (Done t' v p) z q = finish (step (λ u. ret x) g z refl) d v p q
-      by (Refused n i j) z q = stop (λ u. ret x) g z refl d
+      by (Ok a') z q = finish (step (λ u. ret x) g z refl) d a'.value a'.place q
+      by (Err x') z q = stop (λ u. ret x) g z refl d
 
   -- what is paid for is there
   pub paid_there : (x : M) → Doing S L young m₀ w₀ t₀ (paid (input_of S L) (ret x)) w t → Doing S L young m₀ w₀ t₀ (charge (input_of S L) >> ret x) w t

@@ -15,17 +15,17 @@ use Rattle.journal_reading.specs.Reading.{value_at, values_at}
 use Rattle.journal_reading.specs.WellFormed.{HandleAt}
 use Rattle.journal_reading.proofs.Chains.{values_fixed}
 use Rattle.refine_records.specs.declared.Limits.{Limits}
+use Rattle.std.specs.declared.result.Result.TheVariants.{Ok, Err}
+use Rattle.refine_records.specs.declared.Refusal.{Refusal}
 use Rattle.refine_records.specs.declared.Counts.{Counts}
 use Rattle.refine_records.specs.declared.Env as code
-use Rattle.refine_records.specs.declared.Answer.{Answer}
-use Rattle.refine_records.specs.declared.Answer.TheVariants.{Done, Refused}
 use Rattle.refine_records.specs.Sound.{Source, input_of, Standing, Later, env_of}
-use Rattle.refine_records.specs.Does.{at, Doing}
+use Rattle.refine_records.specs.Does.{Answer, did, at, Doing}
 use Rattle.refine_records.specs.Contract.{Storable, StoredAt, ValueKept}
 use Rattle.refine_records.proofs.Later.{later_standing, later_handle}
 use Rattle.refine_records.proofs.Calculus.{start, turn, finish, step, stop, inner}
 use Rattle.expander_bindings.specs.declared.Given.{Given}
-use Rattle.expander_bindings.specs.Contract.{NotGiven, GivenValue, GivenRefused, TargetValueGiven, GivenDone}
+use Rattle.expander_bindings.specs.Contract.{Targeted, NotGiven, GivenValue, GivenRefused, TargetValueGiven, GivenDone}
 use Rattle.expander_bindings.proofs.Steps.{any_source, done_later, if_map, pays, paid_there}
 
 -- what a target has, in a body or not
@@ -33,7 +33,7 @@ joined : (target : ℕ) (o : Option Values) → and_then o (value_named target) 
 joined target none = refl
 joined target (some vs) = refl
 
-module _ (L : Limits) (w : List ℕ) (t : Counts) (e : code.Env) (target name h : ℕ) (st : Standing L w t) (hd : HandleAt w t.charges tag_stored h) {w2 : List ℕ} {g : Given} (gv : TargetValueGiven L w t e target w2 g) where
+module _ (L : Limits) (w : List ℕ) (t : Counts) (e : code.Env) (target name h : ℕ) (st : Standing L w t) (hd : HandleAt w t.charges tag_stored h) {w2 : List ℕ} {s2 : Counts} {g : Targeted} (gv : TargetValueGiven L w t e target w2 s2 g) where
   abbrev put : Source → Option FieldValue → Comp Values
   put S x = store (input_of S L) name (values_at w h) x
 
@@ -49,24 +49,24 @@ module _ (L : Limits) (w : List ℕ) (t : Counts) (e : code.Env) (target name h 
       (ap (λ (o : Option FieldValue). rest S o (at S w t)) (joined target (env_of w e).is_values ∙ ap (λ (o : Option (Option FieldValue)). and_then o (λ y. y)) z))
 
   -- there is none
-  none_given : (x : Option (Option FieldValue)) → and_then x (λ y. y) ≡ none → NotGiven w e target x w2 → GivenDone L w t e target name h w2 (Done t h 0)
+  none_given : (x : Option (Option FieldValue)) → and_then x (λ y. y) ≡ none → NotGiven w t e target x w2 s2 → GivenDone L w t e target name h w2 (did s2 h 0)
   unfolding clone_or store bind_r
   none_given x nil n =
-      rw n.words
+      rw (n.words, n.counts)
       (record {
         does = λ S young.
             finish (turn (next S young x n.value) (ret (values_at w h)) (ap (λ (o : Option FieldValue). rest S o (at S w t)) nil)) (λ u v p. values_at u v) h 0 refl;
         done = hd;
       })
 
-  pub given_outside : g ≡ Given.Outside → GivenDone L w t e target name h w2 (Done t h 0)
+  pub given_outside : g ≡ Ok Given.Outside → GivenDone L w t e target name h w2 (did s2 h 0)
   given_outside o = none_given none refl (rw o at gv.case)
 
-  pub given_without : g ≡ Given.Without → GivenDone L w t e target name h w2 (Done t h 0)
+  pub given_without : g ≡ Ok Given.Without → GivenDone L w t e target name h w2 (did s2 h 0)
   given_without o = none_given (some none) refl (rw o at gv.case)
 
   -- a value
-  module _ {s2 : Counts} {ty class payload : ℕ} (o : g ≡ Given.With s2 ty class payload) where
+  module _ {ty class payload : ℕ} (o : g ≡ Ok (Given.With ty class payload)) where
     gw : GivenValue L w t e target w2 s2 ty class payload
     gw = rw o at gv.case
 
@@ -88,10 +88,10 @@ module _ (L : Limits) (w : List ℕ) (t : Counts) (e : code.Env) (target name h 
       done = if_map (λ t' v p. StoredAt w2 name ty class payload h w3 t' v) (λ t' v p. HandleAt w3 t'.charges tag_stored v) (λ t' v p x. x.handle) b k.done;
     }
 
-  pub given_full : {n i j : ℕ} → g ≡ Given.Refused n i j → GivenDone L w t e target name h w2 (Refused n i j)
+  pub given_full : {x' : Refusal} → g ≡ Err x' → GivenDone L w t e target name h w2 (Err x')
   unfolding clone_or
-  given_full {n} {i} {j} o =
-      let gr : GivenRefused L w t e target w2 n i j = rw o at gv.case in
+  given_full {x'} o =
+      let gr : GivenRefused L w t e target w2 x' = rw o at gv.case in
       record {
         does = λ S young. stop (λ v'. ret (some v') >>= put S) (inner (clone (input_of S L) gr.found) (λ v'. ret (some v')) (put S) (next S young (some (some gr.found)) gr.cloning.value)) (gr.cloning.does S young) refl (λ u v p. values_at u v);
         done = tt;

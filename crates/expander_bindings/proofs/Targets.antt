@@ -14,8 +14,9 @@ use Rattle.expansion_definition.specs.State.{ok}
 use Rattle.expansion_definition.specs.Values.{Values, value_named, clone}
 use Rattle.expansion_definition.specs.PlainCopy.{is_value}
 use Rattle.expansion_definition.specs.Reached.{is_given}
-use Rattle.journal_index.specs.declared.Newest.{Newest}
-use Rattle.journal_index.specs.declared.Newest.TheVariants.{At, Nothing}
+use Rattle.journal_index.specs.Index.{Newest}
+use Rattle.std.specs.Option.{is_some}
+use Rattle.std.specs.declared.option.Option.TheVariants.{None, Some}
 use Rattle.journal_records.specs.Records.{tag_id, tag_stored, cell}
 use Rattle.journal_records.proofs.Lists.{scan_low}
 use Rattle.journal_reading.specs.Reading.{fixed_word, ids_in, ids_at, value_at, value_rec}
@@ -25,12 +26,12 @@ use Rattle.journal_reading.proofs.Chains.{value_fixed}
 use Rattle.journal_reading.proofs.Fair.{handle_fixed}
 use Rattle.journal_records.proofs.Frame.{fixed_refl}
 use Rattle.refine_records.specs.declared.Limits.{Limits}
+use Rattle.std.specs.declared.result.Result.TheVariants.{Err}
+use Rattle.refine_records.specs.declared.Refusal.{Refusal}
 use Rattle.refine_records.specs.declared.Counts.{Counts}
 use Rattle.refine_records.specs.declared.Env as code
-use Rattle.refine_records.specs.declared.Answer.{Answer}
-use Rattle.refine_records.specs.declared.Answer.TheVariants.{Done, Refused}
 use Rattle.refine_records.specs.Sound.{Source, input_of, Standing, EnvAt, env_of}
-use Rattle.refine_records.specs.Does.{at, Does}
+use Rattle.refine_records.specs.Does.{Answer, did, at, Does}
 use Rattle.refine_records.specs.Contract.{ValueFound, Cloned}
 use Rattle.refine_records.proofs.Later.{later_handle}
 use Rattle.expander_bindings.specs.Contract.{ClassRead, NotGiven, GivenValue, GivenRefused, HasValue}
@@ -76,8 +77,8 @@ module _ (L : Limits) (w : List ℕ) (t : Counts) (e : code.Env) (target : ℕ) 
   has_outside n = has_from none (rw (not-true e.body n))
 
   -- outside a body
-  pub outside : not e.body ≡ true → NotGiven w e target none w
-  outside n = record { words = refl; value = rw (not-true e.body n) }
+  pub outside : not e.body ≡ true → NotGiven w t e target none w t
+  outside n = record { words = refl; counts = refl; value = rw (not-true e.body n) }
 
   module _ (st : Standing L w t) (env : EnvAt w t.charges e) where
     module _ (left : not e.body ≡ false) (f : Newest) (v : ValueFound w e.values target f) where
@@ -85,17 +86,19 @@ module _ (L : Limits) (w : List ℕ) (t : Counts) (e : code.Env) (target : ℕ) 
       body = not-false e.body left
 
       -- in a body: no value
-      pub without : f ≡ Nothing → NotGiven w e target (some none) w
-      without n = record { words = refl; value = rw body (ap some (v.same ∙ rw n)) }
+      pub without : f ≡ None → NotGiven w t e target (some none) w t
+      without n = record { words = refl; counts = refl; value = rw body (ap some (v.same ∙ rw n)) }
 
-      pub has_without : f ≡ Nothing → HasValue w e target false
-      has_without n = has_from (some none) (without n).value
-
-      pub has_at : (r : ℕ) → f ≡ At r → HasValue w e target true
-      has_at r here = has_from (some (some (value_rec w r))) (rw body (ap some (v.same ∙ rw here)))
+      -- whether there is one
+      pub has_searched : HasValue w e target (is_some f)
+      has_searched = by f refl
+        where
+          by : (g : Newest) → f ≡ g → HasValue w e target (is_some g)
+          by None q = has_from (some none) (without q).value
+          by (Some r) q = has_from (some (some (value_rec w r))) (rw body (ap some (v.same ∙ rw q)))
 
       -- a value
-      module _ (r : ℕ) (here : f ≡ At r) where
+      module _ (r : ℕ) (here : f ≡ Some r) where
         below : r < t.charges
         below = omega (arith, v.low r here, env.values.low, env.place)
 
@@ -115,10 +118,10 @@ module _ (L : Limits) (w : List ℕ) (t : Counts) (e : code.Env) (target : ℕ) 
           found = rw body (ap some (v.same ∙ rw here (ap some (stored_value w t.charges r ty x g class (v.stored r here) fair e5 e6 e7 k.same))))
 
           module _ (w' : List ℕ) (a : Answer) (c : Cloned L w t class g w' a) where
-            same : {t' : Counts} {y p : ℕ} → a ≡ Done t' y p → value_at w' ty class g ≡ value_at w ty class g
+            same : {t' : Counts} {y p : ℕ} → a ≡ did t' y p → value_at w' ty class g ≡ value_at w ty class g
             same q = value_fixed (done_later (c.does any_source 0 0) q).kept ty class g (λ z. (payload z).low)
 
-            pub cloned : {t' : Counts} {y p : ℕ} → a ≡ Done t' y p → GivenValue L w t e target w' t' ty class g
+            pub cloned : {t' : Counts} {y p : ℕ} → a ≡ did t' y p → GivenValue L w t e target w' t' ty class g
             cloned {t'} {y} {p} q = record {
               cloning = record { value = found; does = done };
               some = k.some;
@@ -126,19 +129,19 @@ module _ (L : Limits) (w : List ℕ) (t : Counts) (e : code.Env) (target : ℕ) 
               same = same q;
             }
               where
-                done : (S : Source) (young : ℕ) → Does S L young (λ u n p. value_at w ty class g) (clone (input_of S L) (value_at w ty class g)) w t w' (Done t' g 0)
+                done : (S : Source) (young : ℕ) → Does S L young (λ u n p. value_at w ty class g) (clone (input_of S L) (value_at w ty class g)) w t w' (did t' g 0)
                 done S young =
-                    let d : Does S L young (λ u n p. value_at u ty class n) (clone (input_of S L) (value_at w ty class g)) w t w' (Done t' y p) = rw q at (c.does S young ty) in
+                    let d : Does S L young (λ u n p. value_at u ty class n) (clone (input_of S L) (value_at w ty class g)) w t w' (did t' y p) = rw q at (c.does S young ty) in
                     let z : y ≡ g = rw q at c.done in
                     record { same = ap (λ (v : FieldValue). ok v (at S w' t')) (sym (same q) ∙ ap (λ (n : ℕ). value_at w' ty class n) (sym z)) ∙ d.same; later = d.later }
 
-            pub refused : {n i j : ℕ} → a ≡ Refused n i j → GivenRefused L w t e target w' n i j
-            refused {n} {i} {j} q = record {
+            pub refused : {x' : Refusal} → a ≡ Err x' → GivenRefused L w t e target w' x'
+            refused {x'} q = record {
               found = value_at w ty class g;
               cloning = record { value = found; does = done };
             }
               where
-                done : (S : Source) (young : ℕ) → Does S L young (λ u x p. value_at w ty class g) (clone (input_of S L) (value_at w ty class g)) w t w' (Refused n i j)
+                done : (S : Source) (young : ℕ) → Does S L young (λ u x p. value_at w ty class g) (clone (input_of S L) (value_at w ty class g)) w t w' (Err x')
                 done S young =
-                    let d : Does S L young (λ u n p. value_at u ty class n) (clone (input_of S L) (value_at w ty class g)) w t w' (Refused n i j) = rw q at (c.does S young ty) in
+                    let d : Does S L young (λ u n p. value_at u ty class n) (clone (input_of S L) (value_at w ty class g)) w t w' (Err x') = rw q at (c.does S young ty) in
                     record { same = d.same; later = tt }

@@ -16,11 +16,13 @@ use Rattle.journal_reading.specs.Reading.{value_at, fields_at, interfaces_at, va
 use Rattle.journal_reading.specs.WellFormed.{HandleAt, NodeAt}
 use Rattle.journal_reading.specs.RecordsStay.{RecordsStay, Unrecorded}
 use Rattle.refine_records.specs.declared.Limits.{Limits}
+use Rattle.std.specs.declared.result.Result as either
+use Rattle.std.specs.declared.result.Result.TheVariants.{Ok, Err}
+use Rattle.refine_records.specs.declared.Refusal.{Refusal}
 use Rattle.refine_records.specs.declared.Counts.{Counts}
 use Rattle.refine_records.specs.declared.Env as code
-use Rattle.refine_records.specs.declared.Answer.{Answer}
 use Rattle.refine_records.specs.Sound.{Source, input_of, Later, EnvAt, env_of}
-use Rattle.refine_records.specs.Does.{nothing, number, IfDone, Does}
+use Rattle.refine_records.specs.Does.{Answer, did, nothing, number, IfDone, Does}
 use Rattle.refine_records.specs.Contract.{MappedAt, EndOf}
 use Rattle.expander_bindings.specs.declared.Given.{Given}
 
@@ -30,8 +32,9 @@ pub record Associated (L : Limits) (w : List ℕ) (t : Counts) (e : code.Env) (i
 
 -- ---- what an IS target has in a scope
 -- it is x, and nothing is done
-pub record NotGiven (w : List ℕ) (e : code.Env) (target : ℕ) (x : Option (Option FieldValue)) (w' : List ℕ) : Type 0 where
+pub record NotGiven (w : List ℕ) (t : Counts) (e : code.Env) (target : ℕ) (x : Option (Option FieldValue)) (w' : List ℕ) (t' : Counts) : Type 0 where
   pub words : w' ≡ w
+  pub counts : t' ≡ t
   pub value : is_value (env_of w e) target ≡ x
 
 -- r is x as a class that is not 0
@@ -45,23 +48,27 @@ pub record ValueCloned (L : Limits) (w : List ℕ) (t : Counts) (e : code.Env) (
   pub does : (S : Source) (young : ℕ) → Does S L young (λ u x p. v) (clone (input_of S L) v) w t w' a
 
 pub record GivenValue (L : Limits) (w : List ℕ) (t : Counts) (e : code.Env) (target : ℕ) (w' : List ℕ) (t' : Counts) (ty class payload : ℕ) : Type 0 where
-  pub cloning : ValueCloned L w t e target (value_at w ty class payload) w' (Answer.Done t' payload 0)
+  pub cloning : ValueCloned L w t e target (value_at w ty class payload) w' (did t' payload 0)
   pub some : class ≡ 0 → ⊥
   pub ids : class ≡ 2 → HandleAt w' t'.charges tag_id payload
   pub same : value_at w' ty class payload ≡ value_at w ty class payload
 
-pub record GivenRefused (L : Limits) (w : List ℕ) (t : Counts) (e : code.Env) (target : ℕ) (w' : List ℕ) (n i j : ℕ) : Type 0 where
+pub record GivenRefused (L : Limits) (w : List ℕ) (t : Counts) (e : code.Env) (target : ℕ) (w' : List ℕ) (x' : Refusal) : Type 0 where
   pub found : FieldValue
-  pub cloning : ValueCloned L w t e target found w' (Answer.Refused n i j)
+  pub cloning : ValueCloned L w t e target found w' (Err x')
 
-abbrev pub GivenCase : Limits → List ℕ → Counts → code.Env → ℕ → List ℕ → Given → Type 0
-GivenCase L w t e target w' Given.Outside = NotGiven w e target none w'
-GivenCase L w t e target w' Given.Without = NotGiven w e target (some none) w'
-GivenCase L w t e target w' (Given.With t' ty class payload) = GivenValue L w t e target w' t' ty class payload
-GivenCase L w t e target w' (Given.Refused n i j) = GivenRefused L w t e target w' n i j
+-- what is given, or why it is refused
+abbrev pub Targeted : Type 0
+Targeted = either.Result Given Refusal
 
-pub record TargetValueGiven (L : Limits) (w : List ℕ) (t : Counts) (e : code.Env) (target : ℕ) (w' : List ℕ) (g : Given) : Type 0 where
-  pub case : GivenCase L w t e target w' g
+abbrev pub GivenCase : Limits → List ℕ → Counts → code.Env → ℕ → List ℕ → Counts → Targeted → Type 0
+GivenCase L w t e target w' t' (Ok Given.Outside) = NotGiven w t e target none w' t'
+GivenCase L w t e target w' t' (Ok Given.Without) = NotGiven w t e target (some none) w' t'
+GivenCase L w t e target w' t' (Ok (Given.With ty class payload)) = GivenValue L w t e target w' t' ty class payload
+GivenCase L w t e target w' t' (Err x') = GivenRefused L w t e target w' x'
+
+pub record TargetValueGiven (L : Limits) (w : List ℕ) (t : Counts) (e : code.Env) (target : ℕ) (w' : List ℕ) (t' : Counts) (g : Targeted) : Type 0 where
+  pub case : GivenCase L w t e target w' t' g
 
 -- whether it is a value
 pub record HasValue (w : List ℕ) (e : code.Env) (target : ℕ) (r : Bool) : Type 0 where

@@ -2,35 +2,32 @@
 // The steps of an expansion about IS bindings, and the record of an instance: they copy no node.
 ghost use Rattle.journal_records.specs.Records.{tag_stored};
 ghost use Rattle.journal_reading.specs.WellFormed.{HandleAt};
+ghost use Rattle.refine_records.specs.Does.{done_given, number_given};
 ghost use Rattle.refine_records.specs.Sound.{Standing, EnvAt};
 ghost use Rattle.expander_bindings.specs.Contract.{ClassRead, Associated, TargetValueGiven, HasValue, GivenDone};
 
 use ast::NodeId;
-use journal_index::Newest;
 use journal_records;
-use journal_records::Record;
+use journal_records::{Record, words};
 use refine_records;
-use refine_records::{Answer, Counts, Env, Limits};
+use refine_records::{Env, Journal, Limits, Refusal};
 
 // An IS adds an association to its scope.
 pub fn associate(
-    work: &mut [u32],
+    journal: &mut Journal<'_>,
     lim: Limits,
-    st: Counts,
     env: Env,
     interface: u32,
     node: NodeId,
     field: u32,
-) -> Answer
-    requires standing { Standing lim work.old st }
-    requires env_at { EnvAt work.old st.charges env }
-    ensures { Associated lim work.old st env interface node.0 field work.new result }
+) -> Result<(), Refusal>
+    requires standing { Standing lim journal.old.work.now journal.old.counts }
+    requires env_at { EnvAt journal.old.work.now journal.old.counts.charges env }
+    ensures { Associated lim journal.old.work.now journal.old.counts env interface node.0 field journal.new.work.now (done_given journal.new.counts result) }
 {
     let scope = env.scope;
-    refine_records::own(
-        work,
+    journal.own(
         lim,
-        st,
         env,
         Record::association(scope, interface, node.0, field),
     )
@@ -48,111 +45,62 @@ fn class_of(x: u32) -> u32
 pub enum Given {
     Outside,
     Without,
-    With {
-        st: Counts,
-        ty: u32,
-        class: u32,
-        payload: u32,
-    },
-    Refused {
-        number: u32,
-        first: u32,
-        second: u32,
-    },
+    With { ty: u32, class: u32, payload: u32 },
 }
 
-pub fn target_value(work: &mut [u32], lim: Limits, st: Counts, env: Env, target: u32) -> Given
-    requires standing { Standing lim work.old st }
-    requires env_at { EnvAt work.old st.charges env }
-    ensures { TargetValueGiven lim work.old st env target work.new result }
+pub fn target_value(
+    journal: &mut Journal<'_>,
+    lim: Limits,
+    env: Env,
+    target: u32,
+) -> Result<Given, Refusal>
+    requires standing { Standing lim journal.old.work.now journal.old.counts }
+    requires env_at { EnvAt journal.old.work.now journal.old.counts.charges env }
+    ensures { TargetValueGiven lim journal.old.work.now journal.old.counts env target journal.new.work.now journal.new.counts result }
 {
     if !env.body {
-        return Given::Outside;
+        return Ok(Given::Outside);
     }
-    let Newest::At(v) = refine_values::value_of(work, lim, st, env.values, target) else {
-        return Given::Without;
+    let Some(v) = refine_values::value_of(journal, lim, env.values, target) else {
+        return Ok(Given::Without);
     };
-    let ty = journal_records::word(work, v, 5);
-    let class = class_of(journal_records::word(work, v, 6));
-    let payload = journal_records::word(work, v, 7);
-    match refine_values::clone(work, lim, st, class, payload) {
-        Answer::Done {
-            st: s,
-            value: _,
-            place: _,
-        } => Given::With {
-            st: s,
-            ty,
-            class,
-            payload,
-        },
-        Answer::Refused {
-            number,
-            first,
-            second,
-        } => Given::Refused {
-            number,
-            first,
-            second,
-        },
-    }
+    let ty = journal.word(v, words::value::TYPE);
+    let class = class_of(journal.word(v, words::value::CLASS));
+    let payload = journal.word(v, words::value::PAYLOAD);
+    refine_values::clone(journal, lim, class, payload)?;
+    Ok(Given::With { ty, class, payload })
 }
 
 // Whether an IS target has a value in a scope.
-pub fn has_value(work: &[u32], lim: Limits, st: Counts, env: Env, target: u32) -> bool
-    requires standing { Standing lim work.now st }
-    requires env_at { EnvAt work.now st.charges env }
-    ensures { HasValue work.now env target result }
+pub fn has_value(journal: &Journal<'_>, lim: Limits, env: Env, target: u32) -> bool
+    requires standing { Standing lim journal.now.work.now journal.now.counts }
+    requires env_at { EnvAt journal.now.work.now journal.now.counts.charges env }
+    ensures { HasValue journal.now.work.now env target result }
 {
     if !env.body {
         return false;
     }
-    match refine_values::value_of(work, lim, st, env.values, target) {
-        Newest::At(_) => true,
-        Newest::Nothing => false,
-    }
+    refine_values::value_of(journal, lim, env.values, target).is_some()
 }
 
 // The value that an IS target has in the instance's scope, stored under an interface's name.
 pub fn is_given(
-    work: &mut [u32],
+    journal: &mut Journal<'_>,
     lim: Limits,
-    st: Counts,
     env: Env,
     target: u32,
     name: u32,
     h: u32,
-) -> Answer
-    requires standing { Standing lim work.old st }
-    requires env_at { EnvAt work.old st.charges env }
-    requires handle_at { HandleAt work.old st.charges tag_stored h }
-    ensures { GivenDone lim work.old st env target name h work.new result }
+) -> Result<u32, Refusal>
+    requires standing { Standing lim journal.old.work.now journal.old.counts }
+    requires env_at { EnvAt journal.old.work.now journal.old.counts.charges env }
+    requires handle_at { HandleAt journal.old.work.now journal.old.counts.charges tag_stored h }
+    ensures { GivenDone lim journal.old.work.now journal.old.counts env target name h journal.new.work.now (number_given journal.new.counts result) }
 {
-    match target_value(work, lim, st, env, target) {
-        Given::Outside => Answer::Done {
-            st,
-            value: h,
-            place: 0,
-        },
-        Given::Without => Answer::Done {
-            st,
-            value: h,
-            place: 0,
-        },
-        Given::With {
-            st: t,
-            ty,
-            class,
-            payload,
-        } => refine_values::store(work, lim, t, name, ty, class, payload, h),
-        Given::Refused {
-            number,
-            first,
-            second,
-        } => Answer::Refused {
-            number,
-            first,
-            second,
-        },
+    match target_value(journal, lim, env, target)? {
+        Given::Outside | Given::Without => Ok(h),
+        Given::With { ty, class, payload } => refine_values::store(
+            journal, lim, name, ty, class, payload, h,
+        ),
     }
 }

@@ -7,12 +7,10 @@ use native.Mathlib.Omega.{arith}
 use lib.ListN.{length}
 use Rattle.ast.specs.Choice.{choose}
 use Rattle.sheet_rows.specs.declared.row.Row.{Row}
-use Rattle.sheet_check.specs.declared.Checked.{Checked}
-use Rattle.sheet_check.specs.declared.Checked.TheVariants.{Fits, Bad}
+use Rattle.sheet_check.specs.Checked.{Checked, Fits, Bad}
 use Rattle.sheet_check.specs.declared.grammar.Form.{Form}
 use Rattle.sheet_check.specs.declared.grammar.State.{State}
-use Rattle.sheet_check.specs.declared.grammar.Next.{Next}
-use Rattle.sheet_check.specs.declared.grammar.Next.TheVariants as next
+use Rattle.std.specs.Prelude.{Option, Some, None, Ok, Err}
 use Rattle.sheet_check.specs.declared.grammar.Form.TheVariants as form
 use Rattle.sheet_rows.specs.Rows.{rows}
 use Rattle.sheet_check.specs.Grammar.{has_ended, fits, go_on, run, checked}
@@ -22,24 +20,23 @@ use Rattle.expansion_operation.specs.Promises.{Promises}
 use Rattle.expansion_operation.proofs.Targets.{Words}
 use Rattle.expansion_operation.proofs.Tests.{room_if, sheets_if}
 use Rattle.expansion_operation.proofs.Promised.{promises}
-use Rattle.expander_run.specs.declared.Outcome.{Outcome}
-use Rattle.expander_run.specs.declared.Outcome.TheVariants.{Refused}
-use Rattle.expander_run.specs.Calls.{after_of, AsDefined, Demand1, Demand3, Allowed, Ran}
+use Rattle.std.specs.declared.result.Result.TheVariants.{Err}
+use Rattle.expander_run.specs.Calls.{NoRoom, WrongLength, Malformed, Outcome, after_of, AsDefined, Demand1, Demand3, Allowed, Ran}
 
 -- ---- a row that doesn't fit is a row of the sheet, or its end
 no_fits : {n : ℕ} → Fits ≡ Bad n → ⊥
 no_fits {n} e = let z : ◌≡◌ {A = ℕ} 0 1 = ap tag e in omega arith
   where
     tag : Checked → ℕ
-    tag Fits = 0
-    tag (Bad n) = 1
+    tag (Ok _) = 0
+    tag (Err b) = 1
 
 bad_is : {n m : ℕ} → Bad n ≡ Bad m → n ≡ m
 bad_is {n} {m} e = ap row e
   where
     row : Checked → ℕ
-    row Fits = 0
-    row (Bad n) = n
+    row (Ok _) = 0
+    row (Err b) = b.0
 
 low : (form : Form) (s : State) (n : ℕ) (l : List Row) {m : ℕ} → run form s n l ≡ Bad m → m ≤ n + length l
 unfolding run
@@ -50,25 +47,25 @@ low form s n [] {m} e = by (has_ended form s) e
     by false z = omega (arith, bad_is z)
 low form s n (r ∷ l) {m} e = by (λ t z. low form t (suc n) l z) (fits form s r) e
   where
-    by : ((t : State) → run form t (suc n) l ≡ Bad m → m ≤ suc n + length l) → (x : Next) → go_on x (λ t. run form t (suc n) l) n ≡ Bad m → m ≤ n + suc (length l)
-    by k (next.Go t) z = omega (arith, k t z)
-    by k next.No z = omega (arith, bad_is z)
+    by : ((t : State) → run form t (suc n) l ≡ Bad m → m ≤ suc n + length l) → (x : Option State) → go_on x (λ t. run form t (suc n) l) n ≡ Bad m → m ≤ n + suc (length l)
+    by k (Some t) z = omega (arith, k t z)
+    by k None z = omega (arith, bad_is z)
 
 pub bad_low : (form : Form) (sheet : List ℕ) {m : ℕ} → checked form (rows sheet) ≡ Bad m → m ≤ length sheet / 8
 bad_low form sheet e = omega (arith, low form _ 0 (rows sheet) e, rows_length sheet)
 
 -- ---- the answer, from the tests' results
 module _ (c : Call) where
-  pub at_1 : (over_caps c.limits || too_short c) ≡ true → AsDefined c (Refused 1 0 0) c.out c.ledger c.scopes
+  pub at_1 : (over_caps c.limits || too_short c) ≡ true → AsDefined c (Err NoRoom) c.out c.ledger c.scopes
   unfolding expand_words outcome
   at_1 q = rw q
 
   module _ (q : (over_caps c.limits || too_short c) ≡ false) where
-    pub at_2_root : wrong_length c.root ≡ true → AsDefined c (Refused 2 0 0) c.out c.ledger c.scopes
+    pub at_2_root : wrong_length c.root ≡ true → AsDefined c (Err WrongLength) c.out c.ledger c.scopes
     unfolding expand_words outcome
     at_2_root r = rw (q, r)
 
-    pub at_2_library : wrong_length c.root ≡ false → wrong_length c.library ≡ true → AsDefined c (Refused 2 0 0) c.out c.ledger c.scopes
+    pub at_2_library : wrong_length c.root ≡ false → wrong_length c.library ≡ true → AsDefined c (Err WrongLength) c.out c.ledger c.scopes
     unfolding expand_words outcome
     at_2_library r l = rw (q, r, l)
 
@@ -76,12 +73,12 @@ module _ (c : Call) where
       pub allowed : Allowed c
       allowed = (room_if c q, sheets_if c (rw (r, l)))
 
-      pub at_3_root : {row : ℕ} → checked form.Root (rows c.root) ≡ Bad row → AsDefined c (Refused 3 0 row) c.out c.ledger c.scopes
+      pub at_3_root : {row : ℕ} → checked form.Root (rows c.root) ≡ Bad row → AsDefined c (Err (Malformed 0 row)) c.out c.ledger c.scopes
       unfolding expand_words outcome
       at_3_root s = rw (q, r, l, s)
 
       module _ (s : checked form.Root (rows c.root) ≡ Fits) where
-        pub at_3_library : {row : ℕ} → checked form.Library (rows c.library) ≡ Bad row → AsDefined c (Refused 3 1 row) c.out c.ledger c.scopes
+        pub at_3_library : {row : ℕ} → checked form.Library (rows c.library) ≡ Bad row → AsDefined c (Err (Malformed 1 row)) c.out c.ledger c.scopes
         unfolding expand_words outcome
         at_3_library z = rw (q, r, l, s, z)
 

@@ -4,19 +4,9 @@ ghost use Rattle.std.specs.Prelude.{◌≡◌};
 ghost use Rattle.expansion_operation.specs.Operation.{wrong_length};
 ghost use Rattle.expander_run.specs.Calls.{limits_of, call_of, lacks_room, AsDefined, Demand1, Demand3};
 
-use expander_run::{Outcome, run};
-use sheet_check::Checked;
+use expander_run::{Expanded, Refusal, run};
+use sheet_check::BadRow;
 use sheet_check::grammar::Form;
-
-fn refused(number: u32, first: u32, second: u32) -> Outcome
-    ensures { result ≡ Outcome.Refused number first second }
-{
-    Outcome::Refused {
-        number,
-        first,
-        second,
-    }
-}
 
 // Refusal 1: a limit over its cap, or a slice too short for the limits.
 fn lacks_room(
@@ -72,7 +62,7 @@ pub fn expand<'a>(
     ledger: &mut [u32],
     scopes: &mut [u32],
     work: &mut [u32],
-) -> Outcome
+) -> Result<Expanded, Refusal>
     ensures as_defined { AsDefined (call_of root.now library.now max_nodes max_depth max_rows out.old ledger.old scopes.old work.old) result out.new ledger.new scopes.new }
     ensures demand1 { Demand1 (call_of root.now library.now max_nodes max_depth max_rows out.old ledger.old scopes.old work.old) result out.new ledger.new scopes.new }
     ensures demand3 { Demand3 (call_of root.now library.now max_nodes max_depth max_rows out.old ledger.old scopes.old work.old) result out.new ledger.new scopes.new }
@@ -86,19 +76,25 @@ pub fn expand<'a>(
         scopes.len(),
         work.len(),
     ) {
-        return refused(1, 0, 0);
+        return Err(Refusal::NoRoom);
     }
     if wrong_length(root) {
-        return refused(2, 0, 0);
+        return Err(Refusal::WrongLength);
     }
     if wrong_length(library) {
-        return refused(2, 0, 0);
+        return Err(Refusal::WrongLength);
     }
-    if let Checked::Bad(row) = sheet_check::check(root, Form::Root) {
-        return refused(3, 0, row as u32);
+    if let Err(BadRow(row)) = sheet_check::check(root, Form::Root) {
+        return Err(Refusal::Malformed {
+            sheet: 0,
+            row: row as u32,
+        });
     }
-    if let Checked::Bad(row) = sheet_check::check(library, Form::Library) {
-        return refused(3, 1, row as u32);
+    if let Err(BadRow(row)) = sheet_check::check(library, Form::Library) {
+        return Err(Refusal::Malformed {
+            sheet: 1,
+            row: row as u32,
+        });
     }
     run::run(
         root,

@@ -34,12 +34,12 @@ use Rattle.journal_reading.specs.Reading.{route_new, body_of}
 use Rattle.journal_reading.specs.WellFormed.{NodeAt}
 use Rattle.journal_reading.specs.RecordsStay.{Unrecorded}
 use Rattle.refine_records.specs.declared.Limits.{Limits}
+use Rattle.std.specs.declared.result.Result.TheVariants.{Ok, Err}
+use Rattle.refine_records.specs.declared.Refusal.{Refusal}
 use Rattle.refine_records.specs.declared.Counts.{Counts}
 use Rattle.refine_records.specs.declared.Env as code
-use Rattle.refine_records.specs.declared.Answer.{Answer}
-use Rattle.refine_records.specs.declared.Answer.TheVariants.{Done, Refused}
 use Rattle.refine_records.specs.Sound.{input_of, JournalSound, Later, env_of}
-use Rattle.refine_records.specs.Does.{at, IfDone}
+use Rattle.refine_records.specs.Does.{Answer, did, at, IfDone}
 use Rattle.refine_records.specs.Contract.{Ownership, OwnedAt, RecordOwned, MappedAt, Mapped}
 use Rattle.refine_records.proofs.Later.{later_env, env_later, later_node, body_later, unrecorded_later}
 use Rattle.refine_records.proofs.Owning.{own_root, own_route}
@@ -110,12 +110,12 @@ module _ (root library dir w : List ℕ) (L : Limits) (t : Counts) (e : code.Env
       paid_by o = leaf tt (λ D. o.body ne (source_of root library D) n (omega arith)) o.done
 
       by : (a : Answer) → RecordOwned L w₁ s inner x w₂ a → BodyStatementCopied root library w L t e id inner R row out place depth w₂ (kept_of a out place)
-      by (Done t₂ v p) o = end (go (λ I z. ret c) run (paid_by o) refl) (record {
-        body = eq t₂ o.done;
+      by (Ok a') o = end (go (λ I z. ret c) run (paid_by o) refl) (record {
+        body = eq a'.st o.done;
         rooted = λ z. later_node (went (paid_by o) refl) (hi.rooted z);
         unrecorded = own_unrecorded o.done hi.unrecorded;
       })
-      by (Refused k i j) o = halt (λ I z. ret c) run (paid_by o) refl c
+      by (Err x') o = halt (λ I z. ret c) run (paid_by o) refl c
 
   -- ---- a Node
   module _ (q : r.a ≡ 0) where
@@ -135,10 +135,10 @@ module _ (root library dir w : List ℕ) (L : Limits) (t : Counts) (e : code.Env
       within : Yields root library L n (λ I. copy I depth (env_of w inner) r.b) Placed w t w₁ a
       within = yields_young (omega (arith, h.opened)) y
 
-      pub node_stop : {k i j : ℕ} → a ≡ Refused k i j → BodyStatementCopied root library w L t e id inner R row out place depth w₁ a
+      pub node_stop : {x' : Refusal} → a ≡ Err x' → BodyStatementCopied root library w L t e id inner R row out place depth w₁ a
       node_stop z = halt put node_run within z b
 
-      module _ {s : Counts} {o p : ℕ} (z : a ≡ Done s o p) where
+      module _ {s : Counts} {o p : ℕ} (z : a ≡ did s o p) where
         pub node_inside : InBody root library dir w₁ L s e inner out place
         node_inside = inside_later (went y z) h.opened h
 
@@ -174,15 +174,15 @@ module _ (root library dir w : List ℕ) (L : Limits) (t : Counts) (e : code.Env
               entered young x = leaf tt (λ D. x.does (source_of root library D) young) x.done
 
               by : (a₂ : Answer) → Mapped L w₁ s e.scope id o p w₂ a₂ → BodyStatementCopied root library w L t e id inner R row out place depth w₂ a₂
-              by (Done t₂ v k) x =
-                  let la : Later L (n + 1) w₁ s w₂ t₂ = went (entered (n + 1) x) refl in
-                  let some? : 0 < k = omega (arith, node_ready.some, x.done.node) in
+              by (Ok a') x =
+                  let la : Later L (n + 1) w₁ s w₂ a'.st = went (entered (n + 1) x) refl in
+                  let some? : 0 < a'.place = omega (arith, node_ready.some, x.done.node) in
                   end (go (λ I z. ret rooted) root_run (entered n x) refl) (record {
-                    body = rw (body_later la n (omega arith) v k, x.done.value, ne_eqb k 0 (λ l. omega arith)) (ap (λ (c : Body). record { root = some o; extra_roots = c.extra_roots; routes = c.routes }) (sym same));
+                    body = rw (body_later la n (omega arith) a'.value a'.place, x.done.value, ne_eqb a'.place 0 (λ l. omega arith)) (ap (λ (c : Body). record { root = some o; extra_roots = c.extra_roots; routes = c.routes }) (sym same));
                     rooted = λ l. later_node la (rw (x.done.value, x.done.node) node_ready);
                     unrecorded = unrecorded_later la n (omega arith) node_inside.unrecorded;
                   })
-              by (Refused k i j) x = halt (λ I z. ret rooted) root_run (entered n x) refl rooted
+              by (Err x') x = halt (λ I z. ret rooted) root_run (entered n x) refl rooted
 
         -- an extra root
         pub root_ready : Ownership w₁ s.charges inner (root_record n o)
@@ -212,14 +212,14 @@ module _ (root library dir w : List ℕ) (L : Limits) (t : Counts) (e : code.Env
         declared young x y = leaf 0 (λ D. x.does D young (env_of w inner) (sym h.here.number)) y
 
         by : (a : Answer) → Declared L root library dir w t inner.slot r.b w₁ a → BodyStatementCopied root library w L t e id inner R row out place depth w₁ (kept_of a out place)
-        by (Done t₁ v p) x =
-            let la : Later L (n + 1) w t w₁ t₁ = went (declared (n + 1) x tt) refl in
+        by (Ok a') x =
+            let la : Later L (n + 1) w t w₁ a'.st = went (declared (n + 1) x tt) refl in
             end (go (λ I k. ret b) extern_run (declared n x tt) refl) (record {
               body = sym (body_later la n (omega arith) out place);
               rooted = λ z. later_node la (h.rooted z);
               unrecorded = unrecorded_later la n (omega arith) h.unrecorded;
             })
-        by (Refused k i j) x = halt (λ I k. ret b) extern_run (declared n x tt) refl b
+        by (Err x') x = halt (λ I k. ret b) extern_run (declared n x tt) refl b
 
   -- ---- a Route
   module _ (q : r.a ≡ 3) where
@@ -251,7 +251,7 @@ module _ (root library dir w : List ℕ) (L : Limits) (t : Counts) (e : code.Env
         by (suc (suc (suc zero))) q = absurd (n3 q)
         by (suc (suc (suc (suc k)))) q = refl
 
-    pub statement_nothing : BodyStatementCopied root library w L t e id inner R row out place depth w (Done t out place)
+    pub statement_nothing : BodyStatementCopied root library w L t e id inner R row out place depth w (did t out place)
     statement_nothing = end (turn (begin n m so) (λ I. ret b) (λ D. is_nothing (input_of (source_of root library D) L) (at (source_of root library D) w t))) (record { body = refl; rooted = h.rooted; unrecorded = h.unrecorded })
 
 -- ---- `body`: where its loop stands
@@ -275,7 +275,7 @@ module _ (root library dir w : List ℕ) (L : Limits) (t : Counts) (e : code.Env
     abbrev now : Body
     now = body_of w₁ t₁.charges inner.scope out place
 
-    pub body_end : elements Statements (drop p R) ≡ [] → BodyCopied root library w L t e id inner R depth w₁ (Done t₁ out place)
+    pub body_end : elements Statements (drop p R) ≡ [] → BodyCopied root library w L t e id inner R depth w₁ (did t₁ out place)
     unfolding fold_m statements_of
     body_end z = end (turn x.run (λ I. ret now) (λ D. rw z)) (record { body = refl; rooted = x.inside.rooted; unrecorded = x.inside.unrecorded })
 
@@ -292,13 +292,13 @@ module _ (root library dir w : List ℕ) (L : Limits) (t : Counts) (e : code.Env
           subst (λ (E : Env). Yields root library L inner.scope (λ I. body_statement I (copy I depth) (env_of w e) id E now (statement_of (drop q R))) (BodySoFar inner.scope) w₁ t₁ w₂ a) (env_later (since x.run) h.here.env)
           (subst (λ (E : Env). Yields root library L inner.scope (λ I. body_statement I (copy I depth) E id (env_of w₁ inner) now (statement_of (drop q R))) (BodySoFar inner.scope) w₁ t₁ w₂ a) (env_later (since x.run) h.env) y)
 
-      pub body_again : {t₂ : Counts} {v o : ℕ} → a ≡ Done t₂ v o → Bodying root library dir w L t e id inner R depth w₂ t₂ v o (q + 1)
+      pub body_again : {t₂ : Counts} {v o : ℕ} → a ≡ did t₂ v o → Bodying root library dir w L t e id inner R depth w₂ t₂ v o (q + 1)
       body_again {t₂} {v} {o} z = record {
         run = turn (go rest_of next same_env z) (λ I. rest_of I (body_of w₂ t₂.charges inner.scope v o)) (λ D. ap (λ (c : Body). rest_of (input_of (source_of root library D) L) c (at (source_of root library D) w₂ t₂)) (gave same_env z).body);
         inside = inside_next (went same_env z) (gave same_env z) x.inside;
       }
 
-      pub body_stop : {k i j : ℕ} → a ≡ Refused k i j → BodyCopied root library w L t e id inner R depth w₂ a
+      pub body_stop : {x' : Refusal} → a ≡ Err x' → BodyCopied root library w L t e id inner R depth w₂ a
       body_stop z = halt rest_of next same_env z now
 
   -- a row that is passed

@@ -25,12 +25,12 @@ use Rattle.journal_reading.specs.Reading.{fields_at}
 use Rattle.journal_reading.specs.WellFormed.{HandleAt}
 use Rattle.journal_reading.proofs.Chains.{fields_none, fields_fixed}
 use Rattle.refine_records.specs.declared.Limits.{Limits}
+use Rattle.std.specs.declared.result.Result.TheVariants.{Ok, Err}
+use Rattle.refine_records.specs.declared.Refusal.{Refusal}
 use Rattle.refine_records.specs.declared.Counts.{Counts}
 use Rattle.refine_records.specs.declared.Env as code
-use Rattle.refine_records.specs.declared.Answer.{Answer}
-use Rattle.refine_records.specs.declared.Answer.TheVariants.{Done, Refused}
 use Rattle.refine_records.specs.Sound.{input_of, env_of}
-use Rattle.refine_records.specs.Does.{at, IfDone}
+use Rattle.refine_records.specs.Does.{Answer, did, at, IfDone}
 use Rattle.refine_records.specs.Contract.{Keepable, RecordKept}
 use Rattle.refine_records.proofs.Later.{env_later, later_handle}
 use Rattle.refine_records.proofs.Keeping.{kept_handle, kept_fields_lem}
@@ -73,7 +73,7 @@ module _ (root library dir w : List ℕ) (L : Limits) (t : Counts) (e : code.Env
     unfolding node_of fields_of somes
     fields_start = loop_start row (last (begin t.scopes m h.standing.sound)) (fields_none w)
 
-    pub fields_end : {w₁ : List ℕ} {t₁ : Counts} {l p : ℕ} → Fielding w₁ t₁ l p → elements Fields (drop p R) ≡ [] → FieldsCopied root library dir w L t e new row depth w₁ (Done t₁ l 0)
+    pub fields_end : {w₁ : List ℕ} {t₁ : Counts} {l p : ℕ} → Fielding w₁ t₁ l p → elements Fields (drop p R) ≡ [] → FieldsCopied root library dir w L t e new row depth w₁ (did t₁ l 0)
     fields_end x z = end (loop_end z x) (record { handle = x.handle; all = x.all })
 
     module _ {w₁ : List ℕ} {t₁ : Counts} {l p : ℕ} (x : Fielding w₁ t₁ l p) where
@@ -84,10 +84,10 @@ module _ (root library dir w : List ℕ) (L : Limits) (t : Counts) (e : code.Env
         same : Yields root library L t₁.scopes (λ I. each I (field_of (drop q R))) (AddsField (fields_at w₁ l)) w₁ t₁ w₂ a
         same = subst (λ (E : Env). Yields root library L t₁.scopes (λ I. copy_field I (copy I depth E) E new (field_of (drop q R))) (AddsField (fields_at w₁ l)) w₁ t₁ w₂ a) (env_later (since x.run) h.env) y
 
-        pub fields_again : {t₂ : Counts} {v o : ℕ} → a ≡ Done t₂ v o → Fielding w₂ t₂ v (q + 1)
+        pub fields_again : {t₂ : Counts} {v o : ℕ} → a ≡ did t₂ v o → Fielding w₂ t₂ v (q + 1)
         fields_again eq = loop_again s x same (since x.run).scoped somes_last eq
 
-        pub fields_stop : {n i j : ℕ} → a ≡ Refused n i j → FieldsCopied root library dir w L t e new row depth w₂ a
+        pub fields_stop : {x' : Refusal} → a ≡ Err x' → FieldsCopied root library dir w L t e new row depth w₂ a
         fields_stop eq = loop_stop s x same (since x.run).scoped eq []
 
     -- ---- `field`
@@ -111,8 +111,8 @@ module _ (root library dir w : List ℕ) (L : Limits) (t : Counts) (e : code.Env
           rw (is_field q) (leaf {P = AddsField (fields_at w l)} none (λ D. x.does (source_of root library D) t.scopes (copy (input_of (source_of root library D) L) depth (env_of w e))) (by a x.done))
         where
           by : (a : Answer) → IfDone (λ t' v p. FieldsAfter w l bound w' t' v) a → IfDone (λ t' v p. AddsField (fields_at w l) w' t' v p bound) a
-          by (Done t' v p) z = record { handle = z.handle; all = z.list ∙ ap (λ k. fields_at w l ++ k) (somes_one bound) }
-          by (Refused n i j) z = tt
+          by (Ok a') z = record { handle = z.handle; all = z.list ∙ ap (λ k. fields_at w l ++ k) (somes_one bound) }
+          by (Err x') z = tt
 
       -- a value, and the charge
       abbrev made : FieldValue → Option Field
@@ -128,10 +128,10 @@ module _ (root library dir w : List ℕ) (L : Limits) (t : Counts) (e : code.Env
           (λ D. rw (has_value n) (sym (paid_then (input_of (source_of root library D) L) (copied (input_of (source_of root library D) L)) made (at (source_of root library D) w t))))
 
       module _ (n : r.b ≡ 1 → ⊥) {w' : List ℕ} {a : Answer} (y : ValueCopied root library dir w L t e row depth w' a) where
-        pub field_stop : {c i j : ℕ} → a ≡ Refused c i j → FieldAdded root library dir w L t e new row l depth w' a
+        pub field_stop : {x' : Refusal} → a ≡ Err x' → FieldAdded root library dir w L t e new row l depth w' a
         field_stop q = as_field n (keeping_stop h.standing.sound made y q)
 
-        module _ (hl : HandleAt w t.charges tag_field l) {s : Counts} {v p : ℕ} (q : a ≡ Done s v p) where
+        module _ (hl : HandleAt w t.charges tag_field l) {s : Counts} {v p : ℕ} (q : a ≡ did s v p) where
           pub field_ready : Keepable w' s.charges (field_record r.a 0 0 r.d r.e r.f v l)
           field_ready = field_keepable r (later_handle (went y q) hl) (λ z. (gave y q).ids (rw is_front z))
 

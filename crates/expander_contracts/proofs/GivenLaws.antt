@@ -33,12 +33,12 @@ use Rattle.journal_reading.specs.Reading.{values_at}
 use Rattle.journal_reading.specs.WellFormed.{HandleAt}
 use Rattle.journal_reading.proofs.Chains.{values_fixed}
 use Rattle.refine_records.specs.declared.Limits.{Limits}
+use Rattle.std.specs.declared.result.Result.TheVariants.{Ok, Err}
+use Rattle.refine_records.specs.declared.Refusal.{Refusal}
 use Rattle.refine_records.specs.declared.Counts.{Counts}
 use Rattle.refine_records.specs.declared.Env as code
-use Rattle.refine_records.specs.declared.Answer.{Answer}
-use Rattle.refine_records.specs.declared.Answer.TheVariants.{Done, Refused}
 use Rattle.refine_records.specs.Sound.{input_of, Standing, Later, env_of}
-use Rattle.refine_records.specs.Does.{at, IfDone}
+use Rattle.refine_records.specs.Does.{Answer, did, at, IfDone}
 use Rattle.refine_records.specs.Contract.{Storable, StoredAt, ValueKept, OpenedAt, ScopeOpened}
 use Rattle.refine_records.proofs.Later.{later_standing, later_handle}
 use Rattle.refine_records.proofs.Opening.{open_env, env_open}
@@ -71,10 +71,10 @@ module _ {root library dir w : List ℕ} {L : Limits} {t : Counts} {e : code.Env
   storing u = charged (λ I. value I (copy I depth (env_of w e)) (value_of (drop row R))) (put name (values_at u h))
 
   module _ {w' : List ℕ} {a : Answer} (y : ValueCopied root library dir w L t e row depth w' a) where
-    stored_stop : (u : List ℕ) {c i j : ℕ} → a ≡ Refused c i j → Yields root library L t.scopes (storing u) StoredValues w t w' a
+    stored_stop : (u : List ℕ) {x' : Refusal} → a ≡ Err x' → Yields root library L t.scopes (storing u) StoredValues w t w' a
     stored_stop u q = keeping_stop here.standing.sound (put name (values_at u h)) y q
 
-    module _ (hl : HandleAt w t.charges tag_stored h) {s : Counts} {v p : ℕ} (q : a ≡ Done s v p) where
+    module _ (hl : HandleAt w t.charges tag_stored h) {s : Counts} {v p : ℕ} (q : a ≡ did s v p) where
       stored_ready : Storable w' s.charges r.f v h
       stored_ready = record { before = later_handle (went y q) hl; value = λ z. (gave y q).ids (rw is_front z) }
 
@@ -146,8 +146,8 @@ module _ (root library dir w : List ℕ) (L : Limits) (t : Counts) (e : code.Env
         (λ D. sym (by_rows (input_of (source_of root library D) L) (at (source_of root library D) w t) ∙ rw (eq, is_bound b, (some_is has).1)))
       where
         by : (a : Answer) → IfDone (λ t' v p. HandleAt w' t'.charges tag_stored v) a → IfDone (λ t' v p. StoredValues w' t' v p (values_at w' v)) a
-        by (Done t' v p) z = record { handle = z; all = refl }
-        by (Refused n i j) z = tt
+        by (Ok a') z = record { handle = z; all = refl }
+        by (Err x') z = tt
 
     as_given : (r.b ≡ 1 → ⊥) → {w' : List ℕ} {a : Answer} → Yields root library L t.scopes (storing f depth d.c h here r ir w) StoredValues w t w' a → ValueStored root library dir w L t e row slot proto q k h depth w' a
     unfolding interface_value
@@ -158,10 +158,10 @@ module _ (root library dir w : List ℕ) (L : Limits) (t : Counts) (e : code.Env
         sym (by_rows I (at (source_of root library D) w t) ∙ rw (eq, has_value b) (store_some I d.c (values_at w h) (value I (copy I depth (env_of w e)) (value_of (drop f F)) (at (source_of root library D) w t)))))
 
     module _ (b : r.b ≡ 1 → ⊥) {w' : List ℕ} {a : Answer} (y : ValueCopied root library dir w L t e f depth w' a) where
-      pub given_stop : {c i j : ℕ} → a ≡ Refused c i j → ValueStored root library dir w L t e row slot proto q k h depth w' a
+      pub given_stop : {x' : Refusal} → a ≡ Err x' → ValueStored root library dir w L t e row slot proto q k h depth w' a
       given_stop z = as_given b (stored_stop f depth d.c h here r ir y w z)
 
-      module _ (hl : HandleAt w t.charges tag_stored h) {s : Counts} {v p : ℕ} (z : a ≡ Done s v p) where
+      module _ (hl : HandleAt w t.charges tag_stored h) {s : Counts} {v p : ℕ} (z : a ≡ did s v p) where
         pub given_ready : Standing L w' s × Storable w' s.charges r.f v h
         given_ready = (later_standing (went y z) here.standing, stored_ready f depth d.c h here r ir y hl z)
 
@@ -180,7 +180,7 @@ module _ (root library dir w : List ℕ) (L : Limits) (t : Counts) (e : code.Env
   ungiven_default (unset eq r ir b has) I default st = rw (eq, is_bound eq r ir b, none_is has)
 
   -- no field gives a value, and no default
-  pub given_none : Ungiven → d.f ≡ 0 → HandleAt w t.charges tag_stored h → ValueStored root library dir w L t e row slot proto q k h depth w (Done t h 0)
+  pub given_none : Ungiven → d.f ≡ 0 → HandleAt w t.charges tag_stored h → ValueStored root library dir w L t e row slot proto q k h depth w (did t h 0)
   unfolding take_default store bind_r
   given_none u z hl =
       end
@@ -208,13 +208,13 @@ module _ (root library dir w : List ℕ) (L : Limits) (t : Counts) (e : code.Env
       opened = leaf 0 (λ D. (rw ed at o).does (source_of root library D) t.scopes) (by a)
         where
           by : (a : Answer) → IfDone (λ t' v p. Is w₁ t' v p v) a
-          by (Done t' v p) = record { value = refl }
-          by (Refused n i j) = tt
+          by (Ok a') = record { value = refl }
+          by (Err x') = tt
 
-      pub default_stop : {c i j : ℕ} → a ≡ Refused c i j → ValueStored root library dir w L t e row slot proto q k h depth w₁ a
+      pub default_stop : {x' : Refusal} → a ≡ Err x' → ValueStored root library dir w L t e row slot proto q k h depth w₁ a
       default_stop c = halt (λ I n. in_scope n I) opens opened c []
 
-      module _ {t₁ : Counts} {n p : ℕ} (ok : a ≡ Done t₁ n p) {place : ℕ} (ep : place ≡ p) (sl : Slot dir slot) where
+      module _ {t₁ : Counts} {n p : ℕ} (ok : a ≡ did t₁ n p) {place : ℕ} (ep : place ≡ p) (sl : Slot dir slot) where
         abbrev inner : code.Env
         inner = default_env n place slot
 
@@ -245,10 +245,10 @@ module _ (root library dir w : List ℕ) (L : Limits) (t : Counts) (e : code.Env
             (rw (gave opened ok).value (yields_young y.scoped (subst (λ (E : Env). Yields root library L t₁.scopes (charged (λ I. value I (copy I depth E) (value_of (drop q Q))) (put d.c (values_at w h))) StoredValues w₁ t₁ w' b) is_env v)))
 
         module _ {w' : List ℕ} {b : Answer} (v : ValueCopied root library dir w₁ L t₁ inner q depth w' b) where
-          pub default_value_stop : {c i j : ℕ} → b ≡ Refused c i j → ValueStored root library dir w L t e row slot proto q k h depth w' b
+          pub default_value_stop : {x' : Refusal} → b ≡ Err x' → ValueStored root library dir w L t e row slot proto q k h depth w' b
           default_value_stop c = as_default (stored_stop q depth d.c h default_here d is v w c)
 
-          module _ (hl : HandleAt w t.charges tag_stored h) {s : Counts} {g p' : ℕ} (said : b ≡ Done s g p') where
+          module _ (hl : HandleAt w t.charges tag_stored h) {s : Counts} {g p' : ℕ} (said : b ≡ did s g p') where
             pub default_ready : Standing L w' s × Storable w' s.charges d.f g h
             default_ready = (later_standing (went v said) default_here.standing, stored_ready q depth d.c h default_here d is v (later_handle y hl) said)
 

@@ -30,12 +30,13 @@ use Rattle.expansion_definition.specs.Copy.{copy}
 use Rattle.journal_reading.specs.Reading.{values_at, body_of}
 use Rattle.journal_reading.specs.WellFormed.{NodeAt}
 use Rattle.refine_records.specs.declared.Limits.{Limits}
+use Rattle.std.specs.declared.result.Result.TheVariants.{Ok, Err}
+use Rattle.refine_records.specs.declared.Refusal.{Refusal}
+use Rattle.refine_records.specs.declared.Refusal.TheVariants.{NoRoot, DanglingProto}
 use Rattle.refine_records.specs.declared.Counts.{Counts}
 use Rattle.refine_records.specs.declared.Env as code
-use Rattle.refine_records.specs.declared.Answer.{Answer}
-use Rattle.refine_records.specs.declared.Answer.TheVariants.{Done, Refused}
 use Rattle.refine_records.specs.Sound.{input_of, Standing, Later, env_of}
-use Rattle.refine_records.specs.Does.{number, at, IfDone}
+use Rattle.refine_records.specs.Does.{Answer, did, number, at, IfDone}
 use Rattle.refine_records.specs.Contract.{OpenedAt, ScopeOpened}
 use Rattle.refine_records.proofs.Later.{env_later, later_node, later_standing}
 use Rattle.refine_records.proofs.Opening.{open_env, env_open, body_open, unrecorded_open}
@@ -65,9 +66,9 @@ module _ (root library dir w : List ℕ) (L : Limits) (t : Counts) (e : code.Env
   unfolding root_and_files
   says D = lo.is
 
-  pub instance_6 : {d : ℕ} → x ≡ Nothing → d ≡ number_of dir slot → Instantiated root library dir w L t e id row slot proto depth w (Refused 6 d proto)
+  pub instance_6 : {d : ℕ} → x ≡ Nothing → d ≡ number_of dir slot → Instantiated root library dir w L t e id row slot proto depth w (Err (DanglingProto d proto))
   unfolding instantiate
-  instance_6 lacks ed = rw ed (refuse (turn (begin t.scopes m h.standing.sound) (λ I. fail 6 (number_of dir slot) proto) (λ D. rw (says D, lacks))) 0)
+  instance_6 lacks ed = rw ed (refuse (DanglingProto (number_of dir slot) proto) (turn (begin t.scopes m h.standing.sound) (λ I. fail 6 (number_of dir slot) proto) (λ D. rw (says D, lacks))) 0)
 
   module _ {decl : ℕ} (there : x ≡ At decl) where
     pub proto_row : AtRow root library dir slot decl
@@ -92,10 +93,10 @@ module _ (root library dir w : List ℕ) (L : Limits) (t : Counts) (e : code.Env
 
     -- ---- the values
     module _ {w₁ : List ℕ} {a₁ : Answer} (y₁ : ValuesStored root library dir w L t e row slot proto decl depth w₁ a₁) where
-      pub instance_values : {n i j : ℕ} → a₁ ≡ Refused n i j → Instantiated root library dir w L t e id row slot proto depth w₁ a₁
+      pub instance_values : {x' : Refusal} → a₁ ≡ Err x' → Instantiated root library dir w L t e id row slot proto depth w₁ a₁
       instance_values z = halt valued run y₁ z 0
 
-      module _ {s : Counts} {vs p₁ : ℕ} (z₁ : a₁ ≡ Done s vs p₁) where
+      module _ {s : Counts} {vs p₁ : ℕ} (z₁ : a₁ ≡ did s vs p₁) where
         pub values_here : Here root library dir w₁ L s e
         values_here = here_later (went y₁ z₁) h
 
@@ -104,10 +105,10 @@ module _ (root library dir w : List ℕ) (L : Limits) (t : Counts) (e : code.Env
           opens : Yields root library L t.scopes (λ I. open_scope I (Scope.Body pick e.scope)) (λ u s₂ v p n. OpenedAt w₁ s 1 d proto 0 e.scope u s₂ n p) w₁ s w₂ a₂
           opens = leaf {d = number} 0 (λ D. rw (← ed) (y₂.does (source_of root library D) t.scopes)) y₂.done
 
-          pub instance_open : {n i j : ℕ} → a₂ ≡ Refused n i j → Instantiated root library dir w L t e id row slot proto depth w₂ a₂
+          pub instance_open : {x' : Refusal} → a₂ ≡ Err x' → Instantiated root library dir w L t e id row slot proto depth w₂ a₂
           instance_open z = halt (λ I. opened I y₁.given) (go valued run y₁ z₁) opens z 0
 
-          module _ {s₂ : Counts} {n p₂ : ℕ} (z₂ : a₂ ≡ Done s₂ n p₂) (place₂ : ℕ) (ep : place₂ ≡ p₂) where
+          module _ {s₂ : Counts} {n p₂ : ℕ} (z₂ : a₂ ≡ did s₂ n p₂) (place₂ : ℕ) (ep : place₂ ≡ p₂) where
             abbrev inner : code.Env
             inner = record { scope = n; place = place₂; slot = slot; body = true; values = vs }
 
@@ -160,19 +161,19 @@ module _ (root library dir w : List ℕ) (L : Limits) (t : Counts) (e : code.Env
                   yields_young (omega (arith, new.value, (went y₁ z₁).scoped))
                   (subst (λ (l : List Statement). Yields root library L n (λ I. fold_m (body_statement I (copy I depth) (env_of w₂ e) id (env_of w₂ inner)) (body_of w₂ s₂.charges n 0 0) l) (BodySoFar n) w₂ s₂ w₃ a₃) same y₃)
 
-              pub instance_body : {k i j : ℕ} → a₃ ≡ Refused k i j → Instantiated root library dir w L t e id row slot proto depth w₃ a₃
+              pub instance_body : {x' : Refusal} → a₃ ≡ Err x' → Instantiated root library dir w L t e id row slot proto depth w₃ a₃
               instance_body z = halt (λ I. recording I n) bodies body_young z 0
 
-              module _ {u : Counts} {out place : ℕ} (z₃ : a₃ ≡ Done u out place) where
+              module _ {u : Counts} {out place : ℕ} (z₃ : a₃ ≡ did u out place) where
                 abbrev gives : Body
                 gives = body_of w₃ u.charges n out place
 
                 records : Run root library L t.scopes m w t (λ I. recording I n gives) w₃ u
                 records = turn (go (λ I. recording I n) bodies body_young z₃) (λ I. recording I n gives) (λ D. ap (λ (b : Body). recording (input_of (source_of root library D) L) n b (at (source_of root library D) w₃ u)) (gave body_young z₃).body)
 
-                pub instance_7 : place ≡ 0 → Instantiated root library dir w L t e id row slot proto depth w₃ (Refused 7 d proto)
+                pub instance_7 : place ≡ 0 → Instantiated root library dir w L t e id row slot proto depth w₃ (Err (NoRoot d proto))
                 unfolding root_of bind_r
-                instance_7 z = rw ed (refuse (turn records (λ I. fail 7 (number_of dir slot) proto) (λ D. rw (eq-eqb place 0 z))) 0)
+                instance_7 z = rw ed (refuse (NoRoot (number_of dir slot) proto) (turn records (λ I. fail 7 (number_of dir slot) proto) (λ D. rw (eq-eqb place 0 z))) 0)
 
                 -- ---- the record
                 module _ (ne : place ≡ 0 → ⊥) where
@@ -204,5 +205,5 @@ module _ (root library dir w : List ℕ) (L : Limits) (t : Counts) (e : code.Env
                         old = omega (arith, new.value, (went y₁ z₁).scoped)
 
                         by : (a : Answer) → Recorded L w₃ u inner rn.a rd.b out place w₄ a → IfDone (λ t₄ v p. Placed w₄ t₄ v p v) a
-                        by (Done t₄ v p) y = record { value = refl; node = rw (y.done.value, y.done.node) (later_node (y.does (source_of root library 0) t.scopes old).later root_node) }
-                        by (Refused k i j) y = tt
+                        by (Ok a') y = record { value = refl; node = rw (y.done.value, y.done.node) (later_node (y.does (source_of root library 0) t.scopes old).later root_node) }
+                        by (Err x') y = tt

@@ -28,12 +28,12 @@ use Rattle.journal_reading.specs.Reading.{interfaces_at}
 use Rattle.journal_reading.specs.WellFormed.{HandleAt}
 use Rattle.journal_reading.proofs.Chains.{interfaces_none, interfaces_fixed}
 use Rattle.refine_records.specs.declared.Limits.{Limits}
+use Rattle.std.specs.declared.result.Result.TheVariants.{Ok, Err}
+use Rattle.refine_records.specs.declared.Refusal.{Refusal}
 use Rattle.refine_records.specs.declared.Counts.{Counts}
 use Rattle.refine_records.specs.declared.Env as code
-use Rattle.refine_records.specs.declared.Answer.{Answer}
-use Rattle.refine_records.specs.declared.Answer.TheVariants.{Done, Refused}
 use Rattle.refine_records.specs.Sound.{input_of, env_of}
-use Rattle.refine_records.specs.Does.{at, IfDone}
+use Rattle.refine_records.specs.Does.{Answer, did, at, IfDone}
 use Rattle.refine_records.specs.Contract.{Keepable, RecordKept}
 use Rattle.refine_records.proofs.Later.{env_later, later_handle}
 use Rattle.refine_records.proofs.Keeping.{kept_handle, kept_interfaces}
@@ -70,7 +70,7 @@ module _ (root library dir w : List ℕ) (L : Limits) (t : Counts) (e : code.Env
     unfolding node_of interfaces_of
     interfaces_start = loop_start row (last (begin t.scopes m h.standing.sound)) (interfaces_none w)
 
-    pub interfaces_end : {w₁ : List ℕ} {t₁ : Counts} {l p : ℕ} → Interfacing w₁ t₁ l p → elements Interfaces (drop p R) ≡ [] → InterfacesCopied root library dir w L t e new row depth w₁ (Done t₁ l 0)
+    pub interfaces_end : {w₁ : List ℕ} {t₁ : Counts} {l p : ℕ} → Interfacing w₁ t₁ l p → elements Interfaces (drop p R) ≡ [] → InterfacesCopied root library dir w L t e new row depth w₁ (did t₁ l 0)
     interfaces_end x z = end (loop_end z x) (record { handle = x.handle; all = x.all })
 
     -- rows that are passed
@@ -85,10 +85,10 @@ module _ (root library dir w : List ℕ) (L : Limits) (t : Counts) (e : code.Env
         same : Yields root library L t₁.scopes (λ I. each I (interface_of (drop q R))) (AddsInterface (interfaces_at w₁ l)) w₁ t₁ w₂ a
         same = subst (λ (E : Env). Yields root library L t₁.scopes (λ I. copy_interface I (copy I depth E) E new (interface_of (drop q R))) (AddsInterface (interfaces_at w₁ l)) w₁ t₁ w₂ a) (env_later (since x.run) h.env) y
 
-        pub interfaces_again : {t₂ : Counts} {v o : ℕ} → a ≡ Done t₂ v o → Interfacing w₂ t₂ v (q + 1)
+        pub interfaces_again : {t₂ : Counts} {v o : ℕ} → a ≡ did t₂ v o → Interfacing w₂ t₂ v (q + 1)
         interfaces_again eq = loop_again s x same (since x.run).scoped (λ bs b. refl) eq
 
-        pub interfaces_stop : {n i j : ℕ} → a ≡ Refused n i j → InterfacesCopied root library dir w L t e new row depth w₂ a
+        pub interfaces_stop : {x' : Refusal} → a ≡ Err x' → InterfacesCopied root library dir w L t e new row depth w₂ a
         interfaces_stop eq = loop_stop s x same (since x.run).scoped eq []
 
     -- ---- `interface`
@@ -112,8 +112,8 @@ module _ (root library dir w : List ℕ) (L : Limits) (t : Counts) (e : code.Env
           rw (is_interface_lem n) (leaf {P = AddsInterface (interfaces_at w l)} bound (λ D. x.does (source_of root library D) t.scopes (copy (input_of (source_of root library D) L) depth (env_of w e)) own) (by a x.done))
         where
           by : (a : Answer) → IfDone (λ t' v p. InterfacesAfter w l bound w' t' v) a → IfDone (λ t' v p. AddsInterface (interfaces_at w l) w' t' v p bound) a
-          by (Done t' v p) z = record { handle = z.handle; all = z.list }
-          by (Refused n i j) z = tt
+          by (Ok a') z = record { handle = z.handle; all = z.list }
+          by (Err x') z = tt
 
       -- a value, if it has one, and the charge
       abbrev made : FieldValue → InterfaceDecl
@@ -144,10 +144,10 @@ module _ (root library dir w : List ℕ) (L : Limits) (t : Counts) (e : code.Env
       as_interface q y = yields_as y (λ I. each I (interface_of (drop row R))) (λ D. as_copied q (input_of (source_of root library D) L) (at (source_of root library D) w t))
 
       module _ (n : r.d ≡ none#) {w' : List ℕ} {a : Answer} (y : ValueCopied root library dir w L t e row depth w' a) where
-        pub interface_stop : {c i j : ℕ} → a ≡ Refused c i j → InterfaceAdded root library dir w L t e new row l depth w' a
+        pub interface_stop : {x' : Refusal} → a ≡ Err x' → InterfaceAdded root library dir w L t e new row l depth w' a
         interface_stop q = as_interface n (keeping_stop h.standing.sound made y q)
 
-        module _ (hl : HandleAt w t.charges tag_interface l) {s : Counts} {v p : ℕ} (q : a ≡ Done s v p) where
+        module _ (hl : HandleAt w t.charges tag_interface l) {s : Counts} {v p : ℕ} (q : a ≡ did s v p) where
           pub interface_ready : Keepable w' s.charges (interface_record r.a r.b r.c none# r.e r.f v l)
           interface_ready = interface_keepable r (later_handle (went y q) hl) (λ z. (gave y q).ids (rw is_front z))
 

@@ -7,9 +7,10 @@ use Rattle.expansion_definition.specs.State.{State, Result, refusal, ok, Comp, b
 use Rattle.expansion_definition.specs.Charges.{charge, paid}
 use Rattle.journal_records.specs.declared.Record.{Record}
 use Rattle.refine_records.specs.declared.Limits.{Limits}
+use Rattle.refine_records.specs.Does.{Answer, did}
+use Rattle.std.specs.declared.result.Result.TheVariants.{Ok, Err}
+use Rattle.refine_records.specs.declared.Refusal.{Refusal}
 use Rattle.refine_records.specs.declared.Counts.{Counts}
-use Rattle.refine_records.specs.declared.Answer.{Answer}
-use Rattle.refine_records.specs.declared.Answer.TheVariants.{Done, Refused}
 use Rattle.refine_records.specs.Sound.{JournalSound}
 use Rattle.refine_records.specs.Contract.{KeptAt, RecordKept, StoredAt, ValueKept}
 use Rattle.expander_parts.specs.Contract.{source_of}
@@ -41,18 +42,18 @@ pub stored_yields : {root library : List ℕ} {L : Limits} (young : ℕ) {w : Li
 stored_yields {root} {library} young k = leaf tt (λ D. k.does (source_of root library D) young) k.done
 
 module _ {root library : List ℕ} {L : Limits} {young : ℕ} {A C : Type 0} {n : Input → Comp A} {P : List ℕ → Counts → ℕ → ℕ → A → Type 0} {w : List ℕ} {t : Counts} {w' : List ℕ} {a : Answer} (so : JournalSound L w t) (u : A → C) {Q : List ℕ → Counts → ℕ → ℕ → C → Type 0} (y : Yields root library L young n P w t w' a) where
-  pub charging : {s : Counts} {v p : ℕ} {K : List ℕ → Counts → ℕ → Type 0} {w'' : List ℕ} {b : Answer} → a ≡ Done s v p → Yields root library L young charge (λ u s v p z. K u s v) w' s w'' b → ((t'' : Counts) (h p'' : ℕ) → K w'' t'' h → Q w'' t'' h p'' (u y.given)) → Yields root library L young (charged n u) Q w t w'' b
+  pub charging : {s : Counts} {v p : ℕ} {K : List ℕ → Counts → ℕ → Type 0} {w'' : List ℕ} {b : Answer} → a ≡ did s v p → Yields root library L young charge (λ u s v p z. K u s v) w' s w'' b → ((t'' : Counts) (h p'' : ℕ) → K w'' t'' h → Q w'' t'' h p'' (u y.given)) → Yields root library L young (charged n u) Q w t w'' b
   charging {s} {v} {p} {K} {w''} {b} e k q = by b k
     where
       run : Run root library L young (charged n u) w t (λ I. charge I >>= (λ z. ret (u y.given))) w' s
       run = go (λ I x. charge I >>= (λ z. ret (u x))) (begin young (charged n u) so) y e
 
       by : (b : Answer) → Yields root library L young charge (λ u s v p z. K u s v) w' s w'' b → Yields root library L young (charged n u) Q w t w'' b
-      by (Done t'' h o) k = end (go (λ I z. ret (u y.given)) run k refl) (q t'' h o (gave k refl))
-      by (Refused c i j) k = halt (λ I z. ret (u y.given)) run k refl (u y.given)
+      by (Ok a') k = end (go (λ I z. ret (u y.given)) run k refl) (q a'.st a'.value a'.place (gave k refl))
+      by (Err x') k = halt (λ I z. ret (u y.given)) run k refl (u y.given)
 
-  pub keeping : {s : Counts} {v p : ℕ} {r : Record} {w'' : List ℕ} {b : Answer} → a ≡ Done s v p → RecordKept L w' s r w'' b → ((t'' : Counts) (h p'' : ℕ) → KeptAt w' s r w'' t'' h → Q w'' t'' h p'' (u y.given)) → Yields root library L young (charged n u) Q w t w'' b
+  pub keeping : {s : Counts} {v p : ℕ} {r : Record} {w'' : List ℕ} {b : Answer} → a ≡ did s v p → RecordKept L w' s r w'' b → ((t'' : Counts) (h p'' : ℕ) → KeptAt w' s r w'' t'' h → Q w'' t'' h p'' (u y.given)) → Yields root library L young (charged n u) Q w t w'' b
   keeping {s} {v} {p} {r} e k q = charging {K = λ u t'' h. KeptAt w' s r u t'' h} e (kept_yields young k) q
 
-  pub keeping_stop : {c i j : ℕ} → a ≡ Refused c i j → Yields root library L young (charged n u) Q w t w' a
+  pub keeping_stop : {x' : Refusal} → a ≡ Err x' → Yields root library L young (charged n u) Q w t w' a
   keeping_stop e = halt (λ I x. charge I >>= (λ z. ret (u x))) (begin young (charged n u) so) y e (u y.given)

@@ -17,12 +17,11 @@ use Rattle.expansion_definition.specs.Values.{Env}
 use Rattle.expansion_definition.specs.Externs.{extern_proto}
 use Rattle.expansion_definition.specs.PlainCopy.{copy_origin}
 use Rattle.refine_records.specs.declared.Limits.{Limits}
+use Rattle.std.specs.declared.result.Result.TheVariants.{Ok, Err}
 use Rattle.refine_records.specs.declared.Counts.{Counts}
 use Rattle.refine_records.specs.declared.Env as code
-use Rattle.refine_records.specs.declared.Answer.{Answer}
-use Rattle.refine_records.specs.declared.Answer.TheVariants.{Done, Refused}
 use Rattle.refine_records.specs.Sound.{input_of, env_of}
-use Rattle.refine_records.specs.Does.{at, IfDone}
+use Rattle.refine_records.specs.Does.{Answer, did, at, IfDone}
 use Rattle.expander_parts.specs.Contract.{source_of, rows_of, Declared}
 use Rattle.expander_contracts.specs.Contract.{Here, Yields, Is, OriginCopied}
 use Rattle.expander_contracts.proofs.Run.{Run, begin, turn, end, go, halt, leaf, gave}
@@ -49,17 +48,17 @@ module _ (root library dir w : List ℕ) (L : Limits) (t : Counts) (e : code.Env
       run = turn (begin t.scopes m h.standing.sound) (λ I. extern_proto I (env_of w e) r.d >>= (λ n. ret (NodeOrigin.ExternProto n))) (λ D. rw (is_front, q))
 
       is_done : (b : Answer) → IfDone (λ t' v p. Is w' t' v p v) b
-      is_done (Done t' v p) = record { value = refl }
-      is_done (Refused c i j) = tt
+      is_done (Ok a') = record { value = refl }
+      is_done (Err x') = tt
 
       y : Yields root library L t.scopes (λ I. extern_proto I (env_of w e) r.d) Is w t w' a
       y = leaf 0 (λ D. x.does D t.scopes (env_of w e) (sym h.number)) (is_done a)
 
       by : (b : Answer) → a ≡ b → OriginCopied root library dir w L t e row w' a
-      by (Done t' v p) z = rw z (end (go (λ I n. ret (NodeOrigin.ExternProto n)) run y z) (record { value = rw (is_front, q, (gave y z).value) }))
-      by (Refused c i j) z = halt (λ I n. ret (NodeOrigin.ExternProto n)) run y z NodeOrigin.Builtin
+      by (Ok a') z = rw z (end (go (λ I n. ret (NodeOrigin.ExternProto n)) run y z) (record { value = rw (is_front, q, (gave y z).value) }))
+      by (Err x') z = halt (λ I n. ret (NodeOrigin.ExternProto n)) run y z NodeOrigin.Builtin
 
-  pub origin_other : (r.c ≡ 2 → ⊥) → {v : ℕ} → v ≡ r.d → OriginCopied root library dir w L t e row w (Done t v 0)
+  pub origin_other : (r.c ≡ 2 → ⊥) → {v : ℕ} → v ≡ r.d → OriginCopied root library dir w L t e row w (did t v 0)
   unfolding copy_origin origin_of
   origin_other n {v} ev = end (turn (begin t.scopes m h.standing.sound) (λ I. ret (origin_of (drop row R))) (λ D. rw is_front (by r.c n (input_of (source_of root library D) L) (at (source_of root library D) w t)))) (record { value = rw (is_front, ev) })
     where

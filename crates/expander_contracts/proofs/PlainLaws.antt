@@ -24,12 +24,12 @@ use Rattle.journal_reading.specs.WellFormed.{HandleAt, NodeAt}
 use Rattle.journal_reading.proofs.Chains.{fields_fixed, interfaces_fixed, statements_fixed}
 use Rattle.journal_reading.proofs.Nodes.{node_blank}
 use Rattle.refine_records.specs.declared.Limits.{Limits}
+use Rattle.std.specs.declared.result.Result.TheVariants.{Err}
+use Rattle.refine_records.specs.declared.Refusal.{Refusal}
 use Rattle.refine_records.specs.declared.Counts.{Counts}
 use Rattle.refine_records.specs.declared.Env as code
-use Rattle.refine_records.specs.declared.Answer.{Answer}
-use Rattle.refine_records.specs.declared.Answer.TheVariants.{Done, Refused}
 use Rattle.refine_records.specs.Sound.{input_of, Later, env_of}
-use Rattle.refine_records.specs.Does.{Decode, number, at, Does}
+use Rattle.refine_records.specs.Does.{Answer, did, Decode, number, at, Does}
 use Rattle.refine_records.specs.Contract.{Reserved, ReservedAt, contents_of, Fillable}
 use Rattle.refine_records.proofs.Later.{later_trans, later_handle, later_node, env_later}
 use Rattle.refine_nodes.proofs.Filling.{fill_later, fill_does}
@@ -89,14 +89,14 @@ module _ {M : Type 0} {root library : List ℕ} {L : Limits} {young : ℕ} {m : 
   inner n g k r = record { doing = λ D. let I : Input = input_of (source_of root library D) L in calculus.inner (n I) (g I) (k I) (r.doing D) }
 
   module _ {A : Type 0} (n : Input → Comp A) (k : Input → A → Comp M) {d : Decode A} {w' : List ℕ} {a : Answer} (r : Run root library L young m w₀ t₀ (λ I. n I >>= k I) w t) (x : (D : ℕ) → Does (source_of root library D) L young d (n (input_of (source_of root library D) L)) w t w' a) where
-    pass : {t' : Counts} {v p : ℕ} → a ≡ Done t' v p → Run root library L young m w₀ t₀ (λ I. k I (d w' v p)) w' t'
+    pass : {t' : Counts} {v p : ℕ} → a ≡ did t' v p → Run root library L young m w₀ t₀ (λ I. k I (d w' v p)) w' t'
     pass e = record { doing = λ D. calculus.step (k (input_of (source_of root library D) L)) (r.doing D) (x D) e }
 
-    bar : {i j q : ℕ} {Q : List ℕ → Counts → ℕ → ℕ → M → Type 0} → a ≡ Refused q i j → (b : M) → Yields root library L young m Q w₀ t₀ w' a
+    bar : {x' : Refusal} {Q : List ℕ → Counts → ℕ → ℕ → M → Type 0} → a ≡ Err x' → (b : M) → Yields root library L young m Q w₀ t₀ w' a
     bar e b = record { given = b; does = λ D. calculus.stop (k (input_of (source_of root library D) L)) (r.doing D) (x D) e (λ u v p. b); done = rw e tt }
 
 -- what a step gave is what its piece gives
-gives : {B : Type 0} {root library : List ℕ} {L : Limits} {young : ℕ} {n : Input → Comp B} {P : List ℕ → Counts → ℕ → ℕ → B → Type 0} {w : List ℕ} {t : Counts} {w' : List ℕ} {a : Answer} (y : Yields root library L young n P w t w' a) {t' : Counts} {v p : ℕ} → a ≡ Done t' v p → (D : ℕ) → ok y.given (at (source_of root library D) w' t') ≡ n (input_of (source_of root library D) L) (at (source_of root library D) w t)
+gives : {B : Type 0} {root library : List ℕ} {L : Limits} {young : ℕ} {n : Input → Comp B} {P : List ℕ → Counts → ℕ → ℕ → B → Type 0} {w : List ℕ} {t : Counts} {w' : List ℕ} {a : Answer} (y : Yields root library L young n P w t w' a) {t' : Counts} {v p : ℕ} → a ≡ did t' v p → (D : ℕ) → ok y.given (at (source_of root library D) w' t') ≡ n (input_of (source_of root library D) L) (at (source_of root library D) w t)
 gives y e D = rw e at (y.does D).same
 
 -- charges for a list, and then the list
@@ -156,10 +156,10 @@ module _ (root library dir w : List ℕ) (L : Limits) (t : Counts) (e : code.Env
 
   -- ---- reserved
   module _ {w₁ : List ℕ} {a₁ : Answer} (x₁ : Reserved L w t e id w₁ a₁) where
-    pub plain_stop_1 : {n i j : ℕ} → a₁ ≡ Refused n i j → PlainNodeCopied root library dir w L t e id row depth w₁ a₁
+    pub plain_stop_1 : {x' : Refusal} → a₁ ≡ Err x' → PlainNodeCopied root library dir w L t e id row depth w₁ a₁
     plain_stop_1 q = bar (λ I. reserve I E id) (λ I new. then_origin I new >>= filled new) run_0 (λ D. x₁.does (source_of root library D) t.scopes) q 0
 
-    module _ {t₁ : Counts} {new place : ℕ} (q₁ : a₁ ≡ Done t₁ new place) where
+    module _ {t₁ : Counts} {new place : ℕ} (q₁ : a₁ ≡ did t₁ new place) where
       run_1 : Left (λ I. copy_origin I E node.origin >>= (λ o. then_fields I new o >>= filled new)) w₁ t₁
       run_1 = inner (λ I. copy_origin I E node.origin) (λ I. then_fields I new) (λ I. filled new) (pass (λ I. reserve I E id) (λ I new. then_origin I new >>= filled new) run_0 (λ D. x₁.does (source_of root library D) t.scopes) q₁)
 
@@ -175,10 +175,10 @@ module _ (root library dir w : List ℕ) (L : Limits) (t : Counts) (e : code.Env
         unfolding node_of
         origin = yields_young (since run_1).scoped (subst (λ (F : Env). Yields root library L t₁.scopes (λ I. copy_origin I F (origin_of (drop row R))) (Origin (front (drop row R)).c) w₁ t₁ w₂ a₂) (env_later (since run_1) h.env) x₂)
 
-        pub plain_stop_2 : {n i j : ℕ} → a₂ ≡ Refused n i j → PlainNodeCopied root library dir w L t e id row depth w₂ a₂
+        pub plain_stop_2 : {x' : Refusal} → a₂ ≡ Err x' → PlainNodeCopied root library dir w L t e id row depth w₂ a₂
         plain_stop_2 q = halt (λ I o. then_fields I new o >>= filled new) run_1 origin q 0
 
-        module _ {t₂ : Counts} {from p₂ : ℕ} (q₂ : a₂ ≡ Done t₂ from p₂) where
+        module _ {t₂ : Counts} {from p₂ : ℕ} (q₂ : a₂ ≡ did t₂ from p₂) where
           abbrev o : NodeOrigin
           o = origin.given
 
@@ -193,10 +193,10 @@ module _ (root library dir w : List ℕ) (L : Limits) (t : Counts) (e : code.Env
             fields : Yields root library L t.scopes (λ I. map_m (copy_field I (copy I depth E) E new) node.fields) Fields w₂ t₂ w₃ a₃
             fields = yields_young (since run_2).scoped (subst (λ (F : Env). Yields root library L t₂.scopes (λ I. map_m (copy_field I (copy I depth F) F new) node.fields) Fields w₂ t₂ w₃ a₃) (env_later (since run_2) h.env) x₃)
 
-            pub plain_stop_3 : {n i j : ℕ} → a₃ ≡ Refused n i j → PlainNodeCopied root library dir w L t e id row depth w₃ a₃
+            pub plain_stop_3 : {x' : Refusal} → a₃ ≡ Err x' → PlainNodeCopied root library dir w L t e id row depth w₃ a₃
             plain_stop_3 q = halt (λ I fs. then_interfaces I new o fs >>= filled new) run_2 fields q 0
 
-            module _ {t₃ : Counts} {f p₃ : ℕ} (q₃ : a₃ ≡ Done t₃ f p₃) where
+            module _ {t₃ : Counts} {f p₃ : ℕ} (q₃ : a₃ ≡ did t₃ f p₃) where
               abbrev fs : List (Option Field)
               fs = fields.given
 
@@ -216,10 +216,10 @@ module _ (root library dir w : List ℕ) (L : Limits) (t : Counts) (e : code.Env
                 interfaces : Yields root library L t.scopes (λ I. map_m (copy_interface I (copy I depth E) E new) node.interface) Interfaces w₃ t₃ w₄ a₄
                 interfaces = yields_young (since run_3).scoped (subst (λ (F : Env). Yields root library L t₃.scopes (λ I. map_m (copy_interface I (copy I depth F) F new) node.interface) Interfaces w₃ t₃ w₄ a₄) (env_later (since run_3) h.env) x₄)
 
-                pub plain_stop_4 : {n i j : ℕ} → a₄ ≡ Refused n i j → PlainNodeCopied root library dir w L t e id row depth w₄ a₄
+                pub plain_stop_4 : {x' : Refusal} → a₄ ≡ Err x' → PlainNodeCopied root library dir w L t e id row depth w₄ a₄
                 plain_stop_4 q = halt (λ I is. then_statements I o fs is >>= filled new) run_3 interfaces q 0
 
-                module _ {t₄ : Counts} {i p₄ : ℕ} (q₄ : a₄ ≡ Done t₄ i p₄) where
+                module _ {t₄ : Counts} {i p₄ : ℕ} (q₄ : a₄ ≡ did t₄ i p₄) where
                   abbrev is : List InterfaceDecl
                   is = interfaces.given
 
@@ -237,10 +237,10 @@ module _ (root library dir w : List ℕ) (L : Limits) (t : Counts) (e : code.Env
                     states : (D : ℕ) → Does (source_of root library D) L t.scopes (λ u v p. ss) (map_m (copy_statement (input_of (source_of root library D) L) E) node.statements) w₄ t₄ w₅ a₅
                     states D = x₅.does D t.scopes E refl (sym h.number)
 
-                    pub plain_stop_5 : {n i j : ℕ} → a₅ ≡ Refused n i j → PlainNodeCopied root library dir w L t e id row depth w₅ a₅
+                    pub plain_stop_5 : {x' : Refusal} → a₅ ≡ Err x' → PlainNodeCopied root library dir w L t e id row depth w₅ a₅
                     plain_stop_5 q = bar (λ I. map_m (copy_statement I E) node.statements) (λ I ss. then_order I o fs is ss >>= filled new) run_4 states q 0
 
-                    module _ {t₅ : Counts} {s p₅ : ℕ} (q₅ : a₅ ≡ Done t₅ s p₅) where
+                    module _ {t₅ : Counts} {s p₅ : ℕ} (q₅ : a₅ ≡ did t₅ s p₅) where
                       said : StatementsKept node.statements ss w₅ t₅ s
                       said = rw q₅ at x₅.done
 
@@ -257,10 +257,10 @@ module _ (root library dir w : List ℕ) (L : Limits) (t : Counts) (e : code.Env
                         orders : (D : ℕ) → Does (source_of root library D) L t.scopes (λ u v p. order_at u v) (charge_each (input_of (source_of root library D) L) (order fs ss) >> ret (order fs ss)) w₅ t₅ w₆ a₆
                         orders D = x₆.does (source_of root library D) t.scopes fs ss (flags ∙ ap (λ (F : Env). map (kept_field F.is_values) node.fields) (sym (env_later (since run_5) h.env))) said.kept
 
-                        pub plain_stop_6 : {n i j : ℕ} → a₆ ≡ Refused n i j → PlainNodeCopied root library dir w L t e id row depth w₆ a₆
+                        pub plain_stop_6 : {x' : Refusal} → a₆ ≡ Err x' → PlainNodeCopied root library dir w L t e id row depth w₆ a₆
                         plain_stop_6 q = bar (λ I. charge_each I (order fs ss) >> ret (order fs ss)) (λ I os. filled new (made o fs is ss os)) run_5 orders q 0
 
-                        module _ {t₆ : Counts} {b p₆ : ℕ} (q₆ : a₆ ≡ Done t₆ b p₆) where
+                        module _ {t₆ : Counts} {b p₆ : ℕ} (q₆ : a₆ ≡ did t₆ b p₆) where
                           run_6 : Left (λ I. filled new (made o fs is ss (order_at w₆ b))) w₆ t₆
                           run_6 = pass (λ I. charge_each I (order fs ss) >> ret (order fs ss)) (λ I os. filled new (made o fs is ss os)) run_5 orders q₆
 
@@ -306,7 +306,7 @@ module _ (root library dir w : List ℕ) (L : Limits) (t : Counts) (e : code.Env
                                   no_instance_lem w₆,
                                 )
 
-                            pub plain_done : {w₇ : List ℕ} → length w₇ ≡ length w₆ → Pushed w₆ w₇ (place - 1) (contents_of w₆ (place - 1) r.a r.b r.c from f i s b) → PlainNodeCopied root library dir w L t e id row depth w₇ (Done t₆ new place)
+                            pub plain_done : {w₇ : List ℕ} → length w₇ ≡ length w₆ → Pushed w₆ w₇ (place - 1) (contents_of w₆ (place - 1) r.a r.b r.c from f i s b) → PlainNodeCopied root library dir w L t e id row depth w₇ (did t₆ new place)
                             plain_done {w₇} long p =
                                 through (turn run_6 (λ I. filled new (node_by w₆ r.a r.b r.c from f i s b 0)) (λ D. rw all_made))
                                 (leaf 0 (λ D. fill_does plain_here_6.standing.sound node_here r.a r.b r.c from f i s b (later_handle from_3 (gave fields q₃).handle) (later_handle from_4 (gave interfaces q₄).handle) (later_handle from_5 said.handle) ordered_handle long p (source_of root library D) t.scopes place)
@@ -314,17 +314,17 @@ module _ (root library dir w : List ℕ) (L : Limits) (t : Counts) (e : code.Env
 
               -- ---- a node with fields only gets them at once
               module _ (z : Bare R (row + 1)) where
-                no_interfaces : InterfacesCopied root library dir w₃ L t₃ e new row depth w₃ (Done t₃ 0 0)
+                no_interfaces : InterfacesCopied root library dir w₃ L t₃ e new row depth w₃ (did t₃ 0 0)
                 no_interfaces = interfaces_end root library dir w₃ L t₃ e new row depth plain_here_3 (interfaces_start root library dir w₃ L t₃ e new row depth plain_here_3) z.interface
 
-                no_statements : StatementsCopied L root library dir w₃ t₃ e row w₃ (Done t₃ 0 0)
+                no_statements : StatementsCopied L root library dir w₃ t₃ e row w₃ (did t₃ 0 0)
                 no_statements = said_end L root library dir w₃ t₃ e row (said_start L root library dir w₃ t₃ e row plain_here_3.standing plain_here_3.env plain_here_3.lent) z.statements
 
-                no_order : OrderCopied L root library dir w₃ t₃ e row w₃ (Done t₃ 0 0)
+                no_order : OrderCopied L root library dir w₃ t₃ e row w₃ (did t₃ 0 0)
                 no_order = no_marks L root library dir w₃ t₃ e row plain_here_3.standing plain_here_3.env z.body_order
 
                 pub bare_fillable : Fillable w₃ place
                 bare_fillable = plain_fillable no_interfaces refl no_statements refl no_order refl
 
-                pub bare_done : (r : Row) → r ≡ get_or R row blank → {w₇ : List ℕ} → length w₇ ≡ length w₃ → Pushed w₃ w₇ (place - 1) (contents_of w₃ (place - 1) r.a r.b r.c from f 0 0 0) → PlainNodeCopied root library dir w L t e id row depth w₇ (Done t₃ new place)
+                pub bare_done : (r : Row) → r ≡ get_or R row blank → {w₇ : List ℕ} → length w₇ ≡ length w₃ → Pushed w₃ w₇ (place - 1) (contents_of w₃ (place - 1) r.a r.b r.c from f 0 0 0) → PlainNodeCopied root library dir w L t e id row depth w₇ (did t₃ new place)
                 bare_done r is long p = plain_done no_interfaces refl no_statements refl no_order refl r is long p

@@ -6,12 +6,13 @@ use Rattle.expansion_definition.specs.Input.{Input}
 use Rattle.expansion_definition.specs.State.{Comp, ◌>>=◌, ◌>>◌, ret, fail}
 use Rattle.expansion_definition.specs.Values.{Env, src}
 use Rattle.refine_records.specs.declared.Limits.{Limits}
+use Rattle.std.specs.declared.result.Result.TheVariants.{Ok, Err}
+use Rattle.refine_records.specs.declared.Refusal.{Refusal}
 use Rattle.refine_records.specs.declared.Counts.{Counts}
 use Rattle.refine_records.specs.declared.Env as code
-use Rattle.refine_records.specs.declared.Answer.{Answer}
-use Rattle.refine_records.specs.declared.Answer.TheVariants.{Done, Refused}
+use Rattle.refine_records.specs.Refusals.{refusal_number, first_place, second_place}
 use Rattle.refine_records.specs.Sound.{input_of, JournalSound, Later}
-use Rattle.refine_records.specs.Does.{Decode, at, IfDone, Does, Doing}
+use Rattle.refine_records.specs.Does.{Answer, did, Decode, at, IfDone, Does, Doing}
 use Rattle.refine_records.proofs.Later.{later_standing, later_env, env_later}
 use Rattle.refine_records.proofs.Calculus as calculus
 use Rattle.expander_parts.specs.Contract.{source_of}
@@ -41,15 +42,15 @@ module _ {root library : List ℕ} {L : Limits} {B : Type 0} {n : Input → Comp
   leaf {young} {P} {d} {a} b x y = by a x y
     where
       by : (a : Answer) → ((D : ℕ) → Does (source_of root library D) L young d (n (input_of (source_of root library D) L)) w t w' a) → IfDone (λ t' v p. P w' t' v p (d w' v p)) a → Yields root library L young n P w t w' a
-      by (Done t' v p) x y = record { given = d w' v p; does = λ D. record { same = (x D).same; later = (x D).later }; done = y }
-      by (Refused k i j) x y = record { given = b; does = λ D. record { same = (x D).same; later = tt }; done = tt }
+      by (Ok a') x y = record { given = d w' a'.value a'.place; does = λ D. record { same = (x D).same; later = (x D).later }; done = y }
+      by (Err x') x y = record { given = b; does = λ D. record { same = (x D).same; later = tt }; done = tt }
 
   module _ {young : ℕ} {P : List ℕ → Counts → ℕ → ℕ → B → Type 0} {a : Answer} (y : Yields root library L young n P w t w' a) where
     -- of what was given, where it was
-    pub gave : {t' : Counts} {v p : ℕ} → a ≡ Done t' v p → P w' t' v p y.given
+    pub gave : {t' : Counts} {v p : ℕ} → a ≡ did t' v p → P w' t' v p y.given
     gave e = rw e at y.done
 
-    pub went : {t' : Counts} {v p : ℕ} → a ≡ Done t' v p → Later L young w t w' t'
+    pub went : {t' : Counts} {v p : ℕ} → a ≡ did t' v p → Later L young w t w' t'
     went e = rw e at (y.does 0).later
 
     -- said otherwise
@@ -77,11 +78,11 @@ module _ {M : Type 0} {root library : List ℕ} {L : Limits} {young : ℕ} {m : 
   last r = record { doing = λ D. calculus.last (r.doing D) }
 
   -- the end
-  pub end : {b : M} {P : List ℕ → Counts → ℕ → ℕ → M → Type 0} {v p : ℕ} → Run root library L young m w₀ t₀ (λ I. ret b) w t → P w t v p b → Yields root library L young m P w₀ t₀ w (Done t v p)
+  pub end : {b : M} {P : List ℕ → Counts → ℕ → ℕ → M → Type 0} {v p : ℕ} → Run root library L young m w₀ t₀ (λ I. ret b) w t → P w t v p b → Yields root library L young m P w₀ t₀ w (did t v p)
   end {b} {P} {v} {p} r x = record { given = b; does = λ D. calculus.finish (r.doing D) (λ u v p. b) v p refl; done = x }
 
-  pub refuse : {n i j : ℕ} {P : List ℕ → Counts → ℕ → ℕ → M → Type 0} → Run root library L young m w₀ t₀ (λ I. fail n i j) w t → (b : M) → Yields root library L young m P w₀ t₀ w (Refused n i j)
-  refuse r b = record { given = b; does = λ D. calculus.refuse (r.doing D) (λ u v p. b); done = tt }
+  pub refuse : (x' : Refusal) {P : List ℕ → Counts → ℕ → ℕ → M → Type 0} → Run root library L young m w₀ t₀ (λ I. fail (refusal_number x') (first_place x') (second_place x')) w t → (b : M) → Yields root library L young m P w₀ t₀ w (Err x')
+  refuse x' r b = record { given = b; does = λ D. calculus.refuse x' (r.doing D) (λ u v p. b); done = tt }
 
   -- the rest is another piece
   pub through : {l : Input → Comp M} {P : List ℕ → Counts → ℕ → ℕ → M → Type 0} {w' : List ℕ} {a : Answer} → Run root library L young m w₀ t₀ l w t → Yields root library L young l P w t w' a → Yields root library L young m P w₀ t₀ w' a
@@ -89,8 +90,8 @@ module _ {M : Type 0} {root library : List ℕ} {L : Limits} {young : ℕ} {m : 
 
   -- a step is done, and the rest is left; or it is refused
   module _ {A : Type 0} {n : Input → Comp A} (k : Input → A → Comp M) {P : List ℕ → Counts → ℕ → ℕ → A → Type 0} {w' : List ℕ} {a : Answer} (r : Run root library L young m w₀ t₀ (λ I. n I >>= k I) w t) (y : Yields root library L young n P w t w' a) where
-    pub go : {t' : Counts} {v p : ℕ} → a ≡ Done t' v p → Run root library L young m w₀ t₀ (λ I. k I y.given) w' t'
+    pub go : {t' : Counts} {v p : ℕ} → a ≡ did t' v p → Run root library L young m w₀ t₀ (λ I. k I y.given) w' t'
     go e = record { doing = λ D. calculus.step (k (input_of (source_of root library D) L)) (r.doing D) (y.does D) e }
 
-    pub halt : {i j q : ℕ} {Q : List ℕ → Counts → ℕ → ℕ → M → Type 0} → a ≡ Refused q i j → (b : M) → Yields root library L young m Q w₀ t₀ w' a
-    halt {i} {j} {q} {Q} e b = record { given = b; does = λ D. calculus.stop (k (input_of (source_of root library D) L)) (r.doing D) (y.does D) e (λ u v p. b); done = rw e tt }
+    pub halt : {x' : Refusal} {Q : List ℕ → Counts → ℕ → ℕ → M → Type 0} → a ≡ Err x' → (b : M) → Yields root library L young m Q w₀ t₀ w' a
+    halt {x'} {Q} e b = record { given = b; does = λ D. calculus.stop (k (input_of (source_of root library D) L)) (r.doing D) (y.does D) e (λ u v p. b); done = rw e tt }

@@ -30,12 +30,13 @@ use Rattle.journal_reading.specs.WellFormed.{HandleAt}
 use Rattle.journal_reading.proofs.Fair.{handle_none}
 use Rattle.journal_reading.proofs.Chains.{statements_none, statements_fixed}
 use Rattle.refine_records.specs.declared.Limits.{Limits}
+use Rattle.std.specs.declared.result.Result.TheVariants.{Ok, Err}
+use Rattle.refine_records.specs.declared.Refusal.{Refusal}
+use Rattle.refine_records.specs.declared.Refusal.TheVariants.{TooManyRows}
 use Rattle.refine_records.specs.declared.Counts.{Counts}
 use Rattle.refine_records.specs.declared.Env as code
-use Rattle.refine_records.specs.declared.Answer.{Answer}
-use Rattle.refine_records.specs.declared.Answer.TheVariants.{Done, Refused}
 use Rattle.refine_records.specs.Sound.{Source, input_of, nothing_yet, Standing, Later, env_of}
-use Rattle.refine_records.specs.Does.{at, IfDone, Does, Doing}
+use Rattle.refine_records.specs.Does.{Answer, did, at, IfDone, Does, Doing}
 use Rattle.refine_records.specs.Contract.{Keepable, RecordKept, OpenedAt, ScopeOpened}
 use Rattle.refine_records.proofs.Beginning.{state_none}
 use Rattle.refine_records.proofs.Charges.{charge_full, charge_some}
@@ -92,10 +93,10 @@ module _ (root library dir w : List ℕ) (L : Limits) (t : Counts) (e : code.Env
       (λ D. sym (paid_then (input_of (source_of root library D) L) (copy (input_of (source_of root library D) L) depth (env_of w e) r.b) made (at (source_of root library D) w t))))
 
   module _ (q : r.a ≡ 0) {w' : List ℕ} {a : Answer} (y : Copied root library w L t e r.b depth w' a) where
-    pub top_node_stop : {n i j : ℕ} → a ≡ Refused n i j → StatementAdded root library w L t e row l depth w' a
+    pub top_node_stop : {x' : Refusal} → a ≡ Err x' → StatementAdded root library w L t e row l depth w' a
     top_node_stop z = as_node q (keeping_stop h.standing.sound made y z)
 
-    module _ {s : Counts} {o p : ℕ} (z : a ≡ Done s o p) where
+    module _ {s : Counts} {o p : ℕ} (z : a ≡ did s o p) where
       pub top_node_ready : Keepable w' s.charges (statement_record 0 o l)
       top_node_ready = statement_keepable 0 o (later_handle (went y z) hl)
 
@@ -111,14 +112,14 @@ module _ (root library dir w : List ℕ) (L : Limits) (t : Counts) (e : code.Env
   unfolding statement_of
   is_proto q = rw q
 
-  pub top_proto : r.a ≡ 1 → StatementAdded root library w L t e row l depth w (Done t l 0)
+  pub top_proto : r.a ≡ 1 → StatementAdded root library w L t e row l depth w (did t l 0)
   unfolding statement
   top_proto q = said (is_proto q) (end (begin t.scopes (λ I. statement I (copy I depth (env_of w e)) (env_of w e) (Statement.Proto r.b)) h.standing.sound) (record { handle = hl; all = sym (append-nil (statements_at w l)) }))
 
   -- an ExternProto, and a Route
   added : (w' : List ℕ) (a : Answer) → IfDone (λ t' v p. StatementAppended w l w' t' v) a → IfDone (λ t' v p. AddsStatement (statements_at w l) w' t' v p (statement_at w' v p)) a
-  added w' (Done t' v p) z = record { handle = z.handle; all = z.list }
-  added w' (Refused n i j) z = tt
+  added w' (Ok a') z = record { handle = z.handle; all = z.list }
+  added w' (Err x') z = tt
 
   is_extern : r.a ≡ 2 → statement_of (r ∷ []) ≡ Statement.ExternProto r.b
   unfolding statement_of
@@ -148,7 +149,7 @@ module _ (root library dir w : List ℕ) (L : Limits) (t : Counts) (e : code.Env
   abbrev other : Option Statement
   other = some (Statement.Other r.b)
 
-  nothing_done : Yields root library L t.scopes (λ I. ret other) (λ u s v p x. x ≡ other) w t w (Done t 0 0)
+  nothing_done : Yields root library L t.scopes (λ I. ret other) (λ u s v p x. x ≡ other) w t w (did t 0 0)
   nothing_done = end (begin t.scopes (λ I. ret other) h.standing.sound) refl
 
   pub top_other : (r.a ≡ 0 → ⊥) → (r.a ≡ 1 → ⊥) → (r.a ≡ 2 → ⊥) → (r.a ≡ 3 → ⊥) → {w' : List ℕ} {a : Answer} → RecordKept L w t (statement_record r.a r.b l) w' a → StatementAdded root library w L t e row l depth w' a
@@ -176,7 +177,7 @@ module _ (root library dir w : List ℕ) (L : Limits) (t : Counts) (e : code.Env
     unfolding statements_of somes
     tops_start = loop_start row (last (begin t.scopes m h.standing.sound)) (statements_none w)
 
-    pub tops_end : {w₁ : List ℕ} {t₁ : Counts} {l p : ℕ} → Topping w₁ t₁ l p → elements Statements (drop p (rows root)) ≡ [] → TopsCopied root library w L t e row depth w₁ (Done t₁ l 0)
+    pub tops_end : {w₁ : List ℕ} {t₁ : Counts} {l p : ℕ} → Topping w₁ t₁ l p → elements Statements (drop p (rows root)) ≡ [] → TopsCopied root library w L t e row depth w₁ (did t₁ l 0)
     tops_end x z = end (loop_end z x) (record { handle = x.handle; all = x.all })
 
     module _ {w₁ : List ℕ} {t₁ : Counts} {l p : ℕ} (x : Topping w₁ t₁ l p) where
@@ -187,10 +188,10 @@ module _ (root library dir w : List ℕ) (L : Limits) (t : Counts) (e : code.Env
         same : Yields root library L t₁.scopes (λ I. each I (statement_of (drop q (rows root)))) (AddsStatement (statements_at w₁ l)) w₁ t₁ w₂ a
         same = subst (λ (E : Env). Yields root library L t₁.scopes (λ I. statement I (copy I depth E) E (statement_of (drop q (rows root)))) (AddsStatement (statements_at w₁ l)) w₁ t₁ w₂ a) (env_later (since x.run) h.env) y
 
-        pub tops_again : {t₂ : Counts} {v o : ℕ} → a ≡ Done t₂ v o → Topping w₂ t₂ v (q + 1)
+        pub tops_again : {t₂ : Counts} {v o : ℕ} → a ≡ did t₂ v o → Topping w₂ t₂ v (q + 1)
         tops_again eq = loop_again s x same (since x.run).scoped somes_last eq
 
-        pub tops_stop : {n i j : ℕ} → a ≡ Refused n i j → TopsCopied root library w L t e row depth w₂ a
+        pub tops_stop : {x' : Refusal} → a ≡ Err x' → TopsCopied root library w L t e row depth w₂ a
         tops_stop eq = loop_stop s x same (since x.run).scoped eq []
 
 -- ---- from nothing
@@ -212,7 +213,7 @@ module _ (root library dir w : List ℕ) (L : Limits) (depth : ℕ) (b : Nothing
   whole d x = record { same = d.same ∙ ap (statements I) (state_none S w); later = d.later; handle = x }
 
   -- fewer than three charges
-  pub top_few : L.rows < 3 → {a : Answer} → a ≡ Refused 10 0 0 → TopStatementsCopied root library w L depth w a
+  pub top_few : L.rows < 3 → {a : Answer} → a ≡ Err TooManyRows → TopStatementsCopied root library w L depth w a
   unfolding statements open_scope bind_r
   top_few few {a} q = rw q (record { same = sym (by L.rows refl few); later = tt; handle = tt })
     where
@@ -241,10 +242,10 @@ module _ (root library dir w : List ℕ) (L : Limits) (depth : ℕ) (b : Nothing
     top_standing = later_standing later₁ b.standing
 
     module _ {w₂ : List ℕ} {a : Answer} (o : ScopeOpened L w₁ two 0 0 0 0 0 w₂ a) where
-      pub top_stop : {n i j : ℕ} → a ≡ Refused n i j → TopStatementsCopied root library w L depth w₂ a
+      pub top_stop : {x' : Refusal} → a ≡ Err x' → TopStatementsCopied root library w L depth w₂ a
       top_stop q = whole (calculus.stop (λ n. left) doing₁ (o.does S 0) q (λ u v p. statements_at u v)) (rw q tt)
 
-      module _ {t : Counts} {n g : ℕ} (q : a ≡ Done t n g) (e : code.Env) (scope : e.scope ≡ n) (place : e.place ≡ g) (slot : e.slot ≡ 0) (body : e.body ≡ false) (vs : e.values ≡ 0) where
+      module _ {t : Counts} {n g : ℕ} (q : a ≡ did t n g) (e : code.Env) (scope : e.scope ≡ n) (place : e.place ≡ g) (slot : e.slot ≡ 0) (body : e.body ≡ false) (vs : e.values ≡ 0) where
         opened : OpenedAt w₁ two 0 0 0 0 0 w₂ t n g
         opened = rw q at o.done
 
@@ -277,7 +278,7 @@ module _ (root library dir w : List ℕ) (L : Limits) (depth : ℕ) (b : Nothing
         doing₃ : (x : List (List Row)) → elements Tops (drop 1 (rows root)) ≡ x → Doing S L 0 (statements I) w nothing_yet (left_of (statements_of (after_top x))) w₂ t
         doing₃ x z = calculus.turn doing₂ (left_of (statements_of (after_top x))) (ap (λ (l : List Statement). left_of l (at S w₂ t)) (said_by x z))
 
-        pub top_none : elements Tops (drop 1 (rows root)) ≡ [] → TopStatementsCopied root library w L depth w₂ (Done t 0 0)
+        pub top_none : elements Tops (drop 1 (rows root)) ≡ [] → TopStatementsCopied root library w L depth w₂ (did t 0 0)
         unfolding statements_of map_m bind_r somes elements
         top_none z = whole (calculus.finish (calculus.turn (doing₃ [] z) (ret []) refl) (λ u v p. statements_at u v) 0 0 (sym (statements_none w₂))) (handle_none w₂ t.charges tag_statement)
 
@@ -285,5 +286,5 @@ module _ (root library dir w : List ℕ) (L : Limits) (depth : ℕ) (b : Nothing
         top_all {k} st {w₃} {a} y = by a (subst (λ (E : Env). Yields root library L t.scopes (λ I. map_m (statement I (copy I depth E) E) (statements_of (rest (drop k (rows root))))) AllTops w₂ t w₃ a) is_root y)
           where
             by : (a : Answer) → Yields root library L t.scopes (λ I. map_m (statement I (copy I depth root_env) root_env) (statements_of (rest (drop k (rows root))))) AllTops w₂ t w₃ a → TopStatementsCopied root library w L depth w₃ a
-            by (Done u v i) y = whole (calculus.finish (calculus.step (λ l. ret (somes l)) (doing₃ _ st.here) (calculus.does_young (omega arith) (y.does depth)) refl) (λ u v p. statements_at u v) v i (sym y.done.all)) y.done.handle
-            by (Refused c i j) y = whole (calculus.stop (λ l. ret (somes l)) (doing₃ _ st.here) (calculus.does_young (omega arith) (y.does depth)) refl (λ u v p. statements_at u v)) tt
+            by (Ok a') y = whole (calculus.finish (calculus.step (λ l. ret (somes l)) (doing₃ _ st.here) (calculus.does_young (omega arith) (y.does depth)) refl) (λ u v p. statements_at u v) a'.value a'.place (sym y.done.all)) y.done.handle
+            by (Err x') y = whole (calculus.stop (λ l. ret (somes l)) (doing₃ _ st.here) (calculus.does_young (omega arith) (y.does depth)) refl (λ u v p. statements_at u v)) tt

@@ -25,12 +25,12 @@ use Rattle.journal_reading.specs.Reading.{ids_at}
 use Rattle.journal_reading.specs.WellFormed.{HandleAt}
 use Rattle.journal_reading.proofs.Chains.{ids_none, ids_fixed}
 use Rattle.refine_records.specs.declared.Limits.{Limits}
+use Rattle.std.specs.declared.result.Result.TheVariants.{Err}
+use Rattle.refine_records.specs.declared.Refusal.{Refusal}
 use Rattle.refine_records.specs.declared.Counts.{Counts}
 use Rattle.refine_records.specs.declared.Env as code
-use Rattle.refine_records.specs.declared.Answer.{Answer}
-use Rattle.refine_records.specs.declared.Answer.TheVariants.{Done, Refused}
 use Rattle.refine_records.specs.Sound.{input_of, env_of}
-use Rattle.refine_records.specs.Does.{at}
+use Rattle.refine_records.specs.Does.{Answer, did, at}
 use Rattle.refine_records.specs.Contract.{Keepable, RecordKept}
 use Rattle.refine_records.proofs.Later.{env_later, later_handle}
 use Rattle.refine_records.proofs.Keeping.{kept_handle, kept_ids}
@@ -50,11 +50,11 @@ id_keepable x = record { least = omega arith; most = omega arith; before = x; va
 
 -- ---- an id: its copy, and the charge
 module _ {root library dir w : List ℕ} {L : Limits} {t : Counts} {e : code.Env} (i depth : ℕ) (h : Here root library dir w L t e) {w' : List ℕ} {a : Answer} (y : Copied root library w L t e i depth w' a) where
-  pub id_stop : (l : ℕ) {n j k : ℕ} → a ≡ Refused n j k → Yields root library L t.scopes (λ I. paid I (copy I depth (env_of w e) i)) (ListAppended tag_id ids_at one (ids_at w l)) w t w' a
+  pub id_stop : (l : ℕ) {x' : Refusal} → a ≡ Err x' → Yields root library L t.scopes (λ I. paid I (copy I depth (env_of w e) i)) (ListAppended tag_id ids_at one (ids_at w l)) w t w' a
   unfolding paid
   id_stop l q = keeping_stop h.standing.sound (λ x. x) y q
 
-  module _ {l : ℕ} (hl : HandleAt w t.charges tag_id l) {s : Counts} {o p : ℕ} (q : a ≡ Done s o p) where
+  module _ {l : ℕ} (hl : HandleAt w t.charges tag_id l) {s : Counts} {o p : ℕ} (q : a ≡ did s o p) where
     pub id_handle : HandleAt w' s.charges tag_id l
     id_handle = later_handle (went y q) hl
 
@@ -86,7 +86,7 @@ module _ (root library dir w : List ℕ) (L : Limits) (t : Counts) (e : code.Env
     is_front : front (drop row R) ≡ r
     is_front = front_drop R row ∙ sym is
 
-    pub value_payload : (r.f ≡ 2 → ⊥) → ValueCopied root library dir w L t e row depth w (Done t r.g 0)
+    pub value_payload : (r.f ≡ 2 → ⊥) → ValueCopied root library dir w L t e row depth w (did t r.g 0)
     unfolding value copy_data bind_r
     value_payload n =
         end (turn (begin t.scopes m h.standing.sound) (λ I. ret (record { ty = r.e; «data» = FieldData.Payload r.g })) (λ D. rw (is_front, ne_eqb r.f 2 n)))
@@ -108,7 +108,7 @@ module _ (root library dir w : List ℕ) (L : Limits) (t : Counts) (e : code.Env
           by (refusal c i j) = refl
           by (ok out st) = refl
 
-      pub value_end : {w₁ : List ℕ} {t₁ : Counts} {l p : ℕ} → Valuing w₁ t₁ l p → elements Ids (drop p R) ≡ [] → ValueCopied root library dir w L t e row depth w₁ (Done t₁ l 0)
+      pub value_end : {w₁ : List ℕ} {t₁ : Counts} {l p : ℕ} → Valuing w₁ t₁ l p → elements Ids (drop p R) ≡ [] → ValueCopied root library dir w L t e row depth w₁ (did t₁ l 0)
       value_end x z = end (loop_end z x) (record { value = rw (is_front, eq-eqb r.f 2 n, x.all); ids = λ q. x.handle })
 
   -- ---- a turn: the id of row q is copied, then its record
@@ -123,10 +123,10 @@ module _ (root library dir w : List ℕ) (L : Limits) (t : Counts) (e : code.Env
           subst (λ (j : ℕ). Yields root library L t₁.scopes (λ I. each I j) (ListAppended tag_id ids_at one (ids_at w₁ l)) w₁ t₁ w₃ b) (ap (λ (k : Row). k.a) (ir ∙ sym (front_drop R q)))
           (subst (λ (E : Env). Yields root library L t₁.scopes (λ I. paid I (copy I depth E i.a)) (ListAppended tag_id ids_at one (ids_at w₁ l)) w₁ t₁ w₃ b) (env_later (since x.run) h.env) z)
 
-      pub value_stop : {n j k : ℕ} → a ≡ Refused n j k → (b : FieldValue) → ValueCopied root library dir w L t e row depth w₂ a
+      pub value_stop : {x' : Refusal} → a ≡ Err x' → (b : FieldValue) → ValueCopied root library dir w L t e row depth w₂ a
       value_stop eq b = loop_stop s x (turned (id_stop i.a depth value_here y l eq)) (since x.run).scoped eq b
 
-      module _ {s₂ : Counts} {o o' : ℕ} (eq : a ≡ Done s₂ o o') where
+      module _ {s₂ : Counts} {o o' : ℕ} (eq : a ≡ did s₂ o o') where
         pub value_ready : Keepable w₂ s₂.charges (id_record o l)
         value_ready = id_keepable (id_handle i.a depth value_here y x.handle eq)
 
@@ -134,8 +134,8 @@ module _ (root library dir w : List ℕ) (L : Limits) (t : Counts) (e : code.Env
           z : Yields root library L t₁.scopes (λ I. each I (front (drop q R)).a) (ListAppended tag_id ids_at one (ids_at w₁ l)) w₁ t₁ w₃ b
           z = turned (id_kept i.a depth value_here y x.handle eq k)
 
-          pub value_halt : {n j g : ℕ} → b ≡ Refused n j g → (v : FieldValue) → ValueCopied root library dir w L t e row depth w₃ b
+          pub value_halt : {x' : Refusal} → b ≡ Err x' → (v : FieldValue) → ValueCopied root library dir w L t e row depth w₃ b
           value_halt e₃ v = loop_stop s x z (since x.run).scoped e₃ v
 
-          pub value_again : {t₃ : Counts} {v g : ℕ} → b ≡ Done t₃ v g → Valuing w₃ t₃ v (q + 1)
+          pub value_again : {t₃ : Counts} {v g : ℕ} → b ≡ did t₃ v g → Valuing w₃ t₃ v (q + 1)
           value_again e₃ = loop_again s x z (since x.run).scoped (λ bs b. refl) e₃

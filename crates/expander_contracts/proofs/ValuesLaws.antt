@@ -25,12 +25,12 @@ use Rattle.journal_records.specs.Logs.{scan}
 use Rattle.journal_reading.specs.Reading.{values_at}
 use Rattle.journal_reading.specs.WellFormed.{HandleAt}
 use Rattle.refine_records.specs.declared.Limits.{Limits}
+use Rattle.std.specs.declared.result.Result.TheVariants.{Err}
+use Rattle.refine_records.specs.declared.Refusal.{Refusal}
 use Rattle.refine_records.specs.declared.Counts.{Counts}
 use Rattle.refine_records.specs.declared.Env as code
-use Rattle.refine_records.specs.declared.Answer.{Answer}
-use Rattle.refine_records.specs.declared.Answer.TheVariants.{Done, Refused}
 use Rattle.refine_records.specs.Sound.{input_of, env_of}
-use Rattle.refine_records.specs.Does.{at}
+use Rattle.refine_records.specs.Does.{Answer, did, at}
 use Rattle.refine_records.proofs.Later.{env_later}
 use Rattle.expander_parts.specs.Contract.{source_of, rows_of, node_at_row}
 use Rattle.expander_contracts.specs.Contract.{Here, Yields, StoredValues, prototype_at, given_by, ValueStored, ValuesStored}
@@ -76,7 +76,7 @@ module _ (root library dir w : List ℕ) (L : Limits) (t : Counts) (e : code.Env
     }
 
     module _ {w₁ : List ℕ} {t₁ : Counts} {h p k : ℕ} (x : Storing w₁ t₁ h p k) where
-      pub values_end : elements Interfaces (drop p R) ≡ [] → ValuesStored root library dir w L t e row slot proto decl depth w₁ (Done t₁ h 0)
+      pub values_end : elements Interfaces (drop p R) ≡ [] → ValuesStored root library dir w L t e row slot proto decl depth w₁ (did t₁ h 0)
       unfolding values
       values_end z = end (turn x.run (λ I. ret (values_at w₁ h)) (λ D. rw z)) (record { handle = x.handle; all = refl })
 
@@ -98,12 +98,12 @@ module _ (root library dir w : List ℕ) (L : Limits) (t : Counts) (e : code.Env
         same : Yields root library L t.scopes (one (env_of w e)) StoredValues w₁ t₁ w₂ a
         same = yields_young (since x.run).scoped (subst (λ (E : Env). Yields root library L t₁.scopes (one E) StoredValues w₁ t₁ w₂ a) (env_later (since x.run) here.env) y)
 
-        pub values_again : {t₂ : Counts} {v o : ℕ} → a ≡ Done t₂ v o → {p' : ℕ} → p' ≡ q + 1 → Storing w₂ t₂ v p' (k + 1)
+        pub values_again : {t₂ : Counts} {v o : ℕ} → a ≡ did t₂ v o → {p' : ℕ} → p' ≡ q + 1 → Storing w₂ t₂ v p' (k + 1)
         values_again {t₂} {v} eq z = record {
           run = rw (z, ← (gave same eq).all) (go after next same eq);
           handle = (gave same eq).handle;
           few = omega (arith, x.few, s.from);
         }
 
-        pub values_stop : {n i j : ℕ} → a ≡ Refused n i j → ValuesStored root library dir w L t e row slot proto decl depth w₂ a
+        pub values_stop : {x' : Refusal} → a ≡ Err x' → ValuesStored root library dir w L t e row slot proto decl depth w₂ a
         values_stop eq = halt after next same eq []

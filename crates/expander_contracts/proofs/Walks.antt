@@ -18,14 +18,14 @@ use Rattle.source_directory.specs.Directory.{number_of}
 use Rattle.expansion_definition.specs.Input.{Input}
 use Rattle.expansion_definition.specs.State.{Comp, bind_r, ◌>>=◌, ret, map_m}
 use Rattle.refine_records.specs.declared.Limits.{Limits}
+use Rattle.std.specs.declared.result.Result.TheVariants.{Err}
+use Rattle.refine_records.specs.declared.Refusal.{Refusal}
 use Rattle.refine_records.specs.declared.Counts.{Counts}
 use Rattle.refine_records.specs.Sound.{input_of}
-use Rattle.refine_records.specs.Does.{at}
+use Rattle.refine_records.specs.Does.{Answer, did, at}
 use Rattle.refine_records.proofs.Calculus as calculus
 use Rattle.expander_parts.specs.Contract.{source_of, Lent, rows_of}
 use Rattle.journal_reading.specs.WellFormed.{HandleAt}
-use Rattle.refine_records.specs.declared.Answer.{Answer}
-use Rattle.refine_records.specs.declared.Answer.TheVariants.{Done, Refused}
 use Rattle.expander_contracts.specs.Contract.{Yields, ListAppended}
 use Rattle.expander_contracts.proofs.Run.{Run, turn, go, halt, gave, yields_young}
 
@@ -80,7 +80,7 @@ module _ {M : Type 0} {root library : List ℕ} {L : Limits} {young : ℕ} {m : 
     loop_start row r e = record { passed = []; run = map_start f g k part R row r; handle = record { low = omega arith; tag = λ z. absurd (omega arith) }; all = e }
 
     module _ {h p q : ℕ} (s : Stands part R p q) (x : Mapping root library L young m w₀ t₀ f g k part R tag list_at lists w t h p) {list : B → List A} {w' : List ℕ} {a : Answer} (y : Yields root library L t.scopes (λ I. f I (g (drop q R))) (ListAppended tag list_at list (list_at w h)) w t w' a) where
-      pub loop_again : young ≤ t.scopes → ((bs : List B) (b : B) → lists (bs ++ (b ∷ [])) ≡ lists bs ++ list b) → {t' : Counts} {v o : ℕ} → a ≡ Done t' v o → Mapping root library L young m w₀ t₀ f g k part R tag list_at lists w' t' v (q + 1)
+      pub loop_again : young ≤ t.scopes → ((bs : List B) (b : B) → lists (bs ++ (b ∷ [])) ≡ lists bs ++ list b) → {t' : Counts} {v o : ℕ} → a ≡ did t' v o → Mapping root library L young m w₀ t₀ f g k part R tag list_at lists w' t' v (q + 1)
       loop_again le more e =
           let z = gave y e in
           record {
@@ -90,7 +90,7 @@ module _ {M : Type 0} {root library : List ℕ} {L : Limits} {young : ℕ} {m : 
             all = z.all ∙ ap (λ (l : List A). l ++ list y.given) x.all ∙ sym (more x.passed y.given);
           }
 
-      pub loop_stop : young ≤ t.scopes → {n i j : ℕ} {Q : List ℕ → Counts → ℕ → ℕ → M → Type 0} → a ≡ Refused n i j → (b : M) → Yields root library L young m Q w₀ t₀ w' a
+      pub loop_stop : young ≤ t.scopes → {x' : Refusal} {Q : List ℕ → Counts → ℕ → ℕ → M → Type 0} → a ≡ Err x' → (b : M) → Yields root library L young m Q w₀ t₀ w' a
       loop_stop le e b = halt (λ I b. each_left f g k part R (q + 1) (x.passed ++ (b ∷ [])) I) (map_next f g k part R x.passed s x.run) (yields_young le y) e b
 
     pub loop_end : {h p : ℕ} → elements part (drop p R) ≡ [] → (x : Mapping root library L young m w₀ t₀ f g k part R tag list_at lists w t h p) → Run root library L young m w₀ t₀ (λ I. k I x.passed) w t

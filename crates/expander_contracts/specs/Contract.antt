@@ -22,12 +22,11 @@ use Rattle.journal_reading.specs.Reading.{value_at, fields_at, interfaces_at, st
 use Rattle.journal_reading.specs.WellFormed.{HandleAt, NodeAt}
 use Rattle.journal_reading.specs.RecordsStay.{Unrecorded}
 use Rattle.refine_records.specs.declared.Limits.{Limits}
+use Rattle.std.specs.declared.result.Result.TheVariants.{Ok, Err}
 use Rattle.refine_records.specs.declared.Counts.{Counts}
 use Rattle.refine_records.specs.declared.Env as code
-use Rattle.refine_records.specs.declared.Answer.{Answer}
-use Rattle.refine_records.specs.declared.Answer.TheVariants.{Done, Refused}
 use Rattle.refine_records.specs.Sound.{input_of, nothing_yet, Standing, Later, EnvAt, env_of}
-use Rattle.refine_records.specs.Does.{result_of, IfDone, Does}
+use Rattle.refine_records.specs.Does.{Answer, did, result_of, IfDone, Does}
 use Rattle.expander_parts.specs.Contract.{source_of, Lent, rows_of, node_at_row}
 
 -- ---- where a part begins
@@ -204,8 +203,8 @@ BodyStatementCopied root library w L t e id inner R row out place depth =
 
 -- an answer that leaves the body's root as it was
 abbrev pub kept_of : Answer → ℕ → ℕ → Answer
-kept_of (Done t v p) out place = Done t out place
-kept_of (Refused n i j) out place = Refused n i j
+kept_of (Ok a') out place = did a'.st out place
+kept_of (Err x') out place = Err x'
 
 -- ---- the top
 

@@ -11,37 +11,43 @@ use sheet_rows::row::Row;
 use sheet_walks::walk;
 use sheet_walks::walk::Found;
 use source_directory;
+use source_lookup::Sources;
 
 // The row of a slot's document.
-pub fn row_of<'a>(root: &'a [u32], library: &'a [u32], dir: &[u32], slot: u32, at: usize) -> Row
-    requires { slot < length dir.now }
-    ensures { result ≡ get_or (rows_of root.now library.now dir.now slot) at blank }
+pub fn row_of(sources: &Sources<'_>, slot: u32, at: usize) -> Row
+    requires { slot < length sources.now.dir.now }
+    ensures { result ≡ get_or (rows_of sources.now.root.now sources.now.library.now sources.now.dir.now slot) at blank }
 {
-    let sheet = rows::select(root, library, source_directory::number(dir, slot));
+    let sheet = rows::select(
+        sources.root,
+        sources.library,
+        source_directory::number(sources.dir, slot),
+    );
     row::row_at(sheet, at)
 }
 
 // The next element of a part of a slot's document.
-pub fn next<'a>(
-    root: &'a [u32],
-    library: &'a [u32],
-    dir: &[u32],
-    slot: u32,
-    part: Part,
-    at: usize,
-) -> Found
-    requires { slot < length dir.now }
-    ensures { Sought part (rows_of root.now library.now dir.now slot) at result }
+pub fn next(sources: &Sources<'_>, slot: u32, part: Part, at: usize) -> Found
+    requires { slot < length sources.now.dir.now }
+    ensures { Sought part (rows_of sources.now.root.now sources.now.library.now sources.now.dir.now slot) at result }
 {
-    let sheet = rows::select(root, library, source_directory::number(dir, slot));
+    let sheet = rows::select(
+        sources.root,
+        sources.library,
+        source_directory::number(sources.dir, slot),
+    );
     walk::seek(sheet, part, at)
 }
 
 // Whether a node of a slot's document has no interfaces, no statements and no body order, from the row after its own on.
-pub fn bare<'a>(root: &'a [u32], library: &'a [u32], dir: &[u32], slot: u32, at: usize) -> bool
-    requires { slot < length dir.now }
-    ensures { Bared (rows_of root.now library.now dir.now slot) at result }
+pub fn bare(sources: &Sources<'_>, slot: u32, at: usize) -> bool
+    requires { slot < length sources.now.dir.now }
+    ensures { Bared (rows_of sources.now.root.now sources.now.library.now sources.now.dir.now slot) at result }
 {
-    let sheet = rows::select(root, library, source_directory::number(dir, slot));
+    let sheet = rows::select(
+        sources.root,
+        sources.library,
+        source_directory::number(sources.dir, slot),
+    );
     walk::bare(sheet, at)
 }

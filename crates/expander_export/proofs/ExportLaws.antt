@@ -1,5 +1,5 @@
 -- Expand as C calls it: its cases.
-use mathlib.Core.Path.{◌≡◌, refl, sym}
+use mathlib.Core.Path.{◌≡◌, refl, sym, ap, ◌∙◌}
 use mathlib.Core.List.{List}
 use Prim.Native.Nat.{ℕ, ◌≤◌, ◌<◌}
 use native.Mathlib.Omega.{arith}
@@ -7,9 +7,9 @@ use lib.ListN.{length}
 use lib.Dec.{ltb}
 use borrow.Author.Tests.{lt-ltb, le-ltb}
 use Rattle.words_lent.specs.Words.{over}
-use Rattle.expansion_operation.specs.Operation.{Call}
-use Rattle.expander_run.specs.declared.Outcome.{Outcome}
-use Rattle.expander_run.specs.Calls.{numbers_of, AsDefined, Demand1, Demand3}
+use Rattle.expansion_operation.specs.Operation.{Call, Numbers}
+use Rattle.expander_run.specs.declared.Numbers as code
+use Rattle.expander_run.specs.Calls.{Outcome, numbers_of, told, AsDefined, Demand1, Demand3}
 use Rattle.expander_export.specs.Exports.{number_words, expand_c, SaysC, Demand1C, Demand3C}
 
 module _ (c : Call) (answer : List ℕ) where
@@ -17,6 +17,9 @@ module _ (c : Call) (answer : List ℕ) where
   unfolding expand_c
   expand_short h = (rw (lt-ltb _ _ h), (λ k. absurd (omega arith), λ k. absurd (omega arith)))
 
-  pub expand_told : 7 ≤ length answer → (a : Outcome) {out ledger scopes after : List ℕ} {r : ℕ} → AsDefined c a out ledger scopes × (Demand1 c a out ledger scopes × Demand3 c a out ledger scopes) → (r ≡ (numbers_of a).refusal) × (after ≡ over (number_words (numbers_of a)) answer) → SaysC c answer r out ledger scopes after × (Demand1C c answer r out ledger scopes after × Demand3C c r out ledger scopes after)
+  pub expand_told : 7 ≤ length answer → (a : Outcome) {n : code.Numbers} → told n ≡ numbers_of a → {out ledger scopes after : List ℕ} {r : ℕ} → AsDefined c a out ledger scopes × (Demand1 c a out ledger scopes × Demand3 c a out ledger scopes) → (r ≡ n.refusal) × (after ≡ over (number_words (told n)) answer)
+      → SaysC c answer r out ledger scopes after × (Demand1C c answer r out ledger scopes after × Demand3C c r out ledger scopes after)
   unfolding expand_c
-  expand_told h a x p = rw (p.0, p.1) (rw (le-ltb _ _ h, sym x.0), (λ k. (refl, x.1.0), x.1.1))
+  expand_told h a q x p =
+      rw (p.0 ∙ ap (λ (m : Numbers). m.refusal) q, p.1 ∙ ap (λ (m : Numbers). over (number_words m) answer) q)
+      (rw (le-ltb _ _ h, sym x.0), (λ k. (refl, x.1.0), x.1.1))

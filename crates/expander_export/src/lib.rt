@@ -3,7 +3,7 @@
 ghost use Rattle.expander_run.specs.Calls.{call_of};
 ghost use Rattle.expander_export.specs.Exports.{SaysC, Demand1C, Demand3C};
 
-use expander_run::Outcome;
+use expander_run::Numbers;
 
 // Expand. Answer: refusal, first place, second place, nodes, scopes, charges, rows of out.
 pub fn expand<'a>(
@@ -25,19 +25,19 @@ pub fn expand<'a>(
     if answer.len() < 7 {
         return 1;
     }
-    match expander_call::expand(
+    let n = Numbers::of(expander_call::expand(
         root, library, max_nodes, max_depth, max_rows, out, ledger, scopes, work,
-    ) {
-        Outcome::Expanded {
-            nodes,
-            scopes: opened,
-            charges,
-            rows,
-        } => words_answer::put_words(answer, &[0, 0, 0, nodes, opened, charges, rows]),
-        Outcome::Refused {
-            number,
-            first,
-            second,
-        } => words_answer::put_words(answer, &[number, first, second, 0, 0, 0, 0]),
-    }
+    ));
+    words_answer::put_words(
+        answer,
+        &[
+            n.refusal,
+            n.first_place,
+            n.second_place,
+            n.nodes,
+            n.scopes,
+            n.charges,
+            n.rows,
+        ],
+    )
 }

@@ -18,17 +18,17 @@ use Rattle.journal_reading.specs.WellFormed.{HandleAt}
 use Rattle.journal_reading.proofs.Chains.{fields_fixed, fields_new}
 use Rattle.journal_reading.proofs.Fair.{handle_new}
 use Rattle.refine_records.specs.declared.Limits.{Limits}
+use Rattle.std.specs.declared.result.Result.TheVariants.{Ok, Err}
+use Rattle.refine_records.specs.declared.Refusal.{Refusal}
 use Rattle.refine_records.specs.declared.Counts.{Counts}
 use Rattle.refine_records.specs.declared.Env as code
-use Rattle.refine_records.specs.declared.Answer.{Answer}
-use Rattle.refine_records.specs.declared.Answer.TheVariants.{Done, Refused}
 use Rattle.refine_records.specs.Sound.{Source, input_of, Standing, Later, EnvAt, env_of}
-use Rattle.refine_records.specs.Does.{at, Doing}
+use Rattle.refine_records.specs.Does.{Answer, did, at, Doing}
 use Rattle.refine_records.specs.Contract.{Keepable, KeptAt, RecordKept}
 use Rattle.refine_records.proofs.Later.{later_trans, later_standing, later_handle}
 use Rattle.refine_records.proofs.Calculus.{start, turn, finish, step, stop, paying}
 use Rattle.expander_bindings.specs.declared.Given.{Given}
-use Rattle.expander_bindings.specs.Contract.{Associated, NotGiven, GivenValue, GivenRefused, TargetValueGiven, is_field_of, bound_field, FieldsAfter, FieldDone}
+use Rattle.expander_bindings.specs.Contract.{Targeted, Associated, NotGiven, GivenValue, GivenRefused, TargetValueGiven, is_field_of, bound_field, FieldsAfter, FieldDone}
 use Rattle.expander_bindings.proofs.Steps.{any_source, done_later, always, if_map, pays, paid_there}
 use Rattle.expander_bindings.proofs.Associations.{then_later, then_standing, then_value}
 
@@ -62,10 +62,10 @@ module _ (L : Limits) (w : List ℕ) (t : Counts) (e : code.Env) (new : ℕ) (r 
   unfolding copy_field copy_binding
   begin S young c = start S young (whole S c) st.sound
 
-  pub field_refused : {n i j : ℕ} → a ≡ Refused n i j → FieldDone L w t e new r h w1 a
+  pub field_refused : {x' : Refusal} → a ≡ Err x' → FieldDone L w t e new r h w1 a
   field_refused q = record { does = λ S young c. stop (λ u. rest S is) (begin S young c) (ad.does S young) q (λ u v p. bound_field (is_field_of r) is); done = rw q tt }
 
-  module _ {s : Counts} {v p : ℕ} (q : a ≡ Done s v p) where
+  module _ {s : Counts} {v p : ℕ} (q : a ≡ did s v p) where
     l1 : Later L 0 w t w1 s
     l1 = then_later st env ad q
 
@@ -75,39 +75,39 @@ module _ (L : Limits) (w : List ℕ) (t : Counts) (e : code.Env) (new : ℕ) (r 
     next : (S : Source) (young : ℕ) (c : Copier) (x : Option (Option FieldValue)) → is ≡ x → Doing S L young (whole S c) w t (rest S x) w1 s
     next S young c x z = turn (step (λ u. rest S is) (begin S young c) (ad.does S young) q) (rest S x) (ap (λ (o : Option (Option FieldValue)). rest S o (at S w1 s)) z)
 
-    module _ {w2 : List ℕ} {g : Given} (gv : TargetValueGiven L w1 s e r.c w2 g) where
+    module _ {w2 : List ℕ} {s2 : Counts} {g : Targeted} (gv : TargetValueGiven L w1 s e r.c w2 s2 g) where
       -- outside a body: it stays
-      module _ (o : g ≡ Given.Outside) where
-        n1 : NotGiven w1 e r.c none w2
+      module _ (o : g ≡ Ok Given.Outside) where
+        n1 : NotGiven w1 s e r.c none w2 s2
         n1 = rw o at gv.case
 
-        pub stays_keepable : Standing L w2 s × Keepable w2 s.charges (field_record r.a 1 r.c r.d 0 0 0 h)
-        stays_keepable = rw n1.words (then_standing st env ad q, field_keepable w1 s.charges r.a 1 r.c r.d 0 0 0 h (later_handle l1 hd) (λ z. absurd (omega arith)))
+        pub stays_keepable : Standing L w2 s2 × Keepable w2 s2.charges (field_record r.a 1 r.c r.d 0 0 0 h)
+        stays_keepable = rw (n1.words, n1.counts) (then_standing st env ad q, field_keepable w1 s.charges r.a 1 r.c r.d 0 0 0 h (later_handle l1 hd) (λ z. absurd (omega arith)))
 
-        pub field_stays : {w3 : List ℕ} {b : Answer} → RecordKept L w2 s (field_record r.a 1 r.c r.d 0 0 0 h) w3 b → FieldDone L w t e new r h w3 b
+        pub field_stays : {w3 : List ℕ} {b : Answer} → RecordKept L w2 s2 (field_record r.a 1 r.c r.d 0 0 0 h) w3 b → FieldDone L w t e new r h w3 b
         unfolding is_field
         field_stays {w3} {b} k =
             let z : is ≡ none = same n1.value in
-            let k1 : RecordKept L w1 s (field_record r.a 1 r.c r.d 0 0 0 h) w3 b = rw n1.words at k in
+            let k1 : RecordKept L w1 s (field_record r.a 1 r.c r.d 0 0 0 h) w3 b = rw (n1.words, n1.counts) at k in
             record {
               does = λ S young c. pays (some (is_field_of r)) (λ u v p. bound_field (is_field_of r) is) (paid_there (some (is_field_of r)) (next S young c none z)) (k1.does S young) (always (λ t' v p. some (is_field_of r) ≡ bound_field (is_field_of r) is) (λ t' v p. rw z) b);
               done = if_map (λ t' v p. KeptAt w1 s (field_record r.a 1 r.c r.d 0 0 0 h) w3 t' v) (λ t' v p. FieldsAfter w h (bound_field (is_field_of r) is) w3 t' v) (λ t' v p y. rw z (fields_since l1 h hd.low (field_kept_lem w1 s.charges r.a 1 r.c r.d 0 0 0 h (later_handle l1 hd) (λ z. absurd (omega arith)) s refl (is_field_of r) refl w3 t' v y))) b k1.done;
             }
 
       -- in a body without a value: it is dropped
-      pub field_dropped : g ≡ Given.Without → FieldDone L w t e new r h w2 (Done s h 0)
+      pub field_dropped : g ≡ Ok Given.Without → FieldDone L w t e new r h w2 (did s2 h 0)
       unfolding is_field somes
       field_dropped o =
-          let n : NotGiven w1 e r.c (some none) w2 = rw o at gv.case in
+          let n : NotGiven w1 s e r.c (some none) w2 s2 = rw o at gv.case in
           let z : is ≡ some none = same n.value in
-          rw n.words
+          rw (n.words, n.counts)
           (record {
             does = λ S young c. finish (next S young c (some none) z) (λ u v p. bound_field (is_field_of r) is) h 0 (rw z);
             done = rw z (record { handle = later_handle l1 hd; list = fields_fixed l1.kept h hd.low ∙ sym (append-nil (fields_at w h)) });
           })
 
       -- with a value: the value
-      module _ {s2 : Counts} {ty class payload : ℕ} (o : g ≡ Given.With s2 ty class payload) where
+      module _ {ty class payload : ℕ} (o : g ≡ Ok (Given.With ty class payload)) where
         gw : GivenValue L w1 s e r.c w2 s2 ty class payload
         gw = rw o at gv.case
 
@@ -134,10 +134,10 @@ module _ (L : Limits) (w : List ℕ) (t : Counts) (e : code.Env) (new : ℕ) (r 
                   (λ t' v p x. rw z (fields_since l12 h hd.low (field_kept_lem w2 s2.charges r.a 0 0 r.d ty class payload h (later_handle l12 hd) gw.ids s2 refl (with_value (is_field_of r) (value_at w1 ty class payload)) (rw gw.same) w3 t' v x))) b k.done;
             }
 
-      pub field_full : {n i j : ℕ} → g ≡ Given.Refused n i j → FieldDone L w t e new r h w2 (Refused n i j)
+      pub field_full : {x' : Refusal} → g ≡ Err x' → FieldDone L w t e new r h w2 (Err x')
       unfolding is_field
-      field_full {n} {i} {j} o =
-          let gr : GivenRefused L w1 s e r.c w2 n i j = rw o at gv.case in
+      field_full {x'} o =
+          let gr : GivenRefused L w1 s e r.c w2 x' = rw o at gv.case in
           let z : is ≡ some (some gr.found) = same gr.cloning.value in
           record {
             does = λ S young c. stop (λ v'. charge (input_of S L) >> ret (some (with_value (is_field_of r) v'))) (paying (input_of S L) (clone (input_of S L) gr.found) (λ v'. ret (some (with_value (is_field_of r) v'))) (next S young c (some (some gr.found)) z)) (gr.cloning.does S young) refl (λ u v p. bound_field (is_field_of r) is);

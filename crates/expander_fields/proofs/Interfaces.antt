@@ -19,17 +19,17 @@ use Rattle.journal_reading.specs.WellFormed.{HandleAt}
 use Rattle.journal_reading.proofs.Chains.{interfaces_fixed, interfaces_new}
 use Rattle.journal_reading.proofs.Fair.{handle_new}
 use Rattle.refine_records.specs.declared.Limits.{Limits}
+use Rattle.std.specs.declared.result.Result.TheVariants.{Ok, Err}
+use Rattle.refine_records.specs.declared.Refusal.{Refusal}
 use Rattle.refine_records.specs.declared.Counts.{Counts}
 use Rattle.refine_records.specs.declared.Env as code
-use Rattle.refine_records.specs.declared.Answer.{Answer}
-use Rattle.refine_records.specs.declared.Answer.TheVariants.{Done, Refused}
 use Rattle.refine_records.specs.Sound.{Source, input_of, Standing, Later, EnvAt, env_of}
-use Rattle.refine_records.specs.Does.{at, Doing}
+use Rattle.refine_records.specs.Does.{Answer, did, at, Doing}
 use Rattle.refine_records.specs.Contract.{Keepable, KeptAt, RecordKept}
 use Rattle.refine_records.proofs.Later.{later_trans, later_standing, later_handle}
 use Rattle.refine_records.proofs.Calculus.{start, turn, step, stop, inner}
 use Rattle.expander_bindings.specs.declared.Given.{Given}
-use Rattle.expander_bindings.specs.Contract.{Associated, NotGiven, GivenValue, GivenRefused, TargetValueGiven, is_interface_of, bound_interface, InterfacesAfter, InterfaceDone}
+use Rattle.expander_bindings.specs.Contract.{Targeted, Associated, NotGiven, GivenValue, GivenRefused, TargetValueGiven, is_interface_of, bound_interface, InterfacesAfter, InterfaceDone}
 use Rattle.expander_bindings.proofs.Steps.{any_source, done_later, always, if_map, pays, paid_last}
 use Rattle.expander_bindings.proofs.Associations.{then_later, then_standing, then_value}
 
@@ -67,10 +67,10 @@ module _ (L : Limits) (w : List ℕ) (t : Counts) (e : code.Env) (new : ℕ) (r 
       inner (associate (input_of S L) (env_of w e) (record { interface = r.d; node = new; field = r.c })) (λ u. rest S own is) (pay S)
       (paid_last (associate (input_of S L) (env_of w e) (record { interface = r.d; node = new; field = r.c }) >>= (λ u. rest S own is)) (start S young (whole S c own) st.sound))
 
-  pub interface_refused : {n i j : ℕ} → a ≡ Refused n i j → InterfaceDone L w t e new r h w1 a
+  pub interface_refused : {x' : Refusal} → a ≡ Err x' → InterfaceDone L w t e new r h w1 a
   interface_refused q = record { does = λ S young c own. stop (λ u. rest S own is >>= pay S) (begin S young c own) (ad.does S young) q (λ u v p. bound_interface r is); done = rw q tt }
 
-  module _ {s : Counts} {v p : ℕ} (q : a ≡ Done s v p) where
+  module _ {s : Counts} {v p : ℕ} (q : a ≡ did s v p) where
     l1 : Later L 0 w t w1 s
     l1 = then_later st env ad q
 
@@ -88,37 +88,37 @@ module _ (L : Limits) (w : List ℕ) (t : Counts) (e : code.Env) (new : ℕ) (r 
           (λ t' v p x. rw (← z) (interfaces_since l h hd.low (interface_kept w2 s2.charges r target ty class payload h (later_handle l hd) load s2 refl y made w3 t' v x))) b k.done;
     }
 
-    module _ {w2 : List ℕ} {g : Given} (gv : TargetValueGiven L w1 s e r.d w2 g) where
+    module _ {w2 : List ℕ} {s2 : Counts} {g : Targeted} (gv : TargetValueGiven L w1 s e r.d w2 s2 g) where
       -- outside a body: it stays
-      module _ (o : g ≡ Given.Outside) where
-        n1 : NotGiven w1 e r.d none w2
+      module _ (o : g ≡ Ok Given.Outside) where
+        n1 : NotGiven w1 s e r.d none w2 s2
         n1 = rw o at gv.case
 
-        pub stays_keepable : Standing L w2 s × Keepable w2 s.charges (interface_record r.a r.b r.c r.d 0 0 0 h)
-        stays_keepable = rw n1.words (then_standing st env ad q, interface_keepable w1 s.charges r r.d 0 0 0 h (later_handle l1 hd) (λ z. absurd (omega arith)))
+        pub stays_keepable : Standing L w2 s2 × Keepable w2 s2.charges (interface_record r.a r.b r.c r.d 0 0 0 h)
+        stays_keepable = rw (n1.words, n1.counts) (then_standing st env ad q, interface_keepable w1 s.charges r r.d 0 0 0 h (later_handle l1 hd) (λ z. absurd (omega arith)))
 
-        pub interface_stays : (r.d ≡ 4294967295 → ⊥) → {w3 : List ℕ} {b : Answer} → RecordKept L w2 s (interface_record r.a r.b r.c r.d 0 0 0 h) w3 b → InterfaceDone L w t e new r h w3 b
+        pub interface_stays : (r.d ≡ 4294967295 → ⊥) → {w3 : List ℕ} {b : Answer} → RecordKept L w2 s2 (interface_record r.a r.b r.c r.d 0 0 0 h) w3 b → InterfaceDone L w t e new r h w3 b
         unfolding is_interface bind_r
         interface_stays ne {w3} {b} k =
             let z : is ≡ none = then_value st env ad q r.d n1.value in
-            keeps r.d 0 0 0 (interface_with (is_interface_of r none) none (some r.d)) (rw z) l1 (λ z. absurd (omega arith)) (rw (ne_eqb r.d 4294967295 ne)) (λ S young c own. next S young c own none z) (rw n1.words at k)
+            keeps r.d 0 0 0 (interface_with (is_interface_of r none) none (some r.d)) (rw z) l1 (λ z. absurd (omega arith)) (rw (ne_eqb r.d 4294967295 ne)) (λ S young c own. next S young c own none z) (rw (n1.words, n1.counts) at k)
 
       -- in a body without a value: it has none
-      module _ (o : g ≡ Given.Without) where
-        n2 : NotGiven w1 e r.d (some none) w2
+      module _ (o : g ≡ Ok Given.Without) where
+        n2 : NotGiven w1 s e r.d (some none) w2 s2
         n2 = rw o at gv.case
 
-        pub bare_keepable : Standing L w2 s × Keepable w2 s.charges (interface_record r.a r.b r.c 4294967295 0 0 0 h)
-        bare_keepable = rw n2.words (then_standing st env ad q, interface_keepable w1 s.charges r 4294967295 0 0 0 h (later_handle l1 hd) (λ z. absurd (omega arith)))
+        pub bare_keepable : Standing L w2 s2 × Keepable w2 s2.charges (interface_record r.a r.b r.c 4294967295 0 0 0 h)
+        bare_keepable = rw (n2.words, n2.counts) (then_standing st env ad q, interface_keepable w1 s.charges r 4294967295 0 0 0 h (later_handle l1 hd) (λ z. absurd (omega arith)))
 
-        pub interface_bare : {w3 : List ℕ} {b : Answer} → RecordKept L w2 s (interface_record r.a r.b r.c 4294967295 0 0 0 h) w3 b → InterfaceDone L w t e new r h w3 b
+        pub interface_bare : {w3 : List ℕ} {b : Answer} → RecordKept L w2 s2 (interface_record r.a r.b r.c 4294967295 0 0 0 h) w3 b → InterfaceDone L w t e new r h w3 b
         unfolding is_interface bind_r
         interface_bare {w3} {b} k =
             let z : is ≡ some none = then_value st env ad q r.d n2.value in
-            keeps 4294967295 0 0 0 (interface_with (is_interface_of r none) none none) (rw z) l1 (λ z. absurd (omega arith)) refl (λ S young c own. next S young c own (some none) z) (rw n2.words at k)
+            keeps 4294967295 0 0 0 (interface_with (is_interface_of r none) none none) (rw z) l1 (λ z. absurd (omega arith)) refl (λ S young c own. next S young c own (some none) z) (rw (n2.words, n2.counts) at k)
 
       -- with a value: the value
-      module _ {s2 : Counts} {ty class payload : ℕ} (o : g ≡ Given.With s2 ty class payload) where
+      module _ {ty class payload : ℕ} (o : g ≡ Ok (Given.With ty class payload)) where
         gw : GivenValue L w1 s e r.d w2 s2 ty class payload
         gw = rw o at gv.case
 
@@ -138,10 +138,10 @@ module _ (L : Limits) (w : List ℕ) (t : Counts) (e : code.Env) (new : ℕ) (r 
             (inner (clone (input_of S L) (value_at w1 ty class payload)) (λ v'. ret (interface_with (is_interface_of r own) (some v') none)) (pay S) (next S young c own (some (some (value_at w1 ty class payload))) z))
             (gw.cloning.does S young) refl) k
 
-      pub interface_full : {n i j : ℕ} → g ≡ Given.Refused n i j → InterfaceDone L w t e new r h w2 (Refused n i j)
+      pub interface_full : {x' : Refusal} → g ≡ Err x' → InterfaceDone L w t e new r h w2 (Err x')
       unfolding is_interface bind_r
-      interface_full {n} {i} {j} o =
-          let gr : GivenRefused L w1 s e r.d w2 n i j = rw o at gv.case in
+      interface_full {x'} o =
+          let gr : GivenRefused L w1 s e r.d w2 x' = rw o at gv.case in
           let z : is ≡ some (some gr.found) = then_value st env ad q r.d gr.cloning.value in
           record {
             does = λ S young c own.

@@ -36,12 +36,12 @@ use Rattle.journal_reading.proofs.Nodes.{calm_same, instances_same}
 use Rattle.journal_reading.specs.RecordsStay.{RecordsStay}
 use Rattle.journal_reading.proofs.States.{Silent, state_one, state_fixed}
 use Rattle.refine_records.specs.declared.Limits.{Limits}
+use Rattle.std.specs.declared.result.Result.TheVariants.{Err}
+use Rattle.refine_records.specs.declared.Refusal.TheVariants.{TooManyRows}
 use Rattle.refine_records.specs.declared.Counts.{Counts}
 use Rattle.refine_records.specs.declared.Env as code
-use Rattle.refine_records.specs.declared.Answer.{Answer}
-use Rattle.refine_records.specs.declared.Answer.TheVariants.{Done, Refused}
 use Rattle.refine_records.specs.Sound.{Source, heads_at, JournalSound, Standing, OfBody, Later, EnvAt}
-use Rattle.refine_records.specs.Does.{number, at}
+use Rattle.refine_records.specs.Does.{Answer, did, number, at}
 use Rattle.refine_records.specs.Contract.{charged}
 use Rattle.refine_records.proofs.Later.{env_known, later_trans, later_node, later_env}
 use Rattle.refine_records.proofs.Grow.{sound_more, later_more, alone, count_other}
@@ -57,7 +57,7 @@ pub named_new : (def old : ℕ) → (def ≡ 4294967295 → ⊥) → optional de
 named_new def old ne = rw (ne_eqb def 4294967295 ne)
 
 -- ---- no charge is left
-pub record_full : (L : Limits) (w : List ℕ) (t : Counts) (e : code.Env) (name def out place : ℕ) → L.rows ≤ t.charges → (a : Answer) → a ≡ Refused 10 0 0 → Recorded L w t e name def out place w a
+pub record_full : (L : Limits) (w : List ℕ) (t : Counts) (e : code.Env) (name def out place : ℕ) → L.rows ≤ t.charges → (a : Answer) → a ≡ Err TooManyRows → Recorded L w t e name def out place w a
 record_full L w t e name def out place h a q = rw q (record { does = λ S young le. change_refused S young number (record_instance name (optional def) e.scope (body_of w t.charges e.scope out place) out) h; done = tt })
 
 -- ---- what is nested
@@ -322,7 +322,7 @@ module _ (L : Limits) (w : List ℕ) (t : Counts) (e : code.Env) (name def out p
   unfolding record_instance
   recorded S = ap (ok out) (state4 S ∙ ap (λ (y : Node). with_nodes (set (nodes_of w c) out y) (one_more (at S w t))) node4) ∙ rw root
 
-  pub record_done : (t' : Counts) → t' ≡ charged t 1 → Recorded L w t e name def out place w4 (Done t' out place)
+  pub record_done : (t' : Counts) → t' ≡ charged t 1 → Recorded L w t e name def out place w4 (did t' out place)
   record_done t' q =
       rw q
       (record {

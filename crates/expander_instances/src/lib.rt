@@ -3,43 +3,37 @@
 ghost use Rattle.std.specs.Prelude.{◌≡◌};
 ghost use Rattle.ast.specs.Choice.{or_else};
 ghost use Rattle.sheet_rows.specs.Parse.{optional};
+ghost use Rattle.refine_records.specs.Does.{copy_given};
 ghost use Rattle.refine_records.specs.Sound.{Standing};
 ghost use Rattle.expander_bindings.specs.Contract.{Remappable, Remapped, Recordable, Recorded};
 
 use ast::NodeId;
 use journal_records;
-use journal_records::Record;
+use journal_records::{Record, words};
 use refine_records;
-use refine_records::{Answer, Counts, Env, Limits};
+use refine_records::{Env, Journal, Limits, NodeCopy, Refusal};
 use sheet_rows::row::NONE;
 use words_lent::wide;
 
 // The routes of a scope of which no instance is recorded yet: their ends as they are in the scope's map now.
-fn remap_routes(work: &mut [u32], lim: Limits, st: Counts, env: Env)
-    requires standing { Standing lim work.old st }
-    requires remappable { Remappable work.old st.charges env }
-    ensures { Remapped lim work.old st env.scope work.new }
+fn remap_routes(journal: &mut Journal<'_>, lim: Limits, env: Env)
+    requires standing { Standing lim journal.old.work.now journal.old.counts }
+    requires remappable { Remappable journal.old.work.now journal.old.counts.charges env }
+    ensures { Remapped lim journal.old.work.now journal.old.counts env.scope journal.new.work.now × (journal.new.counts ≡ journal.old.counts) }
 {
-    let mut cur = wide(journal_records::word(work, env.place, 10));
+    let mut cur = wide(journal.word(env.place, words::scope::ROUTES));
     while 0 < cur {
         let r = cur - 1;
         let from = refine_nodes::remap(
-            work,
+            journal,
             lim,
-            st,
             env,
-            NodeId(journal_records::word(work, r, 6)),
+            NodeId(journal.word(r, words::route::FROM)),
         );
-        let to = refine_nodes::remap(
-            work,
-            lim,
-            st,
-            env,
-            NodeId(journal_records::word(work, r, 7)),
-        );
-        journal_records::set(work, r, 10, from.0);
-        journal_records::set(work, r, 11, to.0);
-        cur = wide(journal_records::word(work, r, 8));
+        let to = refine_nodes::remap(journal, lim, env, NodeId(journal.word(r, words::route::TO)));
+        journal_records::set(journal.work, r, words::route::REMAPPED_FROM, from.0);
+        journal_records::set(journal.work, r, words::route::REMAPPED_TO, to.0);
+        cur = wide(journal.word(r, words::BEFORE));
     }
 }
 
@@ -53,42 +47,37 @@ fn named(def: u32, old: u32) -> u32
 // The record of an instance on its root, whose record is before `place`: name and associations are its own, a nested
 // one's roots and routes follow.
 pub fn record_instance(
-    work: &mut [u32],
+    journal: &mut Journal<'_>,
     lim: Limits,
-    st: Counts,
     inner: Env,
     name: u32,
     def: u32,
-    out: NodeId,
-    place: u32,
-) -> Answer
-    requires standing { Standing lim work.old st }
-    requires recordable { Recordable work.old st.charges inner out.0 place }
-    ensures { Recorded lim work.old st inner name def out.0 place work.new result }
+    out: NodeCopy,
+) -> Result<NodeCopy, Refusal>
+    requires standing { Standing lim journal.old.work.now journal.old.counts }
+    requires recordable { Recordable journal.old.work.now journal.old.counts.charges inner out.id.0 out.place }
+    ensures { Recorded lim journal.old.work.now journal.old.counts inner name def out.id.0 out.place journal.new.work.now (copy_given journal.new.counts result) }
 {
-    let c = st.charges;
+    let c = journal.counts.charges;
     if lim.rows <= c {
-        return refine_records::too_many();
+        return Err(Refusal::TooManyRows);
     }
-    remap_routes(work, lim, st, inner);
+    remap_routes(journal, lim, inner);
     let s = inner.place;
-    let roots = journal_records::word(work, s, 9);
-    let routes = journal_records::word(work, s, 10);
-    let associations = journal_records::word(work, s, 11);
-    let n = wide(place) - 1;
-    let old = journal_records::word(work, n, 4);
-    let nested = journal_records::word(work, n, 11);
+    let roots = journal.word(s, words::scope::ROOTS);
+    let routes = journal.word(s, words::scope::ROUTES);
+    let associations = journal.word(s, words::scope::ASSOCIATIONS);
+    let n = wide(out.place) - 1;
+    let old = journal.word(n, words::node::DEF);
+    let nested = journal.word(n, words::node::INSTANCE);
     let scope = inner.scope;
     journal_records::push(
-        work,
+        journal.work,
         c,
         Record::instance(scope, name, roots, routes, associations, nested),
     );
-    journal_records::set(work, n, 4, named(def, old));
-    journal_records::set(work, n, 11, (c + 1) as u32);
-    Answer::Done {
-        st: refine_records::charged(st, 1),
-        value: out.0,
-        place,
-    }
+    journal_records::set(journal.work, n, words::node::DEF, named(def, old));
+    journal_records::set(journal.work, n, words::node::INSTANCE, (c + 1) as u32);
+    journal.counts = refine_records::charged(journal.counts, 1);
+    Ok(out)
 }

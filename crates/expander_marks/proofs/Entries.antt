@@ -9,16 +9,18 @@ use lib.ListN.{length, get_or, drop}
 use lib.Dec.{eqb}
 use borrow.Author.Tests.{eq-eqb, ne_eqb, not-true, not-false}
 use Rattle.ast.specs.Ast.{FieldValue, FieldBinding, Field, Statement}
-use Rattle.ast.specs.Choice.{choose}
+use Rattle.ast.specs.Choice.{choose, map_o}
 use Rattle.sheet_rows.specs.declared.row.Row.{Row}
 use Rattle.sheet_rows.specs.declared.part.Part.TheVariants.{Fields, Statements}
 use Rattle.sheet_rows.specs.Rows.{blank, front}
 use Rattle.sheet_rows.specs.Parse.{elements, field_of, fields_of, route_of, statement_of, statements_of, value_of as row_value}
 use Rattle.sheet_walks.specs.Walk.{Stands}
 use Rattle.sheet_walks.proofs.WalkLaws.{each_at, each_none, front_drop, from_here, elements_end}
-use Rattle.expansion_definition.specs.Values.{Values}
-use Rattle.journal_index.specs.declared.Newest.{Newest}
-use Rattle.journal_index.specs.declared.Newest.TheVariants.{At, Nothing}
+use Rattle.expansion_definition.specs.Values.{Values, value_named}
+use Rattle.journal_index.specs.Index.{Newest, found_of}
+use Rattle.journal_reading.specs.Reading.{values_at, value_rec}
+use Rattle.std.specs.Option.{is_some}
+use Rattle.std.specs.declared.option.Option.TheVariants.{None, Some}
 use Rattle.refine_records.specs.declared.Env as code
 use Rattle.refine_records.specs.Contract.{ValueFound}
 use Rattle.expander_marks.specs.Kept.{kept_statement, kept_binding, kept_field, field_kept, kept_fields, kept_statements}
@@ -35,13 +37,13 @@ module _ (w : List ℕ) (e : code.Env) (r : Row) where
     kept_outside q = rw (eq-eqb r.b 1 is, not-true e.body q)
 
     module _ (body : not e.body ≡ false) {f : Newest} (x : ValueFound w e.values r.c f) where
-      pub kept_none : f ≡ Nothing → false ≡ field_kept w e r
+      pub kept_searched : is_some f ≡ field_kept w e r
       unfolding field_of
-      kept_none q = rw (eq-eqb r.b 1 is, not-false e.body body, x.same, q)
-
-      pub kept_some : {n : ℕ} → f ≡ At n → true ≡ field_kept w e r
-      unfolding field_of
-      kept_some q = rw (eq-eqb r.b 1 is, not-false e.body body, x.same, q)
+      kept_searched = by f x.same
+        where
+          by : (g : Newest) → value_named r.c (values_at w e.values) ≡ map_o (value_rec w) (found_of g) → is_some g ≡ field_kept w e r
+          by None q = rw (eq-eqb r.b 1 is, not-false e.body body, q)
+          by (Some n) q = rw (eq-eqb r.b 1 is, not-false e.body body, q)
 
 -- of a field from its row on
 kept_front : (vs : Option Values) (l : List Row) → kept_field vs (field_of l) ≡ kept_field vs (field_of (front l ∷ []))

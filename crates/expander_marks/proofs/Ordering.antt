@@ -27,12 +27,12 @@ use Rattle.journal_reading.specs.WellFormed.{HandleAt}
 use Rattle.journal_reading.proofs.Fair.{handle_none, handle_new}
 use Rattle.journal_reading.proofs.Chains.{order_none, order_new_lem}
 use Rattle.refine_records.specs.declared.Limits.{Limits}
+use Rattle.std.specs.declared.result.Result.TheVariants.{Err}
+use Rattle.refine_records.specs.declared.Refusal.{Refusal}
 use Rattle.refine_records.specs.declared.Counts.{Counts}
 use Rattle.refine_records.specs.declared.Env as code
-use Rattle.refine_records.specs.declared.Answer.{Answer}
-use Rattle.refine_records.specs.declared.Answer.TheVariants.{Done, Refused}
 use Rattle.refine_records.specs.Sound.{Source, input_of, Standing, Later, EnvAt, env_of}
-use Rattle.refine_records.specs.Does.{Doing}
+use Rattle.refine_records.specs.Does.{Answer, did, Doing}
 use Rattle.refine_records.specs.Contract.{Keepable, KeptAt, RecordKept}
 use Rattle.refine_records.proofs.Later.{later_standing, later_env, env_later}
 use Rattle.refine_records.proofs.Calculus.{start, finish, step, stop, inner}
@@ -120,7 +120,7 @@ module _ (L : Limits) (R : List Row) (w₀ : List ℕ) (t₀ : Counts) (e : code
   }
 
   module _ {w : List ℕ} {t : Counts} {h place : ℕ} {p : Positions} {x y : Reach} (s : OrderSoFar w t h place p x y) where
-    pub order_end : elements BodyOrder (drop place R) ≡ [] → Ordered L R w₀ t₀ e node w (Done t h 0)
+    pub order_end : elements BodyOrder (drop place R) ≡ [] → Ordered L R w₀ t₀ e node w (did t h 0)
     unfolding kept_order charge_each bind_r
     order_end z = record {
       does = λ S young fs ss ef es.
@@ -192,14 +192,14 @@ module _ (L : Limits) (R : List Row) (w₀ : List ℕ) (t₀ : Counts) (e : code
             unfolding charge_each
             paying = inner (charge (input_of S L)) (λ u. charge_each (input_of S L) (left fs ss (q + 1) n)) (λ v. ret (all fs ss)) (rw longer at (was S young fs ss fit).doing)
 
-          pub order_stop : {i j c : ℕ} → a ≡ Refused i j c → Ordered L R w₀ t₀ e node w' a
+          pub order_stop : {x' : Refusal} → a ≡ Err x' → Ordered L R w₀ t₀ e node w' a
           order_stop u = record {
             does = λ S young fs ss ef es.
                 stop (λ v. charge_each (input_of S L) (left fs ss (q + 1) n) >>= (λ v. ret (all fs ss))) (paying S young fs ss (ef, es)) (kp.does S young) u (λ w v p. order_at w v);
             done = rw u tt;
           }
 
-          pub order_more : {t' : Counts} {v c : ℕ} → a ≡ Done t' v c → OrderSoFar w' t' v (q + 1) n k.fields k.statements
+          pub order_more : {t' : Counts} {v c : ℕ} → a ≡ did t' v c → OrderSoFar w' t' v (q + 1) n k.fields k.statements
           order_more {t'} {v} {c} u =
               let z : KeptAt w t (order_record r.a h) w' t' v = rw u at kp.done in
               let la : Later L 0 w t w' t' = rw u at (kp.does (record { root = []; library = []; depth = 0 }) 0).later in

@@ -14,9 +14,8 @@ use Rattle.journal_reading.specs.WellFormed.{HandleAt}
 use Rattle.refine_records.specs.declared.Limits.{Limits}
 use Rattle.refine_records.specs.declared.Counts.{Counts}
 use Rattle.refine_records.specs.declared.Env as code
-use Rattle.refine_records.specs.declared.Answer.{Answer}
 use Rattle.refine_records.specs.Sound.{Source, input_of, env_of}
-use Rattle.refine_records.specs.Does.{IfDone, Does}
+use Rattle.refine_records.specs.Does.{Answer, IfDone, Does}
 use Rattle.expander_marks.specs.declared.Reach.{Reach}
 use Rattle.expander_marks.specs.declared.Run.{Run}
 use Rattle.expander_marks.specs.declared.Taken.{Taken}

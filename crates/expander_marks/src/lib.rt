@@ -3,6 +3,7 @@
 ghost use Rattle.std.specs.Prelude.{◌≡◌, ◌<◌, [], ◌∷◌, length};
 ghost use Rattle.sheet_rows.specs.Rows.{rows};
 ghost use Rattle.sheet_rows.specs.Parse.{statement_of};
+ghost use Rattle.refine_records.specs.Does.{number_given};
 ghost use Rattle.refine_records.specs.Sound.{Standing, EnvAt, env_of};
 ghost use Rattle.expander_marks.specs.Positions.{bit, MarkAt, AtMark, Stepped};
 ghost use Rattle.expander_marks.specs.Kept.{kept_statement, field_kept, kept_fields, kept_statements};
@@ -10,7 +11,7 @@ ghost use Rattle.expander_marks.specs.Contract.{RunFrom, Fits, reach_after, Know
 
 use journal_records::Record;
 use refine_records;
-use refine_records::{Answer, Counts, Env, Limits};
+use refine_records::{Env, Journal, Limits, Refusal};
 use sheet_rows::part::Part;
 use sheet_rows::row;
 use sheet_rows::row::Row;
@@ -54,10 +55,10 @@ fn bit(b: bool) -> usize
 }
 
 // Whether a field is kept: a value, an IS outside a body, or an IS that has a value in the body.
-fn field_kept(work: &[u32], lim: Limits, st: Counts, env: Env, r: Row) -> bool
-    requires standing { Standing lim work.now st }
-    requires env_at { EnvAt work.now st.charges env }
-    ensures { result ≡ field_kept work.now env r }
+fn field_kept(journal: &Journal<'_>, lim: Limits, env: Env, r: Row) -> bool
+    requires standing { Standing lim journal.now.work.now journal.now.counts }
+    requires env_at { EnvAt journal.now.work.now journal.now.counts.charges env }
+    ensures { result ≡ field_kept journal.now.work.now env r }
 {
     if r.b != 1 {
         return true;
@@ -65,11 +66,7 @@ fn field_kept(work: &[u32], lim: Limits, st: Counts, env: Env, r: Row) -> bool
     if !env.body {
         return true;
     }
-    let journal_index::Newest::At(_) = refine_values::value_of(work, lim, st, env.values, r.c)
-    else {
-        return false;
-    };
-    true
+    refine_values::value_of(journal, lim, env.values, r.c).is_some()
 }
 
 fn statement_kept(r: Row) -> bool
@@ -82,10 +79,10 @@ fn statement_kept(r: Row) -> bool
 }
 
 // The fields from a row on that are kept, up to the first that is not.
-fn kept_fields(sheet: &[u32], work: &[u32], lim: Limits, st: Counts, env: Env, from: usize) -> Run
-    requires standing { Standing lim work.now st }
-    requires env_at { EnvAt work.now st.charges env }
-    ensures { RunFrom (kept_fields (env_of work.now env).is_values (rows sheet.now)) (length (rows sheet.now)) from result }
+fn kept_fields(sheet: &[u32], journal: &Journal<'_>, lim: Limits, env: Env, from: usize) -> Run
+    requires standing { Standing lim journal.now.work.now journal.now.counts }
+    requires env_at { EnvAt journal.now.work.now journal.now.counts.charges env }
+    ensures { RunFrom (kept_fields (env_of journal.now.work.now env).is_values (rows sheet.now)) (length (rows sheet.now)) from result }
 {
     let mut count = 0;
     let mut at = from;
@@ -96,7 +93,7 @@ fn kept_fields(sheet: &[u32], work: &[u32], lim: Limits, st: Counts, env: Env, f
                 row: sheet.len() / 8,
             };
         };
-        if !field_kept(work, lim, st, env, row::row_at(sheet, q)) {
+        if !field_kept(journal, lim, env, row::row_at(sheet, q)) {
             return Run { count, row: q };
         }
         count += 1;
@@ -153,9 +150,8 @@ fn step(sheet: &[u32], row: usize, at: usize, p: Positions) -> Positions
 // Whether the mark at a row is kept: an Interface mark always, another if the entry at its position is.
 fn take(
     sheet: &[u32],
-    work: &[u32],
+    journal: &Journal<'_>,
     lim: Limits,
-    st: Counts,
     env: Env,
     row: usize,
     at: usize,
@@ -163,12 +159,12 @@ fn take(
     fields: Reach,
     statements: Reach,
 ) -> Taken
-    requires standing { Standing lim work.now st }
-    requires env_at { EnvAt work.now st.charges env }
+    requires standing { Standing lim journal.now.work.now journal.now.counts }
+    requires env_at { EnvAt journal.now.work.now journal.now.counts.charges env }
     requires mark_at { MarkAt (rows sheet.now) at }
     requires at_mark { AtMark (rows sheet.now) row at p.field p.statement }
-    requires knows { Knows (env_of work.now env).is_values (rows sheet.now) row p.field p.statement fields statements }
-    ensures { Takes (env_of work.now env).is_values (rows sheet.now) row at p.field p.statement result }
+    requires knows { Knows (env_of journal.now.work.now env).is_values (rows sheet.now) row p.field p.statement fields statements }
+    ensures { Takes (env_of journal.now.work.now env).is_values (rows sheet.now) row at p.field p.statement result }
 {
     let mark = row::row_at(sheet, at).a;
     let field_known = (mark != 0) | (p.field < fields.upto);
@@ -181,7 +177,7 @@ fn take(
         };
     }
     if mark == 0 {
-        let run = kept_fields(sheet, work, lim, st, env, fields.row);
+        let run = kept_fields(sheet, journal, lim, env, fields.row);
         return Taken {
             kept: 0 < run.count,
             fields: reached(p.field, run),
@@ -199,18 +195,16 @@ fn take(
 // The body order of the node at a row, without what was dropped.
 pub fn order(
     sheet: &[u32],
-    work: &mut [u32],
+    journal: &mut Journal<'_>,
     lim: Limits,
-    st: Counts,
     env: Env,
     row: usize,
-) -> Answer
-    requires standing { Standing lim work.old st }
-    requires env_at { EnvAt work.old st.charges env }
+) -> Result<u32, Refusal>
+    requires standing { Standing lim journal.old.work.now journal.old.counts }
+    requires env_at { EnvAt journal.old.work.now journal.old.counts.charges env }
     requires row_in_bounds { row < length (rows sheet.now) }
-    ensures { Ordered lim (rows sheet.now) work.old st env row work.new result }
+    ensures { Ordered lim (rows sheet.now) journal.old.work.now journal.old.counts env row journal.new.work.now (number_given journal.new.counts result) }
 {
-    let mut cur = st;
     let mut h: u32 = 0;
     let mut at = row + 1;
     let mut p = Positions {
@@ -227,30 +221,16 @@ pub fn order(
     };
     loop {
         let Found::At(q) = walk::seek(sheet, Part::BodyOrder, at) else {
-            return Answer::Done {
-                st: cur,
-                value: h,
-                place: 0,
-            };
+            return Ok(h);
         };
         at = q + 1;
         let next = step(sheet, row, q, p);
-        let x = take(sheet, work, lim, cur, env, row, q, p, fields, statements);
+        let x = take(sheet, journal, lim, env, row, q, p, fields, statements);
         p = next;
         fields = x.fields;
         statements = x.statements;
         if x.kept {
-            let a = refine_records::keep(work, lim, cur, Record::order(row::row_at(sheet, q).a, h));
-            let Answer::Done {
-                st: s,
-                value: n,
-                place: _,
-            } = a
-            else {
-                return a;
-            };
-            cur = s;
-            h = n;
+            h = journal.keep(lim, Record::order(row::row_at(sheet, q).a, h))?;
         }
     }
 }

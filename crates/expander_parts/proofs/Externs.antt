@@ -27,11 +27,10 @@ use Rattle.expansion_definition.specs.Charges.{one_more, charge, charge_each}
 use Rattle.expansion_definition.specs.Values.{Env, src}
 use Rattle.expansion_definition.specs.Externs.{lookup_extern, declared, push_extern, declare, extern_proto}
 use Rattle.journal_records.specs.declared.Record.{Record}
-use Rattle.journal_index.specs.declared.Newest.{Newest}
-use Rattle.journal_index.specs.declared.Newest.TheVariants.{At, Nothing}
+use Rattle.std.specs.declared.option.Option.TheVariants.{None, Some}
 use Rattle.journal_records.specs.Records.{tag_extern, tag_node, tag_scope, cell, Paid}
 use Rattle.journal_records.specs.Made.{extern_record}
-use Rattle.journal_index.specs.Index.{newest, found_of, RecordEntered, linked}
+use Rattle.journal_index.specs.Index.{Newest, newest, found_of, RecordEntered, linked}
 use Rattle.journal_lists.specs.Owned.{tagged}
 use Rattle.journal_records.proofs.Lists.{count_low}
 use Rattle.journal_lists.proofs.Owned.{owned_enter}
@@ -44,11 +43,11 @@ use Rattle.journal_reading.specs.RecordsStay.{RecordsStay}
 use Rattle.journal_reading.proofs.States.{more, state_extern, externs_length}
 use Rattle.source_directory.specs.Directory.{number_of}
 use Rattle.refine_records.specs.declared.Limits.{Limits}
+use Rattle.std.specs.declared.result.Result.TheVariants.{Err}
+use Rattle.refine_records.specs.declared.Refusal.TheVariants.{TooManyRows, DanglingExtern}
 use Rattle.refine_records.specs.declared.Counts.{Counts}
-use Rattle.refine_records.specs.declared.Answer.{Answer}
-use Rattle.refine_records.specs.declared.Answer.TheVariants.{Done, Refused}
 use Rattle.refine_records.specs.Sound.{Source, input_of, JournalSound, OfBody, Later}
-use Rattle.refine_records.specs.Does.{at}
+use Rattle.refine_records.specs.Does.{Answer, did, at}
 use Rattle.refine_records.proofs.Later.{later_refl, later_trans}
 use Rattle.refine_records.proofs.Grow.{grown, sound_more, later_more, alone, count_other, count_new}
 use Rattle.refine_records.proofs.Charges.{charge_full, charge_some, each_full, each_some}
@@ -168,7 +167,7 @@ module _ (L : Limits) (root library dir w : List ℕ) (t : Counts) (slot id doc 
     by_doc = rw (here, ← is_doc)
 
   module _ {f : Newest} (find : found_of f ≡ newest w tag_extern doc id t.charges) where
-    pub extern_found : {r : ℕ} → f ≡ At r → (v : ℕ) → v ≡ cell w r 3 → Declared L root library dir w t slot id w (Done t v 0)
+    pub extern_found : {r : ℕ} → f ≡ Some r → (v : ℕ) → v ≡ cell w r 3 → Declared L root library dir w t slot id w (did t v 0)
     unfolding declare
     extern_found {r} q v z = record { does = λ D young e here. record { same = same D e here; later = later_refl young so } }
       where
@@ -179,7 +178,7 @@ module _ (L : Limits) (root library dir w : List ℕ) (t : Counts) (slot id doc 
         same D e here = sym (by_doc D e here ∙ rw known)
 
     -- it is new
-    module _ (new : f ≡ Nothing) where
+    module _ (new : f ≡ None) where
       unknown : lookup_extern (extern_map_of w t.charges) doc id ≡ none
       unknown = extern_lookup w t.charges doc id ∙ rw (← find, new)
 
@@ -187,7 +186,7 @@ module _ (L : Limits) (root library dir w : List ℕ) (t : Counts) (slot id doc 
         loc : Located extern_proto_of (extern_proto_at (root_and_files root library) doc id) (rows (sheet_of root library doc)) x
         loc = rw is_doc found
 
-        pub extern_missing : x ≡ walked.Nothing → Declared L root library dir w t slot id w (Refused 4 doc id)
+        pub extern_missing : x ≡ walked.Nothing → Declared L root library dir w t slot id w (Err (DanglingExtern doc id))
         unfolding declare
         extern_missing q = record { does = λ D young e here. record { same = same D e here; later = tt } }
           where
@@ -207,7 +206,7 @@ module _ (L : Limits) (root library dir w : List ℕ) (t : Counts) (slot id doc 
           unfolding extern_proto_of
           urls = length-map (elements Urls (rest (drop row (rows (sheet_of root library doc))))) url_of ∙ rw (rest_drop (rows (sheet_of root library doc)) row) (sym (rw is_sheet at cb.is))
 
-          pub extern_full : L.rows - t.charges ≤ a + b → {r : Answer} → r ≡ Refused 10 0 0 → Declared L root library dir w t slot id w r
+          pub extern_full : L.rows - t.charges ≤ a + b → {r : Answer} → r ≡ Err TooManyRows → Declared L root library dir w t slot id w r
           unfolding declare
           extern_full h is = rw is (record { does = λ D young e here. record { same = same D e here; later = tt } })
             where
@@ -219,7 +218,7 @@ module _ (L : Limits) (root library dir w : List ℕ) (t : Counts) (slot id doc 
           -- the record, and the rest of the charges
           module _ {w₁ w₂ : List ℕ} {mark : ℕ} (is_mark : mark ≡ mark_of (url_taken (pick_of (document_of (rows root)) (files_of (rows library)) (number_of dir slot) id))) (fits : a + b < L.rows - t.charges) (long₁ : length w₁ ≡ length w) (long₂ : length w₂ ≡ length w₁) where
             pub extern_done : RecordEntered w w₁ (L.rows * 12) L.slots t.charges (extern_record doc id t.externs row slot mark) → Paid w₁ w₂ (t.charges + 1) (a + b)
-                → Declared L root library dir w t slot id w₂ (Done (paid_extern t (a + b)) t.externs 0)
+                → Declared L root library dir w t slot id w₂ (did (paid_extern t (a + b)) t.externs 0)
             unfolding declare
             extern_done en pa = record { does = λ D young e here. record { same = same D e here; later = later_trans (first young) (second young) } }
               where

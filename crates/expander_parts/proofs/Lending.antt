@@ -9,10 +9,9 @@ use lib.Dec.{eqb}
 use Rattle.ast.specs.Choice.{choose}
 use Rattle.sheet_lookup.specs.Lookup.{sheet_of}
 use Rattle.journal_records.specs.declared.Record.{Record}
-use Rattle.journal_index.specs.declared.Newest.{Newest}
-use Rattle.journal_index.specs.declared.Newest.TheVariants.{At}
+use Rattle.std.specs.declared.option.Option.TheVariants.{Some}
 use Rattle.journal_records.specs.Records.{keyed}
-use Rattle.journal_index.specs.Index.{hit, newest, found_of, Findable, Enterable}
+use Rattle.journal_index.specs.Index.{Newest, hit, newest, found_of, Findable, Enterable}
 use Rattle.journal_records.proofs.Lists.{newest_is}
 use Rattle.sheet_rows.specs.Rows.{rows}
 use Rattle.source_directory.specs.Directory.{number_of, from_of, end_of}
@@ -40,7 +39,7 @@ findable {L} {w} {t} s g k = record {
 }
 
 -- what is found is below
-pub found_low : (w : List ℕ) (g x y c : ℕ) {f : Newest} {r : ℕ} → found_of f ≡ newest w g x y c → f ≡ At r → r < c
+pub found_low : (w : List ℕ) (g x y c : ℕ) {f : Newest} {r : ℕ} → found_of f ≡ newest w g x y c → f ≡ Some r → r < c
 found_low w g x y c {f} {r} e q = (newest_is (hit w g x y) c r (sym e ∙ rw q)).0
 
 pub enterable : {L : Limits} {w : List ℕ} {t : Counts} → Standing L w t → t.charges < L.rows → (r : Record) → keyed r.tag ≡ true → Enterable w (L.rows * 12) L.slots t.charges r

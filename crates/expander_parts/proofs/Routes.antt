@@ -23,11 +23,10 @@ use Rattle.journal_reading.proofs.Words.{kept_is}
 use Rattle.journal_reading.proofs.Fair.{handle_new}
 use Rattle.journal_reading.proofs.Chains.{statements_new}
 use Rattle.refine_records.specs.declared.Limits.{Limits}
+use Rattle.std.specs.declared.result.Result.TheVariants.{Ok, Err}
 use Rattle.refine_records.specs.declared.Counts.{Counts}
-use Rattle.refine_records.specs.declared.Answer.{Answer}
-use Rattle.refine_records.specs.declared.Answer.TheVariants.{Done, Refused}
 use Rattle.refine_records.specs.Sound.{Source}
-use Rattle.refine_records.specs.Does.{at}
+use Rattle.refine_records.specs.Does.{Answer, at}
 use Rattle.refine_records.specs.Contract.{EndOf, Keepable, RecordKept}
 use Rattle.expander_parts.specs.Contract.{StatementAppended, Routed}
 
@@ -78,10 +77,10 @@ module _ (L : Limits) (w : List ℕ) (t : Counts) (scope : ℕ) (r : Row) (h : �
 
   pub route_law : {w' : List ℕ} (a : Answer) → RecordKept L w t (route_statement_record r.b r.c r.d r.e from to h) w' a → Routed L w t scope r h w' a
   unfolding copy_route paid bind_r
-  route_law {w'} (Refused n i j) k = record { does = λ S young e q. let z = (k.does S young).same in record { same = rw (← z); later = tt }; done = tt }
-  route_law {w'} (Done t' v p) k =
+  route_law {w'} (Err x') k = record { does = λ S young e q. let z = (k.does S young).same in record { same = rw (← z); later = tt }; done = tt }
+  route_law {w'} (Ok a') k =
       let d = k.done in
-      let y : t'.charges ≡ t.charges + 1 = rw d.counts in
+      let y : a'.st.charges ≡ t.charges + 1 = rw d.counts in
       let u : t.charges + 1 - 1 ≡ t.charges = omega arith in
       record {
         does = λ S young e q.
@@ -90,5 +89,5 @@ module _ (L : Limits) (w : List ℕ) (t : Counts) (scope : ℕ) (r : Row) (h : �
               same = rw (← z, d.handle, u, stated_new w w' t (route_statement_record r.b r.c r.d r.e from to h) refl d.pushed, same_route e q S);
               later = (k.does S young).later;
             };
-        done = rw d.handle (stated w w' t (route_statement_record r.b r.c r.d r.e from to h) refl d.pushed x t' y);
+        done = rw d.handle (stated w w' t (route_statement_record r.b r.c r.d r.e from to h) refl d.pushed x a'.st y);
       }

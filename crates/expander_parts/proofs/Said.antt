@@ -29,12 +29,12 @@ use Rattle.journal_reading.proofs.Fair.{handle_none}
 use Rattle.journal_reading.proofs.Chains.{statements_none, statements_fixed}
 use Rattle.source_directory.specs.Directory.{number_of}
 use Rattle.refine_records.specs.declared.Limits.{Limits}
+use Rattle.std.specs.declared.result.Result.TheVariants.{Ok, Err}
+use Rattle.refine_records.specs.declared.Refusal.{Refusal}
 use Rattle.refine_records.specs.declared.Counts.{Counts}
 use Rattle.refine_records.specs.declared.Env as code
-use Rattle.refine_records.specs.declared.Answer.{Answer}
-use Rattle.refine_records.specs.declared.Answer.TheVariants.{Done, Refused}
 use Rattle.refine_records.specs.Sound.{Source, input_of, JournalSound, Standing, Later, EnvAt}
-use Rattle.refine_records.specs.Does.{at, Doing}
+use Rattle.refine_records.specs.Does.{Answer, did, at, Doing}
 use Rattle.refine_records.specs.Contract.{Keepable, RecordKept}
 use Rattle.refine_records.proofs.Later.{later_refl, later_standing, later_handle, later_env}
 use Rattle.refine_records.proofs.Calculus.{start, turn, finish, step, stop, each, each_end, last, paying}
@@ -80,13 +80,13 @@ module _ (L : Limits) (root library dir w : List ℕ) (t : Counts) (slot id h : 
   left : (D young : ℕ) (e : Env) → Doing (S D) L young (copy_extern (input_of (S D) L) e id) w t (extern_proto (input_of (S D) L) e id >>= (λ n. charge (input_of (S D) L) >> ret (some (Statement.ExternProto n)))) w t
   left D young e = paying (input_of (S D) L) (extern_proto (input_of (S D) L) e id) (λ n. ret (some (Statement.ExternProto n))) (begun D young e)
 
-  pub extern_stopped : {w' : List ℕ} {a : Answer} {n i j : ℕ} → Declared L root library dir w t slot id w' a → a ≡ Refused n i j → ExternStated L root library dir w t slot id h w' a
-  extern_stopped {w'} {a} {n} {i} {j} d q = record {
+  pub extern_stopped : {w' : List ℕ} {a : Answer} {x' : Refusal} → Declared L root library dir w t slot id w' a → a ≡ Err x' → ExternStated L root library dir w t slot id h w' a
+  extern_stopped {w'} {a} {x'} d q = record {
     does = λ D young e here. stop (λ n. charge (input_of (S D) L) >> ret (some (Statement.ExternProto n))) (left D young e) (d.does D young e here) q statement_at;
     done = rw q tt;
   }
 
-  module _ {w₁ : List ℕ} {a : Answer} {s : Counts} {n p : ℕ} (d : Declared L root library dir w t slot id w₁ a) (q : a ≡ Done s n p) where
+  module _ {w₁ : List ℕ} {a : Answer} {s : Counts} {n p : ℕ} (d : Declared L root library dir w t slot id w₁ a) (q : a ≡ did s n p) where
     gone : (young : ℕ) → Later L young w t w₁ s
     gone young = rw q at (d.does 0 young (env_for 0 (number_of dir slot)) refl).later
 
@@ -104,16 +104,16 @@ module _ (L : Limits) (root library dir w : List ℕ) (t : Counts) (slot id h : 
     is_extern {w₂} y v z = let u : s.charges + 1 - 1 ≡ s.charges = omega arith in rw (z, u, stated_new w₁ w₂ s (statement_record 2 n h) refl y)
 
     pub extern_stated : {w₂ : List ℕ} (b : Answer) → RecordKept L w₁ s (statement_record 2 n h) w₂ b → ExternStated L root library dir w t slot id h w₂ b
-    extern_stated {w₂} (Refused m i j) k = record { does = λ D young e here. stop (λ u. ret (some (Statement.ExternProto n))) (after D young e here) (k.does (S D) young) refl statement_at; done = tt }
-    extern_stated {w₂} (Done t' v p') k =
+    extern_stated {w₂} (Err x') k = record { does = λ D young e here. stop (λ u. ret (some (Statement.ExternProto n))) (after D young e here) (k.does (S D) young) refl statement_at; done = tt }
+    extern_stated {w₂} (Ok a') k =
         let y = k.done in
         record {
           does = λ D young e here.
-              finish (step (λ u. ret (some (Statement.ExternProto n))) (after D young e here) (k.does (S D) young) refl) statement_at v p' (ap some (is_extern y.pushed v y.handle));
-          done = rw y.handle (moved (stated w₁ w₂ s (statement_record 2 n h) refl y.pushed extern_handle t' (rw y.counts)));
+              finish (step (λ u. ret (some (Statement.ExternProto n))) (after D young e here) (k.does (S D) young) refl) statement_at a'.value a'.place (ap some (is_extern y.pushed a'.value y.handle));
+          done = rw y.handle (moved (stated w₁ w₂ s (statement_record 2 n h) refl y.pushed extern_handle a'.st (rw y.counts)));
         }
       where
-        moved : {v : ℕ} → StatementAppended w₁ h w₂ t' v → StatementAppended w h w₂ t' v
+        moved : {v : ℕ} → StatementAppended w₁ h w₂ a'.st v → StatementAppended w h w₂ a'.st v
         moved z = record { handle = z.handle; list = z.list ∙ rw (statements_fixed (gone 0).kept h x.low) }
 
 -- ---- one statement, by its row
@@ -131,18 +131,18 @@ module _ (L : Limits) (root library dir w : List ℕ) (t : Counts) (e : code.Env
 
   pub one_route : r.a ≡ 3 → {w' : List ℕ} (a : Answer) → Routed L w t e.scope r h w' a → StatementCopied L root library dir w t e r h w' a
   unfolding copy_statement somes
-  one_route q {w'} (Refused n i j) x = record { out = none; does = λ D young E es ed. record { same = rw (is_route q) (x.does (source_of root library D) young E es).same; later = tt }; done = tt }
-  one_route q {w'} (Done t' v p) x = record {
-    out = some (statement_rec w' (v - 1));
+  one_route q {w'} (Err x') x = record { out = none; does = λ D young E es ed. record { same = rw (is_route q) (x.does (source_of root library D) young E es).same; later = tt }; done = tt }
+  one_route q {w'} (Ok a') x = record {
+    out = some (statement_rec w' (a'.value - 1));
     does = λ D young E es ed. record { same = rw (is_route q) (x.does (source_of root library D) young E es).same; later = (x.does (source_of root library D) young E es).later };
     done = record { handle = x.done.handle; list = x.done.list; kept = rw (is_route q) };
   }
 
   pub one_extern_lem : r.a ≡ 2 → {w' : List ℕ} (a : Answer) → ExternStated L root library dir w t e.slot r.b h w' a → StatementCopied L root library dir w t e r h w' a
   unfolding copy_statement somes
-  one_extern_lem q {w'} (Refused n i j) x = record { out = none; does = λ D young E es ed. record { same = rw (is_proto q) (x.does D young E ed).same; later = tt }; done = tt }
-  one_extern_lem q {w'} (Done t' v p) x = record {
-    out = some (statement_rec w' (v - 1));
+  one_extern_lem q {w'} (Err x') x = record { out = none; does = λ D young E es ed. record { same = rw (is_proto q) (x.does D young E ed).same; later = tt }; done = tt }
+  one_extern_lem q {w'} (Ok a') x = record {
+    out = some (statement_rec w' (a'.value - 1));
     does = λ D young E es ed. record { same = rw (is_proto q) (x.does D young E ed).same; later = (x.does D young E ed).later };
     done = record { handle = x.done.handle; list = x.done.list; kept = rw (is_proto q) };
   }
@@ -160,7 +160,7 @@ module _ (L : Limits) (root library dir w : List ℕ) (t : Counts) (e : code.Env
         by (suc (suc (suc zero))) q = absurd (nr q)
         by (suc (suc (suc (suc n)))) q = z
 
-    pub one_dropped : JournalSound L w t → HandleAt w t.charges tag_statement h → StatementCopied L root library dir w t e r h w (Done t h 0)
+    pub one_dropped : JournalSound L w t → HandleAt w t.charges tag_statement h → StatementCopied L root library dir w t e r h w (did t h 0)
     unfolding copy_statement somes
     one_dropped so x = record {
       out = none;
@@ -211,7 +211,7 @@ module _ (L : Limits) (root library dir w₀ : List ℕ) (t₀ : Counts) (e : co
   }
 
   module _ {w : List ℕ} {t : Counts} {h place : ℕ} (x : SaidSoFar w t h place) where
-    pub said_end : elements Statements (drop place R) ≡ [] → StatementsCopied L root library dir w₀ t₀ e row w (Done t h 0)
+    pub said_end : elements Statements (drop place R) ≡ [] → StatementsCopied L root library dir w₀ t₀ e row w (did t h 0)
     said_end z =
         let y = statements_end R place z in
         record {
@@ -226,14 +226,14 @@ module _ (L : Limits) (root library dir w₀ : List ℕ) (t₀ : Counts) (e : co
           → Doing (source_of root library D) L young (map_m (copy D E) source) w₀ t₀ (copy D E (statement_of (r ∷ [])) >>= (λ b. map_m (copy D E) (statements_of (drop (q + 1) R)) >>= (λ l. ret (x.before ++ (b ∷ l))))) w t
       begins D young E es ed = each (copy D E) (statement_of (r ∷ [])) (statements_of (drop (q + 1) R)) (λ l. ret (x.before ++ l)) (rw (statements_at_lem s is) at (x.doing D young E es ed))
 
-      pub said_stop : {n i j : ℕ} → a ≡ Refused n i j → StatementsCopied L root library dir w₀ t₀ e row w' a
+      pub said_stop : {x' : Refusal} → a ≡ Err x' → StatementsCopied L root library dir w₀ t₀ e row w' a
       said_stop u = record {
         out = [];
         does = λ D young E es ed. stop (λ b. map_m (copy D E) (statements_of (drop (q + 1) R)) >>= (λ l. ret (x.before ++ (b ∷ l)))) (begins D young E es ed) (o.does D young E es ed) u (λ w v p. []);
         done = rw u tt;
       }
 
-      pub said_more : {t' : Counts} {v p : ℕ} → a ≡ Done t' v p → SaidSoFar w' t' v (q + 1)
+      pub said_more : {t' : Counts} {v p : ℕ} → a ≡ did t' v p → SaidSoFar w' t' v (q + 1)
       said_more {t'} {v} {p} u =
           let k : OneKept (statement_of (r ∷ [])) o.out w h w' t' v = rw u at o.done in
           let la : Later L 0 w t w' t' = rw u at (o.does 0 0 (env_for e.scope (number_of dir e.slot)) refl refl).later in

@@ -20,9 +20,8 @@ use Rattle.source_lookup.specs.Sourced.{Sourced}
 use Rattle.refine_records.specs.declared.Limits.{Limits}
 use Rattle.refine_records.specs.declared.Counts.{Counts}
 use Rattle.refine_records.specs.declared.Env as code
-use Rattle.refine_records.specs.declared.Answer.{Answer}
 use Rattle.refine_records.specs.Sound.{Source, input_of, heads_at, env_of}
-use Rattle.refine_records.specs.Does.{Decode, number, IfDone, Does}
+use Rattle.refine_records.specs.Does.{Answer, Decode, number, IfDone, Does}
 use Rattle.expander_marks.specs.Positions.{is_some}
 use Rattle.expander_marks.specs.Kept.{kept_statement, kept_field}
 

@@ -1,21 +1,22 @@
 #![tactic(auto)]
 // Steps of an expansion that copy no node: externs, routes, a node's statements and its body order.
-ghost use Rattle.std.specs.Prelude.{◌<◌, ◌≤◌, length};
+ghost use Rattle.std.specs.Prelude.{◌<◌, length};
 ghost use Rattle.sheet_rows.specs.Rows.{rows};
 ghost use Rattle.journal_records.specs.Records.{tag_statement};
 ghost use Rattle.journal_reading.specs.Reading.{map_of};
 ghost use Rattle.journal_reading.specs.WellFormed.{HandleAt};
 ghost use Rattle.source_directory.specs.Directory.{number_of, Slot};
 ghost use Rattle.sheet_lookup.specs.Lookup.{sheet_of};
+ghost use Rattle.refine_records.specs.Does.{number_given};
 ghost use Rattle.refine_records.specs.Sound.{Standing, EnvAt};
-ghost use Rattle.expander_parts.specs.Contract.{Lent, Counted, Declared, Routed, ExternStated, StatementCopied, StatementsCopied, OrderCopied};
+ghost use Rattle.expander_parts.specs.Contract.{Lent, Declared, Routed, ExternStated, StatementCopied, StatementsCopied, OrderCopied};
 
 use ast::{ExternProtoId, NodeId};
 use expander_marks;
 use journal_records;
-use journal_records::Record;
+use journal_records::{Record, words};
 use refine_records;
-use refine_records::{Answer, Counts, Env, Limits};
+use refine_records::{Env, Journal, Limits, Refusal};
 use sheet_lookup::rows;
 use sheet_rows::part::Part;
 use sheet_rows::row;
@@ -23,248 +24,166 @@ use sheet_rows::row::Row;
 use sheet_walks::walk;
 use sheet_walks::walk::Found;
 use source_directory;
-use source_lookup;
-
-// How many elements a part has from a row on.
-fn count(sheet: &[u32], part: Part, from: usize) -> usize
-    requires { from ≤ length (rows sheet.now) }
-    ensures { Counted part (rows sheet.now) from result }
-{
-    let mut n = 0;
-    let mut at = from;
-    loop {
-        let Found::At(q) = walk::seek(sheet, part, at) else {
-            return n;
-        };
-        n += 1;
-        at = q + 1;
-    }
-}
+use source_lookup::Sources;
 
 // An extern's id in the output: declared once per document and id.
-pub fn extern_proto<'a>(
-    root: &'a [u32],
-    library: &'a [u32],
-    dir: &[u32],
-    work: &mut [u32],
+pub fn extern_proto(
+    sources: &Sources<'_>,
+    journal: &mut Journal<'_>,
     lim: Limits,
-    st: Counts,
     slot: u32,
     id: ExternProtoId,
-) -> Answer
-    requires standing { Standing lim work.old st }
-    requires lent { Lent lim root.now library.now dir.now work.old }
-    requires slot { Slot dir.now slot }
-    ensures { Declared lim root.now library.now dir.now work.old st slot id.0 work.new result }
+) -> Result<u32, Refusal>
+    requires standing { Standing lim journal.old.work.now journal.old.counts }
+    requires lent { Lent lim sources.now.root.now sources.now.library.now sources.now.dir.now journal.old.work.now }
+    requires slot { Slot sources.now.dir.now slot }
+    ensures { Declared lim sources.now.root.now sources.now.library.now sources.now.dir.now journal.old.work.now journal.old.counts slot id.0 journal.new.work.now (number_given journal.new.counts result) }
 {
-    let document = source_directory::number(dir, slot);
-    let c = st.charges;
-    if let journal_index::Newest::At(r) = journal_index::find(
-        work,
-        lim.rows * 12,
-        lim.slots,
-        c,
-        journal_records::TAG_EXTERN,
-        document,
-        id.0,
-    ) {
-        return Answer::Done {
-            st,
-            value: journal_records::word(work, r, 3),
-            place: 0,
-        };
+    let document = source_directory::number(sources.dir, slot);
+    let c = journal.counts.charges;
+    if let Some(r) = journal.find(lim, journal_records::TAG_EXTERN, document, id.0) {
+        return Ok(journal.word(r, words::extern_proto::OUT));
     }
-    let Found::At(at) = source_lookup::extern_proto(root, library, dir, work, slot, id) else {
-        return Answer::Refused {
-            number: 4,
-            first: document,
-            second: id.0,
-        };
+    let Found::At(at) = sources.extern_proto(journal.lent(), slot, id) else {
+        return Err(Refusal::DanglingExtern { document, id: id.0 });
     };
-    let sheet = rows::select(root, library, document);
-    let n = count(sheet, Part::Interfaces, at + 1) + count(sheet, Part::Urls, at + 1);
+    let sheet = rows::select(sources.root, sources.library, document);
+    let n = walk::count(sheet, Part::Interfaces, at + 1) + walk::count(sheet, Part::Urls, at + 1);
     if lim.rows - c <= n {
-        return refine_records::too_many();
+        return Err(Refusal::TooManyRows);
     }
-    let out = st.externs as u32;
+    let out = journal.counts.externs as u32;
     let row = at as u32;
-    let mark = source_lookup::mark(root, library, dir, work, slot, id);
+    let mark = sources.mark(journal.lent(), slot, id);
     journal_index::enter(
-        work,
+        journal.work,
         lim.rows * 12,
         lim.slots,
         c,
         Record::extern_entry(document, id.0, out, row, slot, mark),
     );
-    journal_records::paid(work, c + 1, n);
-    let externs = st.externs + 1;
-    let charges = c + 1 + n;
-    let t = Counts {
-        nodes: st.nodes,
-        scopes: st.scopes,
-        externs,
-        charges,
-    };
-    Answer::Done {
-        st: t,
-        value: out,
-        place: 0,
-    }
+    journal_records::paid(journal.work, c + 1, n);
+    journal.counts.externs += 1;
+    journal.counts.charges = c + 1 + n;
+    Ok(out)
 }
 
 // The Route statement of a row, its ends remapped, behind those of a handle.
-pub fn route(work: &mut [u32], lim: Limits, st: Counts, env: Env, r: Row, h: u32) -> Answer
-    requires standing { Standing lim work.old st }
-    requires env_at { EnvAt work.old st.charges env }
-    requires handle_at { HandleAt work.old st.charges tag_statement h }
-    ensures { Routed lim work.old st env.scope r h work.new result }
+pub fn route(
+    journal: &mut Journal<'_>,
+    lim: Limits,
+    env: Env,
+    r: Row,
+    h: u32,
+) -> Result<u32, Refusal>
+    requires standing { Standing lim journal.old.work.now journal.old.counts }
+    requires env_at { EnvAt journal.old.work.now journal.old.counts.charges env }
+    requires handle_at { HandleAt journal.old.work.now journal.old.counts.charges tag_statement h }
+    ensures { Routed lim journal.old.work.now journal.old.counts env.scope r h journal.new.work.now (number_given journal.new.counts result) }
 {
-    let from = refine_nodes::remap(work, lim, st, env, NodeId(r.f));
-    let to = refine_nodes::remap(work, lim, st, env, NodeId(r.g));
-    refine_records::keep(
-        work,
+    let from = refine_nodes::remap(journal, lim, env, NodeId(r.f));
+    let to = refine_nodes::remap(journal, lim, env, NodeId(r.g));
+    journal.keep(
         lim,
-        st,
         Record::route_statement(r.b, r.c, r.d, r.e, from.0, to.0, h),
     )
 }
 
 // An ExternProto statement, behind those of a handle.
-pub fn extern_statement<'a>(
-    root: &'a [u32],
-    library: &'a [u32],
-    dir: &[u32],
-    work: &mut [u32],
+pub fn extern_statement(
+    sources: &Sources<'_>,
+    journal: &mut Journal<'_>,
     lim: Limits,
-    st: Counts,
     slot: u32,
     id: ExternProtoId,
     h: u32,
-) -> Answer
-    requires standing { Standing lim work.old st }
-    requires lent { Lent lim root.now library.now dir.now work.old }
-    requires slot { Slot dir.now slot }
-    requires handle_at { HandleAt work.old st.charges tag_statement h }
-    ensures { ExternStated lim root.now library.now dir.now work.old st slot id.0 h work.new result }
+) -> Result<u32, Refusal>
+    requires standing { Standing lim journal.old.work.now journal.old.counts }
+    requires lent { Lent lim sources.now.root.now sources.now.library.now sources.now.dir.now journal.old.work.now }
+    requires slot { Slot sources.now.dir.now slot }
+    requires handle_at { HandleAt journal.old.work.now journal.old.counts.charges tag_statement h }
+    ensures { ExternStated lim sources.now.root.now sources.now.library.now sources.now.dir.now journal.old.work.now journal.old.counts slot id.0 h journal.new.work.now (number_given journal.new.counts result) }
 {
-    let a = extern_proto(root, library, dir, work, lim, st, slot, id);
-    let Answer::Done {
-        st: s,
-        value: n,
-        place: _,
-    } = a
-    else {
-        return a;
-    };
-    refine_records::keep(work, lim, s, Record::statement(2, n, h))
+    let value = extern_proto(sources, journal, lim, slot, id)?;
+    journal.keep(lim, Record::statement(2, value, h))
 }
 
 // A statement of a node, by its row, behind those of a handle: Route and ExternProto are kept.
-fn statement<'a>(
-    root: &'a [u32],
-    library: &'a [u32],
-    dir: &[u32],
-    work: &mut [u32],
+fn statement(
+    sources: &Sources<'_>,
+    journal: &mut Journal<'_>,
     lim: Limits,
-    st: Counts,
     env: Env,
     r: Row,
     h: u32,
-) -> Answer
-    requires standing { Standing lim work.old st }
-    requires env_at { EnvAt work.old st.charges env }
-    requires lent { Lent lim root.now library.now dir.now work.old }
-    requires slot { Slot dir.now env.slot }
-    requires handle_at { HandleAt work.old st.charges tag_statement h }
-    ensures { StatementCopied lim root.now library.now dir.now work.old st env r h work.new result }
+) -> Result<u32, Refusal>
+    requires standing { Standing lim journal.old.work.now journal.old.counts }
+    requires env_at { EnvAt journal.old.work.now journal.old.counts.charges env }
+    requires lent { Lent lim sources.now.root.now sources.now.library.now sources.now.dir.now journal.old.work.now }
+    requires slot { Slot sources.now.dir.now env.slot }
+    requires handle_at { HandleAt journal.old.work.now journal.old.counts.charges tag_statement h }
+    ensures { StatementCopied lim sources.now.root.now sources.now.library.now sources.now.dir.now journal.old.work.now journal.old.counts env r h journal.new.work.now (number_given journal.new.counts result) }
 {
     if r.a == 3 {
-        return route(work, lim, st, env, r, h);
+        return route(journal, lim, env, r, h);
     }
     if r.a == 2 {
         let id = ExternProtoId(r.b);
-        return extern_statement(root, library, dir, work, lim, st, env.slot, id, h);
+        return extern_statement(sources, journal, lim, env.slot, id, h);
     }
-    Answer::Done {
-        st,
-        value: h,
-        place: 0,
-    }
+    Ok(h)
 }
 
 // The statements of the node at a row: Route and ExternProto only.
-pub fn statements<'a>(
-    root: &'a [u32],
-    library: &'a [u32],
-    dir: &[u32],
-    work: &mut [u32],
+pub fn statements(
+    sources: &Sources<'_>,
+    journal: &mut Journal<'_>,
     lim: Limits,
-    st: Counts,
     env: Env,
     row: usize,
-) -> Answer
-    requires standing { Standing lim work.old st }
-    requires env_at { EnvAt work.old st.charges env }
-    requires lent { Lent lim root.now library.now dir.now work.old }
-    requires slot { Slot dir.now env.slot }
-    requires row_in_bounds { row < length (rows (sheet_of root.now library.now (number_of dir.now env.slot))) }
-    ensures { StatementsCopied lim root.now library.now dir.now work.old st env row work.new result }
+) -> Result<u32, Refusal>
+    requires standing { Standing lim journal.old.work.now journal.old.counts }
+    requires env_at { EnvAt journal.old.work.now journal.old.counts.charges env }
+    requires lent { Lent lim sources.now.root.now sources.now.library.now sources.now.dir.now journal.old.work.now }
+    requires slot { Slot sources.now.dir.now env.slot }
+    requires row_in_bounds { row < length (rows (sheet_of sources.now.root.now sources.now.library.now (number_of sources.now.dir.now env.slot))) }
+    ensures { StatementsCopied lim sources.now.root.now sources.now.library.now sources.now.dir.now journal.old.work.now journal.old.counts env row journal.new.work.now (number_given journal.new.counts result) }
 {
-    let mut cur = st;
     let mut h: u32 = 0;
     let mut at = row + 1;
     loop {
-        let sheet = rows::select(root, library, source_directory::number(dir, env.slot));
+        let sheet = rows::select(
+            sources.root,
+            sources.library,
+            source_directory::number(sources.dir, env.slot),
+        );
         let Found::At(q) = walk::seek(sheet, Part::Statements, at) else {
-            return Answer::Done {
-                st: cur,
-                value: h,
-                place: 0,
-            };
+            return Ok(h);
         };
         at = q + 1;
-        let a = statement(
-            root,
-            library,
-            dir,
-            work,
-            lim,
-            cur,
-            env,
-            row::row_at(sheet, q),
-            h,
-        );
-        let Answer::Done {
-            st: s,
-            value: n,
-            place: _,
-        } = a
-        else {
-            return a;
-        };
-        cur = s;
-        h = n;
+        h = statement(sources, journal, lim, env, row::row_at(sheet, q), h)?;
     }
 }
 
 // The body order of the node at a row, without what was dropped.
-pub fn order<'a>(
-    root: &'a [u32],
-    library: &'a [u32],
-    dir: &[u32],
-    work: &mut [u32],
+pub fn order(
+    sources: &Sources<'_>,
+    journal: &mut Journal<'_>,
     lim: Limits,
-    st: Counts,
     env: Env,
     row: usize,
-) -> Answer
-    requires standing { Standing lim work.old st }
-    requires lent { Lent lim root.now library.now dir.now work.old }
-    requires slot { Slot dir.now env.slot }
-    requires env_at { EnvAt work.old st.charges env }
-    requires row_in_bounds { row < length (rows (sheet_of root.now library.now (number_of dir.now env.slot))) }
-    ensures { OrderCopied lim root.now library.now dir.now work.old st env row work.new result }
+) -> Result<u32, Refusal>
+    requires standing { Standing lim journal.old.work.now journal.old.counts }
+    requires lent { Lent lim sources.now.root.now sources.now.library.now sources.now.dir.now journal.old.work.now }
+    requires slot { Slot sources.now.dir.now env.slot }
+    requires env_at { EnvAt journal.old.work.now journal.old.counts.charges env }
+    requires row_in_bounds { row < length (rows (sheet_of sources.now.root.now sources.now.library.now (number_of sources.now.dir.now env.slot))) }
+    ensures { OrderCopied lim sources.now.root.now sources.now.library.now sources.now.dir.now journal.old.work.now journal.old.counts env row journal.new.work.now (number_given journal.new.counts result) }
 {
-    let sheet = rows::select(root, library, source_directory::number(dir, env.slot));
-    expander_marks::order(sheet, work, lim, st, env, row)
+    let sheet = rows::select(
+        sources.root,
+        sources.library,
+        source_directory::number(sources.dir, env.slot),
+    );
+    expander_marks::order(sheet, journal, lim, env, row)
 }

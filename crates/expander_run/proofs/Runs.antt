@@ -21,17 +21,17 @@ use Rattle.journal_reading.proofs.States.{scopes_length_lem}
 use Rattle.source_setup.specs.Prepared.{Fit, Prepared}
 use Rattle.refine_records.specs.declared.Limits.{Limits}
 use Rattle.refine_records.specs.declared.Counts.{Counts}
-use Rattle.refine_records.specs.declared.Answer.TheVariants as answered
+use Rattle.std.specs.declared.result.Result.TheVariants.{Ok, Err}
+use Rattle.refine_records.specs.declared.Refusal.{Refusal}
 use Rattle.refine_records.specs.Sound.{Source, JournalSound}
-use Rattle.refine_records.specs.Does.{at}
+use Rattle.refine_records.specs.Does.{did, at}
 use Rattle.refine_records.proofs.Beginning.{sound_none}
 use Rattle.expander_parts.specs.Contract.{source_of}
 use Rattle.expander_contracts.specs.Contract.{NothingRecorded, TopStatementsCopied}
 use Rattle.writer_lists.specs.Writing.{Pasted}
 use Rattle.writer_pass.specs.Document.{journal_document, journal_rows, Written}
-use Rattle.expander_run.specs.declared.Outcome.{Outcome}
-use Rattle.expander_run.specs.declared.Outcome.TheVariants.{Expanded, Refused}
-use Rattle.expander_run.specs.Calls.{call_of, after_of, Allowed, Ran, Writable, written}
+use Rattle.expander_run.specs.declared.Expanded.{Expanded}
+use Rattle.expander_run.specs.Calls.{Outcome, call_of, after_of, Allowed, Ran, Writable, written}
 
 module _ (root library : List ℕ) (n d k : ℕ) (out ledger scopes work : List ℕ) (g : Allowed (call_of root library n d k out ledger scopes work)) where
   abbrev c : Call
@@ -70,12 +70,12 @@ module _ (root library : List ℕ) (n d k : ℕ) (out ledger scopes work : List 
     }
 
     -- ---- refused
-    pub run_refused : {w' : List ℕ} {m i j : ℕ} → TopStatementsCopied root library w L d w' (answered.Refused m i j) → Ran c (Refused m i j) out ledger scopes
+    pub run_refused : {w' : List ℕ} {x' : Refusal} → TopStatementsCopied root library w L d w' (Err x') → Ran c (Err x') out ledger scopes
     unfolding expand answer
     run_refused t = rw (sym t.same)
 
     -- ---- accepted
-    module _ {w' : List ℕ} {t : Counts} {v o : ℕ} (x : TopStatementsCopied root library w L d w' (answered.Done t v o)) where
+    module _ {w' : List ℕ} {t : Counts} {v o : ℕ} (x : TopStatementsCopied root library w L d w' (did t v o)) where
       abbrev e : Expansion
       e = expansion (input c) (statements_at w' v) (at S w' t)
 
@@ -124,5 +124,5 @@ module _ (root library w : List ℕ) (t : Counts) (tops : ℕ) (out ledger scope
   begun : {text o o' : List ℕ} → Pasted text o o' 0 → o' ≡ over text o
   begun {text} u = let z : 0 + length text ≡ length text = omega arith in u.same ∙ rw z
 
-  pub written_is : {out' ledger' scopes' : List ℕ} {n : ℕ} → Written R w t.charges out out' ledger ledger' scopes scopes' n → after_of (Expanded t.nodes t.scopes t.charges n) out' ledger' scopes' ≡ written root library w t tops out ledger scopes
+  pub written_is : {out' ledger' scopes' : List ℕ} {n : ℕ} → Written R w t.charges out out' ledger ledger' scopes scopes' n → after_of (Ok (record { nodes = t.nodes; scopes = t.scopes; charges = t.charges; rows = n })) out' ledger' scopes' ≡ written root library w t tops out ledger scopes
   written_is {n = n} u = let q : n ≡ length R = omega (arith, u.rows.sum) in rw (begun u.rows.pasted, begun u.ledger, begun u.scopes, q)

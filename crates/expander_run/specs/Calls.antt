@@ -10,8 +10,17 @@ use Rattle.journal_reading.specs.Reading.{ledger_of, scopes_of}
 use Rattle.refine_records.specs.declared.Counts.{Counts}
 use Rattle.writer_pass.specs.Document.{journal_rows, Printable}
 use Rattle.writer_tables.specs.Tables.{scope_text, ledger_text}
-use Rattle.expander_run.specs.declared.Outcome.{Outcome}
-use Rattle.expander_run.specs.declared.Outcome.TheVariants.{Expanded, Refused}
+use Rattle.std.specs.declared.result.Result as either
+use Rattle.std.specs.declared.result.Result.TheVariants.{Ok, Err}
+pub use Rattle.refine_records.specs.declared.Refusal.{Refusal}
+pub use Rattle.refine_records.specs.declared.Refusal.TheVariants.{NoRoom, WrongLength, Malformed}
+pub use Rattle.refine_records.specs.Refusals.{refusal_number, first_place, second_place, PlacesOf}
+use Rattle.expander_run.specs.declared.Numbers as code
+use Rattle.expander_run.specs.declared.Expanded.{Expanded}
+
+-- what a call answers: the counts of an expansion, or a refusal
+abbrev pub Outcome : Type 0
+Outcome = either.Result Expanded Refusal
 
 abbrev pub limits_of : ℕ → ℕ → ℕ → Limits
 limits_of n d k = record { max_nodes = n; max_depth = d; max_rows = k }
@@ -23,8 +32,12 @@ call_of root library n d k out ledger scopes work =
 
 -- the numbers of an answer: a refusal's counts are 0, an expansion's refusal and places
 abbrev pub numbers_of : Outcome → Numbers
-numbers_of (Expanded nodes scopes charges rows) = record { refusal = 0; first_place = 0; second_place = 0; nodes = nodes; scopes = scopes; charges = charges; rows = rows }
-numbers_of (Refused n i j) = record { refusal = n; first_place = i; second_place = j; nodes = 0; scopes = 0; charges = 0; rows = 0 }
+numbers_of (Ok x) = record { refusal = 0; first_place = 0; second_place = 0; nodes = x.nodes; scopes = x.scopes; charges = x.charges; rows = x.rows }
+numbers_of (Err x') = record { refusal = refusal_number x'; first_place = first_place x'; second_place = second_place x'; nodes = 0; scopes = 0; charges = 0; rows = 0 }
+
+-- the same, as code holds them
+abbrev pub told : code.Numbers → Numbers
+told n = record { refusal = n.refusal; first_place = n.first_place; second_place = n.second_place; nodes = n.nodes; scopes = n.scopes; charges = n.charges; rows = n.rows }
 
 -- the answer, and the words after the call
 abbrev pub after_of : Outcome → (out ledger scopes : List ℕ) → After

@@ -1,19 +1,66 @@
 #![tactic(auto)]
 // A call of Expand (document 01): what it promises, the run, and the writing of what it gave.
+ghost use Rattle.std.specs.Prelude.{◌≡◌};
+ghost use Rattle.expander_run.specs.Calls.{numbers_of, told};
+
 pub mod run;
 
-// What a call answers: the counts of an expansion, or a refusal by its number and two places.
-#[derive(Clone, Copy)]
-pub enum Outcome {
-    Expanded {
-        nodes: u32,
-        scopes: u32,
-        charges: u32,
-        rows: u32,
-    },
-    Refused {
-        number: u32,
-        first: u32,
-        second: u32,
-    },
+pub use refine_records::Refusal;
+
+// What an accepted call counts.
+#[derive(Clone, Copy, Debug, PartialEq, Eq)]
+pub struct Expanded {
+    pub nodes: u32,
+    pub scopes: u32,
+    pub charges: u32,
+    pub rows: u32,
+}
+
+// An answer in numbers, as C reads it: a refusal's counts are 0, an expansion's refusal and places.
+#[derive(Clone, Copy, Debug, PartialEq, Eq)]
+pub struct Numbers {
+    pub refusal: u32,
+    pub first_place: u32,
+    pub second_place: u32,
+    pub nodes: u32,
+    pub scopes: u32,
+    pub charges: u32,
+    pub rows: u32,
+}
+
+impl Numbers {
+    pub fn of(answer: Result<Expanded, Refusal>) -> Numbers
+        ensures { told result ≡ numbers_of answer }
+    {
+        match answer {
+            Ok(
+                Expanded {
+                    nodes,
+                    scopes,
+                    charges,
+                    rows,
+                },
+            ) => Numbers {
+                refusal: 0,
+                first_place: 0,
+                second_place: 0,
+                nodes,
+                scopes,
+                charges,
+                rows,
+            },
+            Err(e) => {
+                let (first_place, second_place) = e.places();
+                Numbers {
+                    refusal: e.into(),
+                    first_place,
+                    second_place,
+                    nodes: 0,
+                    scopes: 0,
+                    charges: 0,
+                    rows: 0,
+                }
+            }
+        }
+    }
 }

@@ -1,32 +1,41 @@
 // The run, and the writing of what it gave.
-ghost use Rattle.std.specs.Prelude.{◌≡◌};
+ghost use Rattle.std.specs.Prelude.{◌≡◌, Ok};
 ghost use Rattle.expander_run.specs.Calls.{call_of, after_of, Allowed, Ran, Writable, written};
 
-use super::Outcome;
-use refine_records::{Answer, Counts, Limits};
+use super::Expanded;
+use refine_records::{Counts, Journal, Limits, Refusal};
 use source_directory;
+use source_lookup::Sources;
 
 // Writes what the records of an accepted run say.
 pub fn write<'a>(
     root: &'a [u32],
     library: &'a [u32],
-    work: &[u32],
-    st: Counts,
+    journal: &Journal<'_>,
     tops: u32,
     out: &mut [u32],
     ledger: &mut [u32],
     scopes: &mut [u32],
-) -> Outcome
-    requires { Writable root.now library.now work.now st tops out.old ledger.old scopes.old }
-    ensures { after_of result out.new ledger.new scopes.new ≡ written root.now library.now work.now st tops out.old ledger.old scopes.old }
+) -> Expanded
+    requires { Writable root.now library.now journal.now.work.now journal.now.counts tops out.old ledger.old scopes.old }
+    ensures { after_of (Ok result) out.new ledger.new scopes.new ≡ written root.now library.now journal.now.work.now journal.now.counts tops out.old ledger.old scopes.old }
 {
+    let counts = journal.counts;
     let rows = writer_pass::document::write(
-        root, library, work, st.charges, st.externs, tops, out, ledger, scopes,
+        root,
+        library,
+        journal.work,
+        counts.charges,
+        counts.externs,
+        tops,
+        out,
+        ledger,
+        scopes,
     );
-    Outcome::Expanded {
-        nodes: st.nodes,
-        scopes: st.scopes,
-        charges: st.charges as u32,
+    Expanded {
+        nodes: counts.nodes,
+        scopes: counts.scopes,
+        charges: counts.charges as u32,
         rows: rows as u32,
     }
 }
@@ -43,7 +52,7 @@ pub fn run<'a>(
     ledger: &mut [u32],
     scopes: &mut [u32],
     work: &mut [u32],
-) -> Outcome
+) -> Result<Expanded, Refusal>
     requires { Allowed (call_of root.now library.now nodes depth rows out.old ledger.old scopes.old work.old) }
     ensures { Ran (call_of root.now library.now nodes depth rows out.old ledger.old scopes.old work.old) result out.new ledger.new scopes.new }
 {
@@ -51,21 +60,21 @@ pub fn run<'a>(
     let room = 3 * rows + rows / 4 + 32 * (depth + 1);
     let mut dir = [0u32; source_directory::SIZE];
     source_setup::prepare(root, library, work, rows * 12 + slots, room, &mut dir);
+    let sources = Sources {
+        root,
+        library,
+        dir: &dir,
+    };
     let lim = Limits { nodes, rows, slots };
-    match expander_tops::top(root, library, &dir, work, lim, depth) {
-        Answer::Done {
-            st,
-            value,
-            place: _,
-        } => write(root, library, work, st, value, out, ledger, scopes),
-        Answer::Refused {
-            number,
-            first,
-            second,
-        } => Outcome::Refused {
-            number,
-            first,
-            second,
+    let mut journal = Journal {
+        work,
+        counts: Counts {
+            nodes: 0,
+            scopes: 0,
+            externs: 0,
+            charges: 0,
         },
-    }
+    };
+    let tops = expander_tops::top(&sources, &mut journal, lim, depth)?;
+    Ok(write(root, library, &journal, tops, out, ledger, scopes))
 }

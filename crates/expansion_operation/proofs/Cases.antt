@@ -3,8 +3,7 @@ use mathlib.Core.Path.{◌≡◌, ap}
 use mathlib.Core.Logic.{◌↔◌}
 use Prim.Native.Nat.{ℕ, ◌≤◌}
 use native.Mathlib.Omega.{arith}
-use Rattle.sheet_check.specs.declared.Checked.{Checked}
-use Rattle.sheet_check.specs.declared.Checked.TheVariants.{Fits, Bad}
+use Rattle.sheet_check.specs.Checked.{Checked, Fits, Bad}
 use Rattle.expansion_definition.specs.Expand.{Expansion, Answer, expand}
 use Rattle.expansion_definition.specs.Expanded.{Refusal}
 use Rattle.expansion_definition.proofs.Demand.{numbered}

@@ -6,8 +6,8 @@ use mathlib.Core.List.{List}
 use Prim.Native.Nat.{ℕ, ◌*◌, ◌≤◌, ◌<◌}
 use native.Mathlib.Omega.{arith}
 use lib.ListN.{length, take}
-use Rattle.sheet_check.specs.declared.Checked.{Checked}
-use Rattle.sheet_check.specs.declared.Checked.TheVariants.{Fits, Bad}
+use Rattle.std.specs.Prelude.{Ok, Err}
+use Rattle.sheet_check.specs.Checked.{Checked}
 use Rattle.sheet_check.specs.declared.grammar.Form.TheVariants as form
 use Rattle.sheet_rows.specs.Rows.{rows, words}
 use Rattle.sheet_check.specs.Grammar.{checked}
@@ -39,8 +39,8 @@ module _ {L L' : Limits} where
   both_if false n h = h
 
   both_bad : (sheet : ℕ) (k : Checked) {x y : Answer} → Answers L L' x y → Answers L L' (refuse_bad sheet k x) (refuse_bad sheet k y)
-  both_bad sheet Fits h = h
-  both_bad sheet (Bad row) h = both
+  both_bad sheet (Ok _) h = h
+  both_bad sheet (Err b) h = both
 
 -- what comes after refusal 1
 abbrev sheeted : Call → Answer
@@ -74,8 +74,8 @@ module _ (c : Call) where
   given_if false n h k g = g
 
   given_bad : (sheet : ℕ) (k : Checked) {x : Answer} → Given c x → Given c (refuse_bad sheet k x)
-  given_bad sheet Fits g = g
-  given_bad sheet (Bad row) g = early {n = 3} (omega arith) (omega arith)
+  given_bad sheet (Ok _) g = g
+  given_bad sheet (Err b) g = early {n = 3} (omega arith) (omega arith)
 
   given : Given c (outcome c)
   unfolding outcome

@@ -7,8 +7,8 @@ use native.Mathlib.Omega.{arith}
 use lib.ListN.{length, drop}
 use Rattle.words_lent.proofs.WordLaws.{over_length, over_written, over_kept}
 use Rattle.sheet_rows.specs.declared.row.Row.{Row}
-use Rattle.sheet_check.specs.declared.Checked.{Checked}
-use Rattle.sheet_check.specs.declared.Checked.TheVariants.{Fits, Bad}
+use Rattle.std.specs.Prelude.{Ok, Err}
+use Rattle.sheet_check.specs.Checked.{Checked, Fits, Bad}
 use Rattle.sheet_check.specs.declared.grammar.Form.TheVariants as form
 use Rattle.sheet_rows.specs.Rows.{rows, words}
 use Rattle.sheet_check.specs.Grammar.{checked}
@@ -116,8 +116,8 @@ module _ (c : Call) (hr : Words c.root) (hl : Words c.library) where
   if_not n false next f g = g refl
 
   if_fits : (sheet : ℕ) (k : Checked) (next : Answer) → ((row : ℕ) → k ≡ Bad row → Promises c (after_answer c (Answer.Refused 3 sheet row))) → (k ≡ Fits → Promises c (after_answer c next)) → Promises c (after_answer c (refuse_bad sheet k next))
-  if_fits sheet Fits next f g = g refl
-  if_fits sheet (Bad row) next f g = f row refl
+  if_fits sheet (Ok _) next f g = g refl
+  if_fits sheet (Err b) next f g = f b.0 refl
 
   -- Demands 1 and 3, of the words before and after every call.
   pub promises : Promises c (expand_words c)

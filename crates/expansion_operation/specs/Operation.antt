@@ -1,8 +1,7 @@
 -- Expand on words (document 01, What each operation says no to: Expand): from what a call is given and lent to its answer and the words after it.
-use Rattle.std.specs.Prelude.{Bool, true, false, not, ◌||◌, List, [], ◌∷◌, ℕ, ◌+◌, ◌*◌, ◌/◌, ◌%◌, length, ltb, eqb}
+use Rattle.std.specs.Prelude.{Ok, Err, Bool, true, false, not, ◌||◌, List, [], ◌∷◌, ℕ, ◌+◌, ◌*◌, ◌/◌, ◌%◌, length, ltb, eqb}
 use Rattle.words_lent.specs.Words.{over}
-use Rattle.sheet_check.specs.declared.Checked.{Checked}
-use Rattle.sheet_check.specs.declared.Checked.TheVariants.{Fits, Bad}
+use Rattle.sheet_check.specs.Checked.{Checked}
 use Rattle.sheet_check.specs.declared.grammar.Form.TheVariants as form
 use Rattle.sheet_rows.specs.Rows.{rows, words}
 use Rattle.sheet_check.specs.Grammar.{checked}
@@ -48,8 +47,8 @@ refuse_if false n next = next
 
 -- "3, a malformed sheet (root first), with sheet 0 or 1 and the first row, from 0, that doesn't fit (the row count, if it ends early)"
 abbrev pub refuse_bad : ℕ → Checked → Answer → Answer
-refuse_bad sheet Fits next = next
-refuse_bad sheet (Bad row) next = Answer.Refused 3 sheet row
+refuse_bad sheet (Ok _) next = next
+refuse_bad sheet (Err b) next = Answer.Refused 3 sheet b.0
 
 -- the sheets as they are parsed: "Document 0 is the root, document n the n-th file."
 abbrev pub input : Call → Input

@@ -1,7 +1,7 @@
 -- What is promised of every call of Expand, about the words before and after it. This page states; nothing is proved on it.
 use Rattle.std.specs.Prelude.{◌≡◌, List, [], ◌∷◌, ℕ, zero, suc, ◌+◌, ◌*◌, ◌/◌, ◌%◌, ◌≤◌, ◌<◌, length, get_or, take, drop}
 use Rattle.sheet_rows.specs.declared.row.Row.{Row}
-use Rattle.sheet_check.specs.declared.Checked.TheVariants.{Fits, Bad}
+use Rattle.sheet_check.specs.Checked.{Fits, Bad}
 use Rattle.sheet_check.specs.declared.grammar.Form.TheVariants as form
 use Rattle.sheet_rows.specs.Rows.{rows}
 use Rattle.sheet_check.specs.Grammar.{checked}

@@ -7,7 +7,7 @@ use native.Mathlib.Omega.{arith}
 use lib.ListN.{length}
 use Rattle.ast.specs.Ast.{Statement}
 use Rattle.sheet_check.specs.declared.grammar.Form.TheVariants.{Expanded as Form_as_Expanded}
-use Rattle.sheet_check.specs.declared.Checked.TheVariants.{Fits}
+use Rattle.sheet_check.specs.Checked.{Fits}
 use Rattle.sheet_check.specs.Grammar.{checked}
 use Rattle.sheet_rows.specs.Parse.{document_of}
 use Rattle.sheet_rows.specs.Print.{document_rows}

@@ -1,7 +1,7 @@
 -- The loops: nodes are given their words, ids are mentioned.
 use mathlib.Core.Path.{◌≡◌, refl, sym, ap, subst, ◌∙◌}
 use mathlib.Core.List.{List, [], ◌∷◌, ◌++◌, append_assoc, append-nil}
-use Prim.Native.Nat.{ℕ, suc, ◌+◌, ◌*◌, ◌≤◌, ◌<◌}
+use Prim.Native.Nat.{ℕ, ◌+◌, ◌*◌, ◌≤◌, ◌<◌, max}
 use native.Mathlib.Omega.{arith}
 use lib.ListN.{length, get_or, drop, length-append}
 use Rattle.sheet_rows.specs.declared.row.Row.{Row}
@@ -16,6 +16,7 @@ use Rattle.graph_walk.proofs.ScanLaws.{places_end, top_end, places_stop, places_
 
 pub record Indexing (R : List Row) (from : ℕ) (w₀ : List ℕ) (n at : ℕ) (w : List ℕ) : Type 0 where
   pub behind : from + n ≤ at
+  pub within : at ≤ max (length R) from
   pub long : length w ≡ length w₀
   pub done : List ℕ
   pub state : WalkState n done [] 0 w
@@ -23,7 +24,7 @@ pub record Indexing (R : List Row) (from : ℕ) (w₀ : List ℕ) (n at : ℕ) (
   pub top : top_from from (drop from R) ≡ top_from at (drop at R)
 
 pub indexing_start : (R : List Row) (from : ℕ) (w : List ℕ) → Indexing R from w 0 from w
-indexing_start R from w = record { behind = omega arith; long = refl; done = []; state = state_start w; places = refl; top = refl }
+indexing_start R from w = record { behind = omega arith; within = omega arith; long = refl; done = []; state = state_start w; places = refl; top = refl }
 
 module _ {R : List Row} {from : ℕ} {w₀ : List ℕ} {n at : ℕ} {w : List ℕ} (x : Indexing R from w₀ n at w) where
   ended : places_from at (drop at R) ≡ [] → x.done ≡ places_from from (drop from R)
@@ -47,6 +48,7 @@ module _ {R : List Row} {from : ℕ} {w₀ : List ℕ} {n at : ℕ} {w : List �
       indexing_pass a b =
           record {
             behind = omega (arith, x.behind);
+            within = omega (arith, h);
             long = x.long;
             done = x.done;
             state = x.state;
@@ -59,6 +61,7 @@ module _ {R : List Row} {from : ℕ} {w₀ : List ℕ} {n at : ℕ} {w : List �
           subst (λ (v : List ℕ). Indexing R from w₀ (n + 1) (at + 1) v) (sym (f ∙ ap (λ v. with_pair v (5 * n + 2) 0) e))
           (record {
             behind = omega (arith, x.behind);
+            within = omega (arith, h);
             long = pair_long (with_pair w (5 * n) at) (5 * n + 2) 0 ∙ pair_long w (5 * n) at ∙ x.long;
             done = x.done ++ (at ∷ []);
             state = state_node x.state at index_room;

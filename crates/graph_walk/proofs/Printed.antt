@@ -1,20 +1,19 @@
 -- The scans over the rows that a document is written in.
-use mathlib.Core.Path.{◌≡◌, refl, sym, ap, subst, ◌∙◌}
-use mathlib.Core.Bool.{true, false}
+use mathlib.Core.Path.{◌≡◌, refl, sym, ap, ◌∙◌}
+use mathlib.Core.Bool.{false}
 use mathlib.Core.List.{List, [], ◌∷◌, ◌++◌, map, append_assoc, append-nil}
 use mathlib.Core.Option.{Option, none, some}
-use Prim.Native.Nat.{ℕ, zero, suc, ◌+◌, ◌*◌, ◌≤◌, ◌<◌}
-use native.Mathlib.Numerals.{add-one}
+use Prim.Native.Nat.{ℕ, zero, suc, ◌+◌, ◌≤◌, ◌<◌}
 use native.Mathlib.Omega.{arith}
 use lib.ListN.{length, get_or, drop, get_elem?, length-append, length-map, length-drop}
 use lib.Seq.{drop-drop, drop-append_seam}
 use lib.Dec.{eqb}
-use Rattle.ast.specs.Ast.{FieldData, FieldValue, FieldBinding, Field, InterfaceDecl, Route, Statement, NodeOrigin, BodyElement, Association, ProtoInstance, Node, ProtoDecl, Url, ExternProtoDecl, Document}
+use Rattle.ast.specs.Ast.{FieldData, FieldValue, FieldBinding, Field, InterfaceDecl, Statement, NodeOrigin, BodyElement, ProtoInstance, Node, ProtoDecl, ExternProtoDecl, Document}
 use Rattle.ast.specs.Each.{Each}
 use Rattle.ast.specs.Lists.{flat}
 use Rattle.sheet_rows.specs.declared.row.Row.{Row}
 use Rattle.sheet_rows.specs.Rows.{blank, rest}
-use Rattle.sheet_rows.specs.Print.{row, id_row, data_rows, binding_rows, field_rows, default_rows, interface_rows, route_row, statement_row, body_element_row, association_row, instance_rows, any_instance_rows, node_row, node_rows, proto_rows, url_row, extern_proto_rows, top_row, document_rows}
+use Rattle.sheet_rows.specs.Print.{row, id_row, data_rows, binding_rows, field_rows, default_rows, interface_rows, route_row, statement_row, body_element_row, association_row, any_instance_rows, node_row, node_rows, proto_rows, url_row, extern_proto_rows, top_row, document_rows}
 use Rattle.ast.specs.Ids.{data_ids, option_ids, binding_ids, statement_ids}
 use Rattle.graph_definition.specs.Graph.{field_ids, interface_ids, node_ids, top_node_ids, node_count, nexts, value_ids_in}
 use Rattle.graph_walk.specs.Scan.{places_from, top_from, ids_from, starts_from, end_from}

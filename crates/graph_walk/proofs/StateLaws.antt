@@ -2,19 +2,19 @@
 use mathlib.Core.Path.{◌≡◌, refl, sym, ap, subst, ◌∙◌}
 use mathlib.Core.Bool.{Bool, true, false}
 use mathlib.Core.List.Memᴰ
-use mathlib.Core.List.{List, [], ◌∷◌, ◌++◌, append-nil, Memᴰ}
+use mathlib.Core.List.{List, [], ◌∷◌, ◌++◌, Memᴰ}
 use mathlib.Core.Logic.{◌⊎◌, inl, inr}
-use Prim.Native.Nat.{ℕ, zero, suc, ◌+◌, ◌*◌, ◌/◌, ◌%◌, ◌≤◌, ◌<◌}
+use Prim.Native.Nat.{ℕ, suc, ◌+◌, ◌*◌, ◌/◌, ◌%◌, ◌≤◌, ◌<◌}
 use native.Mathlib.Nat.{div-add-mod'}
 use native.Mathlib.Omega.{arith}
 use native.Mathlib.Decide.{ℕ_discrete, dec_lt}
 use lib.ListN.{length, get_or, set, length-set, length-append, get_or-append}
-use lib.Seq.{get_or-set_same, get_or-set_other, get_or-append_seam, get_or_at}
+use lib.Seq.{get_or-set_same, get_or-set_other, get_or_at}
 use lib.Dec.{eqb}
-use borrow.Author.Tests.{eqb-true, eqb-false, eq-eqb, ne_eqb}
-use Rattle.expansion_steps.specs.Lists.{one_if, count_if}
+use borrow.Author.Tests.{eqb-true, eq-eqb, ne_eqb}
+use Rattle.expansion_steps.specs.Lists.{one_if}
 use Rattle.expansion_steps.proofs.ListLaws.{count_append}
-use Rattle.graph_definition.specs.Graph.{noted, noted_all, distinct}
+use Rattle.graph_definition.specs.Graph.{noted_all, distinct}
 use Rattle.graph_definition.proofs.Distinct.{Noted, fresh, stays, noted_is, distinct_snoc, distinct_from, distinct_to, distinct_length}
 use Rattle.graph_walk.specs.State.{pair_at, occurs, WalkState}
 use Rattle.graph_walk.specs.Steps.{with_pair}

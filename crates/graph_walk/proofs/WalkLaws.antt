@@ -1,27 +1,23 @@
 -- The walk over all that is reached: the nodes reached are visited in their order.
 use mathlib.Core.Path.{◌≡◌, refl, sym, ap, subst, ◌∙◌}
-use mathlib.Core.Bool.{Bool, true, false}
 use mathlib.Core.List.Memᴰ
 use mathlib.Core.List.{List, [], ◌∷◌, ◌++◌, Memᴰ}
 use mathlib.Core.Logic.{◌⊎◌, inl, inr}
 use Prim.Native.Nat.{ℕ, zero, suc, ◌+◌, ◌-◌, ◌*◌, ◌≤◌, ◌<◌}
 use native.Mathlib.Numerals.{add-one}
 use native.Mathlib.Omega.{arith}
-use lib.ListN.{length, get_or, drop, take, length-append, length-drop}
-use lib.Dec.{ltb}
+use lib.ListN.{length, get_or, drop, take, length-append}
 use borrow.Author.Tests.{lt-ltb, le-ltb}
 use Rattle.ast.specs.Ast.{Document}
-use Rattle.ast.specs.Choice.{choose}
-use Rattle.ast.specs.Lists.{flat}
 use Rattle.sheet_rows.specs.declared.row.Row.{Row}
 use Rattle.sheet_rows.specs.Print.{document_rows}
 use Rattle.expansion_steps.specs.Lists.{Nodup}
-use Rattle.graph_definition.specs.Graph.{node_count, top_node_ids, nexts, distinct, walked, reached, mentions}
-use Rattle.graph_definition.proofs.Distinct.{distinct_once, distinct_from, distinct_length, distinct_below, mem_at}
-use Rattle.graph_definition.proofs.Exact.{Walking, walk_start, walk_nodes, walk_step, walked_mentions, reached_distinct}
-use Rattle.graph_walk.specs.Scan.{places_from, top_from, ids_from, starts_from, end_from}
+use Rattle.graph_definition.specs.Graph.{node_count, top_node_ids, nexts, distinct, walked, mentions}
+use Rattle.graph_definition.proofs.Distinct.{distinct_once, distinct_from, distinct_length, distinct_below}
+use Rattle.graph_definition.proofs.Exact.{Walking, walk_start, walk_step, walked_mentions, reached_distinct}
+use Rattle.graph_walk.specs.Scan.{places_from, ids_from, starts_from}
 use Rattle.graph_walk.specs.State.{pair_at, WalkState}
-use Rattle.graph_walk.specs.Steps.{most_nodes, Mentionable, MentionsNoted, NodesIndexed, Started, NodeStands, WalkReady, Reach, Reaches}
+use Rattle.graph_walk.specs.Steps.{most_nodes, Mentionable, MentionsNoted, NodesIndexed, Started, NodeStands, WalkReady, Reaches}
 use Rattle.graph_walk.proofs.Printed.{places_count, node_at, nexts_at, starts_at, end_at, document_within}
 use Rattle.graph_walk.proofs.Bounds.{mentions_rows}
 

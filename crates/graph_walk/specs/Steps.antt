@@ -1,12 +1,12 @@
 -- What the functions of the walk ask and give.
-use Rattle.std.specs.Prelude.{◌≡◌, List, [], ◌∷◌, ◌++◌, ℕ, ◌+◌, ◌*◌, ◌/◌, ◌%◌, ◌≤◌, ◌<◌, length, get_or, drop, set}
+use Rattle.std.specs.Prelude.{◌≡◌, List, [], ◌++◌, ℕ, ◌+◌, ◌*◌, ◌/◌, ◌%◌, ◌≤◌, ◌<◌, length, drop, set}
 use Rattle.ast.specs.Ast.{Document}
 use Rattle.ast.specs.Lists.{flat}
 use Rattle.sheet_rows.specs.declared.row.Row.{Row}
 use Rattle.sheet_rows.specs.Print.{document_rows}
 use Rattle.graph_definition.specs.Graph.{node_count, reached, mentions}
-use Rattle.graph_walk.specs.Scan.{places_from, top_from, ids_from, starts_from, end_from}
-use Rattle.graph_walk.specs.State.{pair_at, WalkState}
+use Rattle.graph_walk.specs.Scan.{places_from, top_from, starts_from, end_from}
+use Rattle.graph_walk.specs.State.{WalkState}
 
 -- a number put into two words
 abbrev pub with_pair : List ℕ → ℕ → ℕ → List ℕ

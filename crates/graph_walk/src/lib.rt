@@ -49,28 +49,29 @@ fn put_pair(work: &mut [u32], at: usize, x: usize)
 }
 
 // Gives the nodes from a row on their words, up to row 11.
+#[tactic(auto, using(crate::proofs::LoopLaws::index_room))]
 fn index(sheet: &[u32], from: usize, work: &mut [u32]) -> Table
     requires { 5 * length (rows sheet.now) ≤ length work.old }
     ensures { NodesIndexed (rows sheet.now) from work.new result.nodes result.top }
 {
     let count = sheet.len() / 8;
     let mut nodes = 0;
-    let mut at = from;
-    while at < count {
+    for at in from..count {
         let kind = row::row_at(sheet, at).kind;
         if kind == 11 {
             return Table { nodes, top: at };
         }
-        if kind == 2 {
-            put_pair(work, 5 * nodes, at);
-            put_pair(work, 5 * nodes + 2, 0);
-            nodes += 1;
-            at += 1;
-        } else {
-            at += 1;
+        if kind != 2 {
+            continue;
         }
+        put_pair(work, 5 * nodes, at);
+        put_pair(work, 5 * nodes + 2, 0);
+        nodes += 1;
     }
-    Table { nodes, top: at }
+    Table {
+        nodes,
+        top: count.max(from),
+    }
 }
 
 // One mention. A node that is mentioned first is put at the end of those reached; an id that leads nowhere changes nothing.
@@ -96,22 +97,18 @@ fn visit(sheet: &[u32], from: usize, work: &mut [u32], nodes: usize, tail: usize
     requires { Mentionable nodes tail work.old (ids_from (drop from (rows sheet.now))) }
     ensures { MentionsNoted nodes tail work.old (ids_from (drop from (rows sheet.now))) result work.new }
 {
-    let count = sheet.len() / 8;
     let mut end = tail;
-    let mut at = from;
-    while at < count {
+    for at in from..sheet.len() / 8 {
         let r = row::row_at(sheet, at);
         if r.kind == 9 {
             end = mention(work, nodes, end, r.a);
-            at += 1;
-        } else {
-            if r.kind < 3 {
-                return end;
-            }
-            if 4 < r.kind {
-                return end;
-            }
-            at += 1;
+            continue;
+        }
+        if r.kind < 3 {
+            return end;
+        }
+        if 4 < r.kind {
+            return end;
         }
     }
     end
@@ -124,20 +121,19 @@ fn start(sheet: &[u32], from: usize, work: &mut [u32], nodes: usize) -> Starts
 {
     let count = sheet.len() / 8;
     let mut tail = 0;
-    let mut at = from;
-    while at < count {
+    for at in from..count {
         let r = row::row_at(sheet, at);
         if r.kind != 5 {
             return Starts { tail, next: at };
         }
         if r.a == 0 {
             tail = mention(work, nodes, tail, r.b);
-            at += 1;
-        } else {
-            at += 1;
         }
     }
-    Starts { tail, next: at }
+    Starts {
+        tail,
+        next: count.max(from),
+    }
 }
 
 // All that is reached in the document that begins at a row.
@@ -150,6 +146,7 @@ pub fn reach(sheet: &[u32], from: usize, work: &mut [u32]) -> Walk
     let started = start(sheet, found.top + 1, work, nodes);
     let mut tail = started.tail;
     let mut k = 0;
+    // Kept: each turn may add to those that are reached, so their number is no range's end.
     while k < tail {
         let id = words_lent::wide(work[5 * k + 4]);
         let place = pair_at(work, 5 * id);

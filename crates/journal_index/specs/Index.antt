@@ -4,8 +4,8 @@ use Rattle.std.specs.Prelude.{◌≡◌, Bool, true, false, List, ℕ, suc, ◌+
 use Rattle.std.proofs.Math.Option.{Option, none, some}
 use Rattle.ast.specs.Choice.{choose}
 use Rattle.journal_records.specs.declared.Record.{Record}
-use Rattle.journal_index.specs.declared.Newest.{Newest}
-use Rattle.journal_index.specs.declared.Newest.TheVariants.{At, Nothing}
+use Rattle.std.specs.declared.option.Option as code
+use Rattle.std.specs.declared.option.Option.TheVariants.{None, Some}
 use Rattle.journal_records.specs.Records.{keyed, cell, Holds}
 use Rattle.journal_records.specs.Logs.{newest_of}
 
@@ -41,9 +41,13 @@ hit w t x y r = choose (eqb (cell w r 0) t) (choose (eqb (cell w r 1) x) (eqb (c
 abbrev pub newest : List ℕ → ℕ → ℕ → ℕ → ℕ → Option ℕ
 newest w t x y c = newest_of (hit w t x y) c
 
+-- what a search finds: a record, or nothing
+abbrev pub Newest : Type 0
+Newest = code.Option ℕ
+
 abbrev pub found_of : Newest → Option ℕ
-found_of (At i) = some i
-found_of Nothing = none
+found_of (Some i) = some i
+found_of None = none
 
 -- record r is keyed, and of slot b
 unfoldable pub in_slot : List ℕ → ℕ → ℕ → ℕ → Bool

@@ -11,13 +11,6 @@ use words_lent::wide;
 // How many bits of a key's number are looked at on the way down a tree.
 const BITS: usize = 64;
 
-// The newest record of a key, if there is one.
-#[derive(Clone, Copy)]
-pub enum Newest {
-    At(usize),
-    Nothing,
-}
-
 // The slot of a key. A map entry's is twice its scope's place, plus its id with two digits exchanged: the slots of a scope
 // stand near each other, and since a copy takes two records, the table is touched in proportion to the records. Scopes
 // nested in each other have places side by side: the exchange sets their ids apart.
@@ -111,7 +104,7 @@ fn side(k: usize, d: usize) -> usize
     (k >> d) % 2
 }
 
-// The newest record below `top` of a key.
+// The newest record below `top` of a key, if there is one.
 pub fn find_below(
     work: &[u32],
     at: usize,
@@ -121,7 +114,7 @@ pub fn find_below(
     tag: u32,
     x: u32,
     y: u32,
-) -> Newest
+) -> Option<usize>
     requires findable { Findable work.now at slots c tag }
     requires top_le_c { top ≤ c }
     ensures { found_of result ≡ newest work.now tag x y top }
@@ -131,7 +124,7 @@ pub fn find_below(
     let first = wide(work[at + b]);
     if first < c {
         if hits(work, first, top, tag, x, y) {
-            return Newest::At(first);
+            return Some(first);
         }
     }
     let k = number(tag, x, y);
@@ -140,16 +133,24 @@ pub fn find_below(
     while 0 < cur {
         let n = cur - 1;
         if hits(work, n, top, tag, x, y) {
-            return Newest::At(n);
+            return Some(n);
         }
         cur = wide(journal_records::word(work, n, 9 + side(k, d)));
         d += 1;
     }
-    Newest::Nothing
+    None
 }
 
-// The newest record of a key.
-pub fn find(work: &[u32], at: usize, slots: usize, c: usize, tag: u32, x: u32, y: u32) -> Newest
+// The newest record of a key, if there is one.
+pub fn find(
+    work: &[u32],
+    at: usize,
+    slots: usize,
+    c: usize,
+    tag: u32,
+    x: u32,
+    y: u32,
+) -> Option<usize>
     requires { Findable work.now at slots c tag }
     ensures { found_of result ≡ newest work.now tag x y c }
 {

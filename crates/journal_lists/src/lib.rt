@@ -4,7 +4,7 @@ ghost use Rattle.std.specs.Prelude.{◌+◌, ◌*◌, ◌≤◌, length};
 ghost use Rattle.journal_lists.specs.Owned.{Ownable, Appended};
 ghost use Rattle.journal_lists.specs.Families.{Behind, Joins, Joinable, Joined};
 
-use journal_records::Record;
+use journal_records::{Record, words};
 use words_lent::wide;
 
 // A record that the scope at place `s` owns, behind the last of its tag.
@@ -26,8 +26,8 @@ fn family(work: &[u32], c: usize, h: u32) -> usize
     if h == 0 {
         return c;
     }
-    let f = wide(journal_records::word(work, wide(h) - 1, 1));
-    if journal_records::word(work, f, 11) != h {
+    let f = wide(journal_records::word(work, wide(h) - 1, words::stored::FAMILY));
+    if journal_records::word(work, f, words::stored::NEWEST) != h {
         return c;
     }
     f
@@ -40,5 +40,5 @@ pub fn join(work: &mut [u32], at: usize, slots: usize, c: usize, r: Record)
 {
     let f = family(work, c, r.h);
     journal_index::enter(work, at, slots, c, Record { a: f as u32, ..r });
-    journal_records::set(work, f, 11, (c + 1) as u32);
+    journal_records::set(work, f, words::stored::NEWEST, (c + 1) as u32);
 }

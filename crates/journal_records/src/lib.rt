@@ -1,6 +1,7 @@
 #![tactic(auto)]
 // The arena: records of twelve words in a lent slice, one to a charge.
 mod made;
+pub mod words;
 
 ghost use Rattle.std.specs.Prelude.{◌≡◌, ◌+◌, ◌*◌, ◌<◌, ◌≤◌, length};
 ghost use Rattle.journal_records.specs.Records.{cell, Pushed, SetWord, Paid};
@@ -92,9 +93,7 @@ pub fn paid(work: &mut [u32], n: usize, count: usize)
     requires { (n + count) * 12 ≤ length work.old }
     ensures { Paid work.old work.new n count }
 {
-    let mut i = 0;
-    while i < count {
+    for i in 0..count {
         work[(n + i) * 12] = TAG_PAID;
-        i += 1;
     }
 }

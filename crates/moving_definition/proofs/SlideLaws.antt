@@ -29,24 +29,8 @@ along_at (suc n) f p h = at_more n f p (along_at n f p) (ℕ_discrete p n) h
 
 -- ---- the first counts
 
--- the first i are summed
-pub record Summing (counts : List ℕ) (n so_far i : ℕ) : Type 0 where
-  pub upto : i ≤ n
-  pub is : so_far ≡ sum (take i counts)
-
-module _ {counts : List ℕ} {n : ℕ} (s : Summable counts n) where
-  pub summing_start : Summing counts n 0 0
-  summing_start = record { upto = omega arith; is = refl }
-
-  module _ {so_far i : ℕ} (g : Summing counts n so_far i) where
-    pub summing_fits : i < n → so_far + get_or counts i 0 < 18446744073709551616
-    summing_fits h = omega (arith, s.few, g.is, sum_small i counts s.small, small_at counts s.small i)
-
-    pub summing_again : i < n → Summing counts n (so_far + get_or counts i 0) (i + 1)
-    summing_again h = record { upto = omega arith; is = rw (add-one i) (omega (arith, g.is, sum_last i counts)) }
-
-    pub summing_end : n ≤ i → so_far ≡ sum (take n counts)
-    summing_end h = let e : i ≡ n = omega (arith, g.upto) in rw e at g.is
+pub first_fits : {counts : List ℕ} {n : ℕ} → Summable counts n → sum (take n counts) < 18446744073709551616
+first_fits {counts} {n} s = omega (arith, s.few, sum_small n counts s.small)
 
 -- ---- the window
 

@@ -1,5 +1,5 @@
 -- Sums of counts: one count more at either end, the window's move, and that no sum wraps.
-use mathlib.Core.Path.{◌≡◌, refl, sym, ◌∙◌}
+use mathlib.Core.Path.{◌≡◌, refl, sym, ap, ◌∙◌}
 use mathlib.Core.Bool.{Bool, true, false, ◌||◌}
 use mathlib.Core.List.{List, [], ◌∷◌}
 use Prim.Native.Nat.{ℕ, zero, suc, ◌+◌, ◌*◌, ◌-◌, ◌≤◌, ◌<◌}
@@ -7,6 +7,8 @@ use native.Mathlib.Omega.{arith}
 use native.Mathlib.Numerals.{add-one}
 use lib.ListN.{length, take, drop, get_or}
 use lib.Dec.{ltb}
+use Rattle.std.specs.List.{list_any}
+use Rattle.std.specs.List as Std
 use lib.Seq.{drop-cons, drop-drop, get_or-drop, drop-length}
 use borrow.Author.Tests.{ltb-true, ltb-false, lt-ltb, le-ltb}
 use Rattle.moving_definition.specs.Moving.{sum, total, any_over}
@@ -95,21 +97,15 @@ pub over_found : (counts : List ℕ) → any_over counts ≡ true → Over count
 over_found [] e = let z : ◌≡◌ {A = ℕ} 0 1 = cc in absurd (omega arith)
 over_found (x ∷ l) e = over_more x l (over_found l) (ltb 4294967295 x) refl e
 
--- ---- the loop that looks for one
+-- ---- as the library's chains say it
 
--- what is left gives what all give
-abbrev pub over_left : List ℕ → ℕ → Bool
-over_left counts i = any_over (drop i counts)
+pub over_any : (counts : List ℕ) → list_any (λ x. ltb 4294967295 x) counts ≡ any_over counts
+over_any [] = refl
+over_any (x ∷ l) = ap (λ b. ltb 4294967295 x || b) (over_any l)
 
-module _ (counts : List ℕ) (i : ℕ) where
-  over_step : i < length counts → over_left counts i ≡ (ltb 4294967295 (get_or counts i 0) || over_left counts (i + 1))
-  over_step h = rw (drop-cons counts i 0 h, add-one i)
+sum_on : (a : ℕ) (l : List ℕ) → Std.fold ◌+◌ a l ≡ a + sum l
+sum_on a [] = omega arith
+sum_on a (x ∷ l) = omega (arith, sum_on (a + x) l)
 
-  pub over_here : i < length counts → 4294967295 < get_or counts i 0 → true ≡ over_left counts i
-  over_here h k = sym (over_step h ∙ rw (lt-ltb _ _ k))
-
-  pub over_later : i < length counts → get_or counts i 0 ≤ 4294967295 → over_left counts (i + 1) ≡ over_left counts i
-  over_later h k = sym (over_step h ∙ rw (le-ltb _ _ k))
-
-pub over_nowhere : (counts : List ℕ) (i : ℕ) → i ≤ length counts → length counts ≤ i → false ≡ over_left counts i
-over_nowhere counts i h k = let e : i ≡ length counts = omega arith in rw (e, drop-length counts)
+pub sum_all : (l : List ℕ) → Std.sum l ≡ sum l
+sum_all l = sum_on 0 l ∙ omega arith

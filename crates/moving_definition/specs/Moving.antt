@@ -1,10 +1,11 @@
 -- Moving totals along the coast (document 02, wish 11).
-use Rattle.std.specs.Prelude.{Bool, true, false, ◌||◌, List, [], ◌∷◌, ◌++◌, ℕ, zero, suc, ◌+◌, ◌-◌, max, length, take, drop, ltb, eqb}
+use Rattle.std.specs.Prelude.{Result, Ok, Err, Bool, true, false, ◌||◌, List, [], ◌∷◌, ◌++◌, ℕ, zero, suc, ◌+◌, ◌-◌, max, length, take, drop, ltb, eqb}
 use Rattle.ast.specs.Choice.{choose}
 use Rattle.words_lent.specs.Words.{over}
 use Rattle.words_answer.specs.Answer.{Said}
-use Rattle.moving_definition.specs.declared.Moved.{Moved}
-use Rattle.moving_definition.specs.declared.Moved.TheVariants.{Totals, WidthOutside, CountOver, TooFew}
+use Rattle.moving_definition.specs.declared.Totals.{Totals}
+use Rattle.moving_definition.specs.declared.MovingError.{MovingError}
+use Rattle.moving_definition.specs.declared.MovingError.TheVariants.{WidthOutside, CountOver, TooFew}
 
 -- ---- "A season is a long run of legs, each with its 64-bit count. Analysts choose a width W of 1 to 64 legs and want, for each
 -- leg from the W-th on, the total of the last W, with the largest total and its first place among them, from 0."
@@ -83,12 +84,15 @@ lent_after (suc n) new lent = lent
 unfoldable pub moved : (counts : List ℕ) → (w : ℕ) → (lent : List ℕ) → Answer × List ℕ
 moved counts w lent = let a = outcome counts w (length lent) in (a, lent_after a.refusal (totals w counts) lent)
 
--- document 02's numbers for each case of the code's answer
-abbrev pub answer_of : Moved → Answer
-answer_of (Totals count largest place) = record { refusal = 0; count = count; largest = largest; place = place }
-answer_of WidthOutside = refused 25
-answer_of CountOver = refused 26
-answer_of TooFew = refused 27
+-- document 02's number for each error, and its numbers for the code's answer
+abbrev pub number_of : MovingError → ℕ
+number_of WidthOutside = 25
+number_of CountOver = 26
+number_of TooFew = 27
+
+abbrev pub answer_of : Result Totals MovingError → Answer
+answer_of (Ok t) = record { refusal = 0; count = t.count; largest = t.largest; place = t.place }
+answer_of (Err e) = refused (number_of e)
 
 -- as a C export says it: "refusal, totals, largest, place"
 abbrev pub said_of : Answer × List ℕ → Said

@@ -5,20 +5,13 @@ ghost use Rattle.moving_definition.specs.Moving.{sum, any_over, answer_of, moved
 ghost use Rattle.moving_definition.specs.Slides.{Summable, Slidable, Slid};
 ghost use Rattle.moving_definition.specs.Promises.{Promises};
 
-use moving_definition::{Moved, Peak};
+use moving_definition::{MovingError, Peak, Totals};
 
 // Whether a count is over 4,294,967,295.
 fn any_over(counts: &[u64]) -> bool
     ensures { result ≡ any_over counts.now }
 {
-    let mut i = 0;
-    while i < counts.len() {
-        if 4294967295 < counts[i] {
-            return true;
-        }
-        i += 1;
-    }
-    false
+    counts.iter().any(|count| 4294967295 < *count)
 }
 
 // The sum of the first `n` counts.
@@ -26,13 +19,7 @@ fn sum_first(counts: &[u64], n: usize) -> u64
     requires { Summable counts.now n }
     ensures { result ≡ sum (take n counts.now) }
 {
-    let mut total = 0;
-    let mut i = 0;
-    while i < n {
-        total += counts[i];
-        i += 1;
-    }
-    total
+    counts[..n].iter().sum()
 }
 
 // Writes `n` totals: the window moves by adding one count and taking one away. `before` is the width less one.
@@ -41,52 +28,54 @@ fn slide(counts: &[u64], before: usize, n: usize, totals: &mut [u64]) -> Peak
     ensures { Slid counts.now before n totals.old totals.new result }
 {
     let mut rest = sum_first(counts, before);
-    let mut largest = 0;
-    let mut place = 0;
-    let mut p = 0;
-    while p < n {
+    let mut peak = Peak {
+        largest: 0,
+        place: 0,
+    };
+    for p in 0..n {
         let total = rest + counts[p + before];
         totals[p] = total;
         rest = total - counts[p];
-        if largest < total {
-            largest = total;
-            place = p;
+        if peak.largest < total {
+            peak = Peak {
+                largest: total,
+                place: p,
+            };
         }
-        p += 1;
     }
-    Peak { largest, place }
+    peak
 }
 
 // For each leg from the `width`-th on the total of the last `width` counts, into the lent totals; they stay on a refusal.
-pub fn moving(counts: &[u64], width: u32, totals: &mut [u64]) -> Moved
+pub fn moving(counts: &[u64], width: u32, totals: &mut [u64]) -> Result<Totals, MovingError>
     ensures totals_after { (answer_of result, totals.new) ≡ moved counts.now «width» totals.old }
     ensures promises { Promises counts.now «width» totals.old (answer_of result) totals.new }
 {
     if width < 1 {
-        return Moved::WidthOutside;
+        return Err(MovingError::WidthOutside);
     }
     if 64 < width {
-        return Moved::WidthOutside;
+        return Err(MovingError::WidthOutside);
     }
     if any_over(counts) {
-        return Moved::CountOver;
+        return Err(MovingError::CountOver);
     }
     let before = (width - 1) as usize;
     if counts.len() <= before {
-        return Moved::Totals {
+        return Ok(Totals {
             count: 0,
             largest: 0,
             place: 0,
-        };
+        });
     }
     let n = counts.len() - before;
     if totals.len() < n {
-        return Moved::TooFew;
+        return Err(MovingError::TooFew);
     }
     let peak = slide(counts, before, n, totals);
-    Moved::Totals {
+    Ok(Totals {
         count: n,
         largest: peak.largest,
         place: peak.place,
-    }
+    })
 }

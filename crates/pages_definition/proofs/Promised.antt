@@ -2,7 +2,7 @@
 use mathlib.Core.Path.{◌≡◌, refl, sym, ap, subst, ◌∙◌}
 use mathlib.Core.Bool.{Bool, true, false, not}
 use mathlib.Core.List.{List}
-use Prim.Native.Nat.{ℕ, ◌+◌, ◌*◌, ◌/◌, ◌≤◌, ◌<◌}
+use Prim.Native.Nat.{ℕ, ◌+◌, ◌*◌, ◌/◌, ◌%◌, min, ◌≤◌, ◌<◌}
 use native.Mathlib.Omega.{arith}
 use lib.ListN.{length}
 use lib.Seq.{sets}
@@ -118,22 +118,22 @@ module _ (sheet ledger : List ℕ) (work : ℕ) where
           other_ledger h =
               bad (rw (← expanded, le-ltb work (16 * (length sheet / 8)) (omega arith), le-ltb none# (length nodes) (omega (arith, counted)), ne_eqb (length ledger) (3 * length nodes) (λ e. h (omega (arith, counted, e)))))
 
-          module _ (entries : length ledger ≡ 3 * n) where
+          module _ (entries : length ledger ≡ 3 * n) {k : ℕ} (pages : k ≡ n / 59 + min 1 (n % 59)) where
             fine : malformed sheet ledger work ≡ false
             fine = well_not (record { expanded = sym expanded; room = omega arith; ids = omega (arith, counted); entries = omega (arith, counted) })
 
-            pages_are : page_count nodes ledger ≡ (n + 58) / 59
-            pages_are = ap (λ (k : ℕ). (k + 58) / 59) counted
+            pages_are : page_count nodes ledger ≡ k
+            pages_are = let e : (n + 58) / 59 ≡ k = omega arith in ap (λ (j : ℕ). (j + 58) / 59) counted ∙ e
 
-            long : length T ≡ 4380 * ((n + 58) / 59)
-            long = text_length nodes ledger lent ∙ ap (λ (k : ℕ). 4380 * k) pages_are
+            long : length T ≡ 4380 * k
+            long = text_length nodes ledger lent ∙ ap (λ (j : ℕ). 4380 * j) pages_are
 
-            pub too_few_lem : length lent / 4380 < (n + 58) / 59 → Told (refused 29) lent
+            pub too_few_lem : length lent / 4380 < k → Told (refused 29) lent
             unfolding paged
             too_few_lem h = told (rw (fine, lt-ltb (length lent) (length T) (omega (arith, long))))
 
-            pub all_told : (n + 58) / 59 ≤ length lent / 4380 → {b : List ℕ} → b ≡ sets lent 0 (each ((n + 58) / 59) (page nodes ledger)) → Told (accepted (4380 * ((n + 58) / 59))) b
+            pub all_told : k ≤ length lent / 4380 → {b : List ℕ} → b ≡ sets lent 0 (each k (page nodes ledger)) → Told (accepted (4380 * k)) b
             unfolding paged text
             all_told h {b} e =
-                let f : b ≡ over T lent = e ∙ ap (λ (k : ℕ). sets lent 0 (each k (page nodes ledger))) (sym pages_are) ∙ sets_front lent T (length T) refl (omega (arith, long)) in
+                let f : b ≡ over T lent = e ∙ ap (λ (j : ℕ). sets lent 0 (each j (page nodes ledger))) (sym pages_are) ∙ sets_front lent T (length T) refl (omega (arith, long)) in
                 told (rw (fine, le-ltb (length lent) (length T) (omega (arith, long)), f, long))

@@ -1,5 +1,5 @@
 -- A page for the logbook (document 02, wish 13).
-use Rattle.std.specs.Prelude.{Bool, not, ◌||◌, List, [], ◌∷◌, ◌++◌, ℕ, zero, suc, ◌+◌, ◌*◌, ◌/◌, length, drop, get_or, ltb, eqb}
+use Rattle.std.specs.Prelude.{Result, Ok, Err, Bool, not, ◌||◌, List, [], ◌∷◌, ◌++◌, ℕ, zero, suc, ◌+◌, ◌*◌, ◌/◌, length, drop, get_or, ltb, eqb}
 use Rattle.std.proofs.Math.Option.{Option, none, some}
 use Rattle.std.proofs.Math.ListN.{get_elem?}
 use Rattle.ast.specs.Ast.{Node}
@@ -10,8 +10,8 @@ use Rattle.sheet_rows.specs.Parse.{document_of}
 use Rattle.sheet_check.specs.Grammar.{is_expanded}
 use Rattle.text_decimal.specs.Decimal.{justified, spaces}
 use Rattle.words_answer.specs.Answer.{Said}
-use Rattle.pages_definition.specs.declared.Paged.{Paged}
-use Rattle.pages_definition.specs.declared.Paged.TheVariants.{Bytes, Malformed, TooFew}
+use Rattle.pages_definition.specs.declared.PagesError.{PagesError}
+use Rattle.pages_definition.specs.declared.PagesError.TheVariants.{MalformedDocument, TooFewBytes}
 
 -- f of the first n numbers, one after another
 unfoldable pub each : ℕ → (ℕ → List ℕ) → List ℕ
@@ -94,11 +94,15 @@ paged sheet ledger work lent =
     (refused 28, lent)
     (choose (ltb (length lent) (length t)) (refused 29, lent) (accepted (length t), over t lent))
 
--- document 02's numbers for each case of the code's answer
-abbrev pub answer_of : Paged → Answer
-answer_of (Bytes n) = accepted n
-answer_of Malformed = refused 28
-answer_of TooFew = refused 29
+-- document 02's numbers
+abbrev pub number_of : PagesError → ℕ
+number_of MalformedDocument = 28
+number_of TooFewBytes = 29
+
+-- for each case of the code's answer
+abbrev pub answer_of : Result ℕ PagesError → Answer
+answer_of (Ok n) = accepted n
+answer_of (Err e) = refused (number_of e)
 
 -- as a C export says it: "refusal, bytes"
 abbrev pub said_paged : Answer × List ℕ → Said

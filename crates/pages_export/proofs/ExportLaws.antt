@@ -1,13 +1,30 @@
 -- Pages as C calls them: the cases of the answer.
-use mathlib.Core.Path.{◌≡◌}
+use mathlib.Core.Path.{◌≡◌, refl}
 use mathlib.Core.List.{List, [], ◌∷◌}
 use Prim.Native.Nat.{ℕ, ◌≤◌}
 use lib.ListN.{length}
+use Rattle.std.specs.Prelude.{Result, Ok, Err}
 use Rattle.words_lent.specs.Words.{over}
-use Rattle.words_answer.specs.Answer.{answer_words, exported}
-use Rattle.words_answer.proofs.AnswerLaws.{exported_told}
-use Rattle.pages_definition.specs.declared.Paged.{Paged}
+use Rattle.words_answer.specs.Answer.{refusal_of, words_of, answer_words, exported}
+use Rattle.words_answer.proofs.AnswerLaws.{exported_said}
+use Rattle.pages_definition.specs.declared.PagesError.{PagesError}
+use Rattle.pages_definition.specs.declared.PagesError.TheVariants.{MalformedDocument, TooFewBytes}
+use Rattle.pages_definition.specs.Pages.{number_of, answer_of, said_paged}
 use Rattle.pages_definition.specs.Pages as Pages
 
-pub pages_told : (lent answer : List ℕ) → 2 ≤ length answer → (a : Paged) {after lent' : List ℕ} {result : ℕ} {r : Pages.Answer × List ℕ} → (Pages.answer_of a, lent') ≡ r → (result ≡ (Pages.answer_of a).refusal) × (after ≡ over (answer_words (Pages.answer_of a).refusal ((Pages.answer_of a).bytes ∷ [])) answer) → record { result = result; lent = lent'; answer = after } ≡ exported 29 2 lent answer (Pages.said_paged r)
-pages_told lent answer h a e p = rw (← e) (exported_told 29 2 lent answer (Pages.said_paged (Pages.answer_of a, _)) h p)
+-- what the code hands on
+abbrev pub handed : Result ℕ PagesError → Result (List ℕ) ℕ
+handed (Ok n) = Ok (n ∷ [])
+handed (Err e) = Err (number_of e)
+
+refusal_lem : (r : Result ℕ PagesError) → refusal_of (handed r) ≡ (answer_of r).refusal
+refusal_lem (Ok n) = refl
+refusal_lem (Err e) = refl
+
+words_lem : (r : Result ℕ PagesError) → words_of 1 (handed r) ≡ answer_words (answer_of r).refusal ((answer_of r).bytes ∷ [])
+words_lem (Ok n) = refl
+words_lem (Err MalformedDocument) = refl
+words_lem (Err TooFewBytes) = refl
+
+pub pages_told : (lent answer : List ℕ) → 2 ≤ length answer → (r : Result ℕ PagesError) {after lent' : List ℕ} {result : ℕ} {m : Pages.Answer × List ℕ} → (answer_of r, lent') ≡ m → (result ≡ refusal_of (handed r)) × (after ≡ over (words_of 1 (handed r)) answer) → record { result = result; lent = lent'; answer = after } ≡ exported 29 2 lent answer (said_paged m)
+pages_told lent answer h r e p = rw (← e) (exported_said 29 2 lent answer (said_paged (answer_of r, _)) h 1 (handed r) (refusal_lem r) (words_lem r) p)

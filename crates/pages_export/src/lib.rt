@@ -4,8 +4,6 @@ ghost use Rattle.std.specs.Prelude.{◌≡◌, length};
 ghost use Rattle.words_answer.specs.Answer.{exported};
 ghost use Rattle.pages_definition.specs.Pages.{paged, said_paged};
 
-use pages_definition::Paged;
-
 // Pages. Answer: refusal, bytes.
 pub fn export(
     document: &[u32],
@@ -20,8 +18,7 @@ pub fn export(
         return 29;
     }
     match pages_writer::pages(document, ledger, text, work) {
-        Paged::Bytes(bytes) => words_answer::put(answer, 0, &[bytes as u64]),
-        Paged::Malformed => words_answer::put(answer, 28, &[0]),
-        Paged::TooFew => words_answer::put(answer, 29, &[0]),
+        Ok(bytes) => words_answer::put(answer, Ok([bytes as u64])),
+        Err(error) => words_answer::put::<1>(answer, Err(u32::from(error))),
     }
 }

@@ -6,11 +6,19 @@ ghost use Rattle.pages_definition.specs.Pages.{each, document_nodes, page, answe
 ghost use Rattle.pages_definition.specs.Steps.{LineReady, LinePut, PageReady, PagePut, PagesReady};
 ghost use Rattle.pages_definition.specs.Promises.{Promises};
 
-use pages_definition::Paged;
+use pages_definition::PagesError;
 use sheet_rows::part::Part;
 use sheet_rows::row;
 use sheet_walks::walk;
 use sheet_walks::walk::Found;
+
+// A line of a page, with its end.
+const LINE_BYTES: usize = 73;
+
+// The nodes of a page, one to a line under its heading.
+const NODES: usize = 59;
+
+const PAGE_BYTES: usize = LINE_BYTES * (NODES + 1);
 
 // The `i`-th line for a node, by a walk from row `q` on: the node's, or a blank one. The row to go on from.
 fn put_line(sheet: &[u32], q: usize, i: usize, ledger: &[u32], text: &mut [u8], at: usize) -> usize
@@ -34,13 +42,18 @@ fn put_page(sheet: &[u32], q: usize, p: usize, ledger: &[u32], text: &mut [u8]) 
     requires { PageReady sheet.now ledger.now q p (length text.old) }
     ensures { PagePut sheet.now ledger.now p text.old text.new result }
 {
-    let base = 4380 * p;
+    let base = PAGE_BYTES * p;
     pages_text::put_heading(text, base, (p + 1) as u32);
     let mut from = q;
-    let mut k = 0;
-    while k < 59 {
-        from = put_line(sheet, from, 59 * p + k, ledger, text, base + 73 + 73 * k);
-        k += 1;
+    for k in 0..NODES {
+        from = put_line(
+            sheet,
+            from,
+            NODES * p + k,
+            ledger,
+            text,
+            base + LINE_BYTES + LINE_BYTES * k,
+        );
     }
     from
 }
@@ -51,35 +64,38 @@ fn put_pages(sheet: &[u32], n: usize, ledger: &[u32], text: &mut [u8])
     ensures { text.new ≡ sets text.old 0 (each n (page (document_nodes sheet.now) ledger.now)) }
 {
     let mut from = 1;
-    let mut p = 0;
-    while p < n {
+    for p in 0..n {
         from = put_page(sheet, from, p, ledger, text);
-        p += 1;
     }
 }
 
 // All pages, into the lent bytes; they stay on a refusal. Work is asked for and not used.
-pub fn pages(document: &[u32], ledger: &[u32], text: &mut [u8], work: &mut [u32]) -> Paged
+pub fn pages(
+    document: &[u32],
+    ledger: &[u32],
+    text: &mut [u8],
+    work: &mut [u32],
+) -> Result<usize, PagesError>
     ensures text_after { (answer_of result, text.new) ≡ paged document.now ledger.now (length work.old) text.old }
     ensures promises { Promises document.now ledger.now (length work.old) text.old (answer_of result) text.new }
 {
     if !sheet_check::is_expanded(document) {
-        return Paged::Malformed;
+        return Err(PagesError::MalformedDocument);
     }
     if work.len() / 16 < document.len() / 8 {
-        return Paged::Malformed;
+        return Err(PagesError::MalformedDocument);
     }
     let nodes = walk::count(document, Part::Nodes, 1);
     if 4294967295 < nodes {
-        return Paged::Malformed;
+        return Err(PagesError::MalformedDocument);
     }
     if ledger.len() != 3 * nodes {
-        return Paged::Malformed;
+        return Err(PagesError::MalformedDocument);
     }
-    let count = (nodes + 58) / 59;
-    if text.len() / 4380 < count {
-        return Paged::TooFew;
+    let count = nodes.div_ceil(NODES);
+    if text.len() / PAGE_BYTES < count {
+        return Err(PagesError::TooFewBytes);
     }
     put_pages(document, count, ledger, text);
-    Paged::Bytes(4380 * count)
+    Ok(PAGE_BYTES * count)
 }

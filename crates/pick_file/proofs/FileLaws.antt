@@ -5,8 +5,7 @@ use mathlib.Core.List.{List, [], ◌∷◌, map}
 use mathlib.Core.Option.{Option, none, some}
 use Prim.Native.Nat.{ℕ, zero, suc, ◌+◌, ◌≤◌}
 use native.Mathlib.Omega.{arith}
-use native.Mathlib.Numerals.{add-one}
-use lib.ListN.{length, get_or, drop, get_elem?, length-drop, drop_of_length-le}
+use lib.ListN.{length, get_or, drop, get_elem?, length-drop, length-map, drop_of_length-le}
 use lib.Dec.{eqb}
 use borrow.Author.Tests.{eq-eqb, ne_eqb}
 use Rattle.ast.specs.Ast.{ProtoDecl, Route, Statement, Document}
@@ -21,9 +20,8 @@ use Rattle.sheet_walks.specs.declared.walk.Found.TheVariants.{At, Nothing}
 use Rattle.sheet_walks.specs.Walk.{Stands, Nth}
 use Rattle.sheet_lookup.specs.Lookup.{document_at}
 use Rattle.sheet_walks.proofs.WalkLaws.{each_at, each_none, at_map, front_drop, rest_drop, from_here}
-use Rattle.ast.specs.declared.ProtoId.{ProtoId}
+use Rattle.std.specs.Prelude.{Option as Maybe, Some, None}
 use Rattle.pick_file.specs.declared.TopProto.{TopProto}
-use Rattle.pick_file.specs.declared.TopProto.TheVariants as top
 use Rattle.pick_definition.specs.PickIn.{top_protos, is_named, first_named, pick_in}
 use Rattle.pick_file.specs.File.{id_of, protos_from, StandsProto, NextProto, protos_at, FirstNamed}
 
@@ -65,16 +63,16 @@ module _ (R : List Row) where
     proto_pass n = ap top_protos (each_at statement_of h) ∙ passed _ _ _ _ _ _ _ (λ e. n (sym (column R q (λ x. x.a) is) ∙ e))
 
 -- what was found, by its answer
-module _ (R : List Row) (p : ℕ) {x : TopProto} (s : NextProto R p x) where
-  pub next_at : {id : ProtoId} {q : ℕ} → x ≡ top.At id q → StandsProto R p id.0 q
+module _ (R : List Row) (p : ℕ) {x : Maybe TopProto} (s : NextProto R p x) where
+  pub next_at : {top : TopProto} → x ≡ Some top → StandsProto R p top.id.0 top.row
   next_at e = subst (NextProto R p) e s
 
-  pub next_none : x ≡ top.Nothing → protos_from R p ≡ []
+  pub next_none : x ≡ None → protos_from R p ≡ []
   next_none e = subst (NextProto R p) e s
 
-pub next_first : (R : List Row) (p : ℕ) (x : TopProto) → NextProto R p x → id_of x ≡ first (protos_from R p)
-next_first R p (top.At id q) s = rw s.is
-next_first R p top.Nothing s = rw s
+pub next_first : (R : List Row) (p : ℕ) (x : Maybe TopProto) → NextProto R p x → id_of x ≡ first (protos_from R p)
+next_first R p (Some top) s = rw s.is
+next_first R p None s = rw s
 
 -- ---- how many elements a part has
 
@@ -91,6 +89,20 @@ fewer t (r ∷ l) = go (eqb r.kind (kind_of t)) (passes t r.kind) (fewer t l)
 
 pub few : (t : Part) (R : List Row) (p : ℕ) → length (elements t (drop p R)) ≤ length R
 few t R p = omega (arith, fewer t (drop p R), length-drop p R)
+
+top_few : (l : List Statement) → length (top_protos l) ≤ length l
+unfolding top_protos
+top_few [] = omega arith
+top_few (Statement.Node i ∷ l) = omega (arith, top_few l)
+top_few (Statement.Proto i ∷ l) = omega (arith, top_few l)
+top_few (Statement.ExternProto i ∷ l) = omega (arith, top_few l)
+top_few (Statement.Route i ∷ l) = omega (arith, top_few l)
+top_few (Statement.Other i ∷ l) = omega (arith, top_few l)
+
+-- no more Proto statements than rows
+pub protos_few : (R : List Row) (p : ℕ) → length (protos_from R p) ≤ length R
+unfolding statements_of
+protos_few R p = omega (arith, top_few (statements_of (drop p R)), length-map (elements Statements (drop p R)) statement_of, few Statements R p)
 
 -- ---- the prototype of an id
 
@@ -126,23 +138,23 @@ pass_start R protos name p = record { is = λ file h. refl }
 module _ {R : List Row} {protos name : ℕ} where
   module _ {p at : ℕ} (w : Passing R protos name p at) where
     -- no Proto statement is left
-    pub first_none : protos_from R at ≡ [] → FirstNamed R protos name p top.Nothing
+    pub first_none : protos_from R at ≡ [] → FirstNamed R protos name p None
     unfolding first_named
     first_none e file h = sym (w.is file h ∙ ap (first_named file name) e)
 
-    module _ {id q : ℕ} (s : StandsProto R at id q) {b : Bool} (is : b ≡ is_named name (get_elem? (protos_at R protos) id)) where
+    module _ {top : TopProto} (s : StandsProto R at top.id.0 top.row) {b : Bool} (is : b ≡ is_named name (get_elem? (protos_at R protos) top.id.0)) where
       -- the next has the name
-      pub first_here : b ≡ true → FirstNamed R protos name p (top.At (record { 0 = id }) q)
+      pub first_here : b ≡ true → FirstNamed R protos name p (Some top)
       unfolding first_named
       first_here e file h = sym (w.is file h ∙ rw (s.is, h, sym is, e))
 
       -- it has another, or dangles
-      pub first_pass : b ≡ false → Passing R protos name p (q + 1)
+      pub first_pass : b ≡ false → Passing R protos name p (top.row + 1)
       unfolding first_named
       first_pass e =
           record {
             is = λ file h.
-                let z : is_named name (get_elem? file.protos id) ≡ false = ap (λ (ps : List ProtoDecl). is_named name (get_elem? ps id)) h ∙ sym is ∙ e in
+                let z : is_named name (get_elem? file.protos top.id.0) ≡ false = ap (λ (ps : List ProtoDecl). is_named name (get_elem? ps top.id.0)) h ∙ sym is ∙ e in
                 w.is file h ∙ rw (s.is, z);
           }
 
@@ -177,12 +189,12 @@ module _ (R : List Row) (document : ℕ) where
 
   module _ (p : ℕ) (e : (document_at R document).statements ≡ statements_of (drop p R)) (fragment : ℕ) where
     -- without a fragment
-    pub pick_first : (x : TopProto) → fragment ≡ none# → NextProto R p x → id_of x ≡ pick_in (document_at R document) (optional fragment)
+    pub pick_first : (x : Maybe TopProto) → fragment ≡ none# → NextProto R p x → id_of x ≡ pick_in (document_at R document) (optional fragment)
     unfolding pick_in
     pick_first x z s = rw (eq-eqb _ _ z, e) (next_first R p x s)
 
     -- with a fragment
-    pub pick_named : (x : TopProto) → (fragment ≡ none# → ⊥) → FirstNamed R (document + 1) fragment p x → id_of x ≡ pick_in (document_at R document) (optional fragment)
+    pub pick_named : (x : Maybe TopProto) → (fragment ≡ none# → ⊥) → FirstNamed R (document + 1) fragment p x → id_of x ≡ pick_in (document_at R document) (optional fragment)
     unfolding pick_in
     pick_named x n s =
         rw (ne_eqb _ _ n)

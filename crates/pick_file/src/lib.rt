@@ -1,54 +1,84 @@
 #![tactic(auto)]
 // The pick within a file: a top-level Proto statement of its document.
 ghost use Rattle.std.specs.Prelude.{◌≡◌, ◌*◌, ◌≤◌, ◌<◌, length, drop};
+ghost use Rattle.std.specs.Iterator.{at_most};
 ghost use Rattle.std.proofs.Math.ListN.{get_elem?};
 ghost use Rattle.sheet_rows.specs.declared.part.Part.TheVariants.{Protos};
 ghost use Rattle.sheet_rows.specs.Rows.{rows};
 ghost use Rattle.sheet_rows.specs.Parse.{elements, optional};
 ghost use Rattle.sheet_walks.specs.Walk.{Nth};
+ghost use Rattle.sheet_index.specs.Once.{Part-set};
 ghost use Rattle.sheet_lookup.specs.Lookup.{document_at};
 ghost use Rattle.pick_definition.specs.PickIn.{is_named, pick_in};
-ghost use Rattle.pick_file.specs.File.{Capped, id_of, NextProto, protos_at, ProtosIndexed, FirstNamed};
+ghost use Rattle.pick_file.specs.File.{Capped, id_of, protos_from, NextProto, StepsProto, protos_at, FirstNamed};
 
 use ast::ProtoId;
+use sheet_index::PartIndex;
 use sheet_rows::part::Part;
 use sheet_rows::row;
 use sheet_walks::walk;
 use sheet_walks::walk::Found;
 
+// The kind of a statement that names a prototype.
+const PROTO: u32 = 1;
+
 // A top-level Proto statement: the id that it names, and its row.
 #[derive(Clone, Copy)]
-pub enum TopProto {
-    At { id: ProtoId, row: usize },
-    Nothing,
+pub struct TopProto {
+    pub id: ProtoId,
+    pub row: usize,
 }
 
-// The prototypes from a row on: how many they are, and an index of them in lent words.
+// The prototypes from a row on: how many they are, and an index of them.
 #[derive(Clone, Copy)]
-pub struct ProtoIndex {
-    pub from: usize,
+pub struct ProtoIndex<'a> {
     pub count: usize,
-    pub stride: u32,
-    pub filled: usize,
+    pub index: PartIndex<'a>,
+    pub ghost of_protos: { index.part ≡ Protos } by { Part-set index.part Protos },
+    pub ghost counted: { count ≡ length (elements Protos (drop index.from (rows index.sheet.now))) },
 }
 
 // The first Proto statement from a row on.
-pub fn next_proto(sheet: &[u32], from: usize) -> TopProto
+pub fn next_proto(sheet: &[u32], from: usize) -> Option<TopProto>
     ensures { NextProto (rows sheet.now) from result }
 {
-    let mut at = from;
-    loop {
-        let Found::At(q) = walk::seek(sheet, Part::Statements, at) else {
-            return TopProto::Nothing;
-        };
+    for q in walk::elements(sheet, Part::Statements, from) {
         let r = row::row_at(sheet, q);
-        if r.a == 1 {
-            return TopProto::At {
+        if r.a == PROTO {
+            return Some(TopProto {
                 id: ProtoId(r.b),
                 row: q,
-            };
+            });
         }
-        at = q + 1;
+    }
+    None
+}
+
+// The Proto statements from a row on, one after another.
+#[derive(Drop)]
+pub struct TopProtos<'a> {
+    pub sheet: &'a [u32],
+    pub next: usize,
+}
+
+pub fn top_protos(sheet: &[u32], from: usize) -> TopProtos<'_>
+    ensures sheet { result.sheet.now ≡ sheet.now }
+    ensures next { result.next ≡ from }
+{
+    TopProtos { sheet, next: from }
+}
+
+impl<'a> Iterator for TopProtos<'a> {
+    type Item = TopProto;
+
+    ghost next_gives = { λ s r t. StepsProto (rows s.sheet.now) s.next r (rows t.sheet.now) t.next };
+
+    ghost remaining = { λ s. at_most (length (protos_from (rows s.sheet.now) s.next)) };
+
+    fn next(&mut self) -> Option<TopProto> {
+        let top = next_proto(self.sheet, self.next)?;
+        self.next = top.row + 1;
+        Some(top)
     }
 }
 
@@ -57,95 +87,72 @@ fn stride(count: usize, room: usize) -> u32
     requires { count ≤ 1048576 }
     ensures { 0 < room → count ≤ result * room }
 {
-    if count <= room {
-        return 1;
-    }
-    if room == 0 {
+    if count <= room || room == 0 {
         return 1;
     }
     (count / room + 1) as u32
 }
 
-fn index_protos(sheet: &[u32], from: usize, slots: &mut [u32]) -> ProtoIndex
-    requires { Capped sheet.now }
-    ensures { (result.from ≡ from) × ProtosIndexed (rows sheet.now) slots.new result }
-{
-    let count = walk::count(sheet, Part::Protos, from);
-    let stride = stride(count, slots.len());
-    let filled = sheet_index::index(sheet, Part::Protos, from, stride, slots);
-    ProtoIndex {
-        from,
-        count,
-        stride,
-        filled,
-    }
-}
-
-// The row of the prototype of an id. An id past the last is told without a walk.
-pub fn proto_row(sheet: &[u32], protos: ProtoIndex, slots: &[u32], id: ProtoId) -> Found
-    requires { ProtosIndexed (rows sheet.now) slots.now protos }
-    ensures { Nth Protos (rows sheet.now) protos.from id.0 result }
-{
-    let n = id.0;
-    if protos.count <= n as usize {
-        return Found::Nothing;
-    }
-    let from = protos.from;
-    let stride = protos.stride;
-    let filled = protos.filled;
-    sheet_index::find(sheet, Part::Protos, from, stride, slots, filled, n)
-}
-
-// Whether the prototype of an id exists and has a name.
-fn is_named(sheet: &[u32], protos: ProtoIndex, slots: &[u32], id: ProtoId, name: u32) -> bool
-    requires { ProtosIndexed (rows sheet.now) slots.now protos }
-    ensures { result ≡ is_named name (get_elem? (protos_at (rows sheet.now) protos.from) id.0) }
-{
-    let Found::At(q) = proto_row(sheet, protos, slots, id) else {
-        return false;
-    };
-    row::row_at(sheet, q).a == name
-}
-
-// The first Proto statement from a row on whose prototype exists and has a name.
-pub fn first_named(
-    sheet: &[u32],
-    from: usize,
-    name: u32,
-    protos: ProtoIndex,
-    slots: &[u32],
-) -> TopProto
-    requires { ProtosIndexed (rows sheet.now) slots.now protos }
-    ensures { FirstNamed (rows sheet.now) protos.from name from result }
-{
-    let mut at = from;
-    loop {
-        let TopProto::At { id, row } = next_proto(sheet, at) else {
-            return TopProto::Nothing;
-        };
-        if is_named(sheet, protos, slots, id, name) {
-            return TopProto::At { id, row };
+impl ProtoIndex<'_> {
+    // The row of the prototype of an id. An id past the last is told without a walk.
+    pub fn proto_row(&self, id: ProtoId) -> Found
+        ensures { Nth Protos (rows self.now.index.sheet.now) self.now.index.from id.0 result }
+    {
+        if self.count <= id.0 as usize {
+            return Found::Nothing;
         }
-        at = row + 1;
+        self.index.find(id.0)
+    }
+
+    // Whether the prototype of an id exists and has a name.
+    fn is_named(&self, id: ProtoId, name: u32) -> bool
+        ensures { result ≡ is_named name (get_elem? (protos_at (rows self.now.index.sheet.now) self.now.index.from) id.0) }
+    {
+        let Found::At(q) = self.proto_row(id) else {
+            return false;
+        };
+        row::row_at(self.index.sheet, q).a == name
+    }
+
+    // The first Proto statement from a row on whose prototype exists and has a name.
+    pub fn first_named(&self, from: usize, name: u32) -> Option<TopProto>
+        ensures { FirstNamed (rows self.now.index.sheet.now) self.now.index.from name from result }
+    {
+        for top in top_protos(self.index.sheet, from) {
+            if self.is_named(top.id, name) {
+                return Some(top);
+            }
+        }
+        None
     }
 }
 
 // The pick in the document that begins at a row, by a walk. With a fragment, the first top-level Proto of that name;
 // without, the first top-level Proto, dangling or not.
-pub fn pick_in(sheet: &[u32], document: usize, fragment: u32, slots: &mut [u32]) -> TopProto
+pub fn pick_in(sheet: &[u32], document: usize, fragment: u32, slots: &mut [u32]) -> Option<TopProto>
     requires { Capped sheet.now }
     ensures { id_of result ≡ pick_in (document_at (rows sheet.now) document) (optional fragment) }
 {
     if sheet.len() / 8 <= document {
-        return TopProto::Nothing;
+        return None;
     }
     let from = document + 1;
     let Found::At(top) = walk::seek(sheet, Part::Tops, from) else {
-        return TopProto::Nothing;
+        return None;
     };
     if fragment == row::NONE {
         return next_proto(sheet, top + 1);
     }
-    let protos = index_protos(sheet, from, slots);
-    first_named(sheet, top + 1, fragment, protos, slots)
+    let part = Part::Protos;
+    let count = walk::count(sheet, part, from);
+    let stride = stride(count, slots.len());
+    let filled = sheet_index::index(sheet, part, from, stride, slots);
+    let index = PartIndex {
+        sheet,
+        part,
+        from,
+        stride,
+        slots: &slots[..filled],
+    };
+    ProtoIndex { count, index }.first_named(top + 1, fragment)
 }

@@ -1,6 +1,6 @@
 -- The list of the library's files, and the search in it for the file of a base.
 use mathlib.Core.Path.{◌≡◌, refl, sym, ap, ◌∙◌}
-use mathlib.Core.List.{List, [], ◌∷◌, map}
+use mathlib.Core.List.{List, [], ◌∷◌}
 use mathlib.Core.Option.{none, some}
 use Prim.Native.Nat.{ℕ, zero, suc, ◌+◌, ◌-◌, ◌≤◌, ◌<◌}
 use native.Mathlib.Omega.{arith}
@@ -16,8 +16,6 @@ use Rattle.sheet_rows.specs.Rows.{blank, front}
 use Rattle.sheet_rows.specs.Parse.{elements, file_of, files_of}
 use Rattle.sheet_walks.specs.Walk.{Stands}
 use Rattle.sheet_walks.proofs.WalkLaws.{each_at, each_none, front_drop, rest_drop, at_drop}
-use Rattle.pick_table.specs.declared.table.Source.{Source}
-use Rattle.pick_definition.specs.Picks.{library_file}
 use Rattle.pick_table.specs.Table.{IsFileOf, FilesListed}
 use Rattle.pick_definition.proofs.NewerLaws.{newer_counts}
 use Rattle.pick_table.proofs.SourceLaws.{files_from}

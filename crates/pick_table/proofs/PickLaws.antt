@@ -3,58 +3,55 @@ use mathlib.Core.Path.{◌≡◌, refl, sym, ap, ◌∙◌}
 use mathlib.Core.Bool.{Bool, true, false}
 use mathlib.Core.List.{List, [], ◌∷◌, ◌++◌, map}
 use mathlib.Core.Option.{Option, none, some}
-use Prim.Native.Nat.{ℕ, zero, suc, ◌+◌, ◌-◌, ◌≤◌, ◌<◌}
+use Prim.Native.Nat.{ℕ, suc, ◌+◌, ◌-◌, ◌≤◌, ◌<◌}
 use native.Mathlib.Numerals.{add-one}
 use native.Mathlib.Omega.{arith}
-use native.Mathlib.Decide.{ℕ_discrete}
-use lib.ListN.{length, get_or, take, drop, length-drop}
-use lib.Seq.{take_at}
+use lib.ListN.{length, get_or, drop}
+use lib.Seq.{take_at, get_or-set_same}
 use lib.Dec.{eqb}
-use borrow.Author.Tests.{eq-eqb, ne_eqb}
-use Rattle.ast.specs.declared.ProtoId.{ProtoId}
+use borrow.Author.Tests.{eq-eqb, ne_eqb, lt-ltb, le-ltb}
 use Rattle.ast.specs.Ast.{Url, ExternProtoDecl, File}
 use Rattle.ast.specs.Choice.{choose, and_then}
 use Rattle.sheet_rows.specs.declared.row.Row.{Row}
 use Rattle.sheet_rows.specs.declared.part.Part.TheVariants.{Externs, Urls}
 use Rattle.sheet_rows.specs.Rows.{blank}
-use Rattle.sheet_rows.specs.Parse.{kind_of, passes, elements, optional, url_of, extern_proto_of, document_of, files_of}
+use Rattle.sheet_rows.specs.Parse.{elements, optional, url_of, extern_proto_of, document_of, files_of}
 use Rattle.sheet_walks.specs.Walk.{Stands}
 use Rattle.sheet_lookup.specs.Lookup.{document_at}
-use Rattle.sheet_walks.proofs.WalkLaws.{elements_take, elements_pass, elements_stop, elements_end, each_at, each_none, front_drop, rest_drop}
+use Rattle.sheet_walks.proofs.WalkLaws.{elements_end, each_at, each_none, front_drop, rest_drop}
 use Rattle.pick_definition.specs.PickIn.{pick_in}
 use Rattle.pick_file.specs.File.{id_of}
 use Rattle.pick_file.specs.declared.TopProto.{TopProto}
-use Rattle.pick_file.specs.declared.TopProto.TheVariants as top
+use Rattle.std.specs.Prelude.{Option as Maybe, Some, None}
+use Rattle.std.specs.Option.{is_some}
 use Rattle.pick_memo.specs.declared.Memo.{Memo}
 use Rattle.pick_memo.specs.Memo.{MemoSound}
 use Rattle.words_lent.proofs.WordLaws.{stays_front}
 use Rattle.pick_table.specs.declared.table.Source.{Source}
 use Rattle.pick_table.specs.declared.table.Table.{Table}
 use Rattle.pick_table.specs.declared.Chosen.{Chosen}
-use Rattle.pick_table.specs.declared.Chosen.TheVariants.{Proto, Nothing}
-use Rattle.pick_definition.specs.Picks.{Prototype, Bases, Picked, library_file, pick_from, pick_url, member, remember, or_next, pick_urls, bases_from, Walked, fetched, walk_fetched, walk_files, walk, final_bases}
-use Rattle.pick_table.specs.Table.{bases_of, source_at, Empty, TableSound, FilesListed, Position, BaseAdded, IsFileOf}
-use Rattle.pick_table.specs.Chosen.{prototype_by, Leads, Scratch, Tried, after_file, FileTried, Final}
-use Rattle.pick_table.proofs.TableLaws.{position_known, position_new, count_is, base_at, sound_added, bases_added}
+use Rattle.pick_definition.specs.Picks.{Bases, Picked, library_file, pick_from, pick_url, or_next, member, remember, pick_urls, bases_from, Walked, fetched, walk_fetched, walk_files, walk, final_bases}
+use Rattle.pick_table.specs.Table.{bases_of, source_at, Empty, TableSound, FilesListed, StandsAt, Position, BaseAdded, IsFileOf}
+use Rattle.pick_table.specs.Chosen.{prototype_by, Leads, Scratch, Placed, UrlTried, UrlsTried, Tried, after_file, FileTried, Final}
+use Rattle.pick_table.proofs.TableLaws.{position_known, position_new, stands_low, stands_here, count_is, base_at, sound_added, bases_added}
 use Rattle.pick_table.proofs.ListedLaws.{listed_on}
-use Rattle.pick_definition.proofs.GrowLaws.{tried_known, tried_again, tried_full}
 use Rattle.pick_definition.proofs.WalkedLaws.{walk_past}
 
 -- ---- what a url leads to, by the file of its base
 
 module _ (R : List Row) (s : Source) (fragment : ℕ) where
   -- a base without a file
-  pub from_none : s.number ≡ 0 → Leads R s fragment Nothing
+  pub from_none : s.number ≡ 0 → Leads R s fragment None
   from_none e base used = rw (eq-eqb _ _ e)
 
-  module _ (x : TopProto) (n : s.number ≡ 0 → ⊥) (is : id_of x ≡ pick_in (document_at R s.row) (optional fragment)) where
+  module _ (x : Maybe TopProto) (n : s.number ≡ 0 → ⊥) (is : id_of x ≡ pick_in (document_at R s.row) (optional fragment)) where
     -- a file without such a Proto
-    pub from_nothing : x ≡ top.Nothing → Leads R s fragment Nothing
+    pub from_nothing : x ≡ None → Leads R s fragment None
     from_nothing e base used = rw (ne_eqb _ _ n, sym is, e)
 
     -- a file with one
-    pub from_proto : (id : ProtoId) {row : ℕ} → x ≡ top.At id row → Leads R s fragment (Proto s.number id)
-    from_proto id e base used = rw (ne_eqb _ _ n, sym is, e)
+    pub from_proto : {top : TopProto} → x ≡ Some top → Leads R s fragment (Some (record { document = s.number; id = top.id }))
+    from_proto e base used = rw (ne_eqb _ _ n, sym is, e)
 
 -- ---- the urls of an extern
 
@@ -78,147 +75,127 @@ unfolding extern_proto_of
 extern_urls sheet q = rw (rest_drop sheet q)
 
 -- what a url leads to, by the library's file of its base
-pub url_leads : (R : List Row) (s : Source) (r : Row) (x : Chosen) → IsFileOf R r.a s → Leads R s r.b x → pick_url (files_of R) (url_in r) ≡ prototype_by x
+pub url_leads : (R : List Row) (s : Source) (r : Row) (x : Maybe Chosen) → IsFileOf R r.a s → Leads R s r.b x → pick_url (files_of R) (url_in r) ≡ prototype_by x
 unfolding pick_url
 url_leads R s r x f l = ap (λ (o : Option (ℕ × File)). and_then o (pick_from (url_in r))) f ∙ sym (l r.a (eqb r.c 1))
+
+-- where a base stands, by the answer
+module _ (bases : List ℕ) {base : ℕ} {x : Maybe ℕ} where
+  pub stood : {j : ℕ} → x ≡ Some j → Position bases base x → StandsAt bases base j
+  stood e p = rw e at p
+
+  pub missed : x ≡ None → Position bases base x → Position bases base None
+  missed e p = rw e at p
 
 -- ---- the externs of a document
 
 abbrev externs_from : List Row → ℕ → List ExternProtoDecl
 externs_from sheet p = map extern_proto_of (elements Externs (drop p sheet))
 
--- a row that may stand before a url may stand before an extern
-passed : (k : ℕ) → passes Urls k ≡ true → (passes Externs k ≡ true) × (k ≡ 8 → ⊥)
-passed k e = go (ℕ_discrete k 4) (ℕ_discrete k 9)
-  where
-    go : Dec (k ≡ 4) → Dec (k ≡ 9) → (passes Externs k ≡ true) × (k ≡ 8 → ⊥)
-    go (yes z) d = (rw z, λ y. omega arith)
-    go (no y) (yes z) = (rw z, λ y. omega arith)
-    go (no y) (no z) =
-        let f : false ≡ true = rw (ne_eqb k 4 y, ne_eqb k 9 z) at e in
-        let i : ◌≡◌ {A = ℕ} 0 1 = cc in
-        absurd (omega arith)
+-- ---- one url
 
--- up to a url of an extern no extern begins
-externs_past : (sheet : List Row) (n p q : ℕ) → q ≡ p + n → Stands Urls sheet p q → elements Externs (drop p sheet) ≡ elements Externs (drop (q + 1) sheet)
-externs_past sheet zero p q z h =
-    let e : q ≡ p = omega arith in
-    let k : (get_or sheet p blank).kind ≡ 10 = rw e at h.kind in
-    rw (e, add-one p) (elements_pass Externs sheet p (omega (arith, h.below)) (λ i. omega arith) (rw k))
-externs_past sheet (suc n) p q z h = go (externs_past sheet n (suc p) q (omega arith)) (ℕ_discrete (get_or sheet p blank).kind 10) (passes Urls (get_or sheet p blank).kind) refl
-  where
-    low : p < length sheet
-    low = omega (arith, h.below)
+module _ {R : List Row} {base : ℕ} {t : Table} (s : TableSound R t) where
+  -- its base is known
+  pub place_known : {j : ℕ} → StandsAt (bases_of t) base j → Placed R base t t (Some j)
+  unfolding remember
+  place_known p = record { sound = s; is = (rw (position_known p), stands_low s p, stands_here s p) }
 
-    go : (Stands Urls sheet (suc p) q → elements Externs (drop (suc p) sheet) ≡ elements Externs (drop (q + 1) sheet)) → Dec ((get_or sheet p blank).kind ≡ 10) → (b : Bool) → passes Urls (get_or sheet p blank).kind ≡ b → elements Externs (drop p sheet) ≡ elements Externs (drop (q + 1) sheet)
-    go f (yes k) b e =
-        let c = sym (elements_take Urls sheet p low k) ∙ h.here in
-        let d : drop p sheet ≡ drop q sheet = cc in
-        absurd (omega (arith, ap length d, length-drop p sheet, length-drop q sheet, h.below))
-    go f (no k) false e =
-        let c = sym (elements_stop Urls sheet p low k e) ∙ h.here in
-        let i : ◌≡◌ {A = ℕ} 0 1 = cc in
-        absurd (omega arith)
-    go f (no k) true e =
-        let c = passed (get_or sheet p blank).kind e in
-        elements_pass Externs sheet p low c.1 c.0 ∙
-        f (record { from = omega arith; below = h.below; kind = h.kind; here = sym (elements_pass Urls sheet p low k e) ∙ h.here })
+  module _ (p : Position (bases_of t) base None) where
+    new : member base (bases_of t) ≡ false
+    new = position_new (bases_of t) p
 
--- the table that is left where the urls of an extern are tried (trying), n of them done; or none is
-abbrev pending : List File → ℕ → ℕ → List Url → Bases → Bases
-pending library zero n urls T = T
-pending library (suc trying) n urls T = (pick_urls library n urls T).1
+    -- it is new, and there is a place for it
+    pub place_new : {x : Source} {u : Table} → t.count < 64 → IsFileOf R base x → BaseAdded t base x u → Placed R base t u (Some t.count)
+    unfolding remember
+    place_new m f a =
+        let l : length (bases_of t) < 64 = omega (arith, count_is s) in
+        let i : t.count < length t.bases = omega (arith, s.long.0) in
+        record {
+          sound = sound_added s m a f;
+          is = (rw (new, lt-ltb _ _ l, bases_added s m a), omega (arith, a.count), rw (a.bases, get_or-set_same t.bases t.count base 0));
+        }
 
--- up to row `at` the externs led to the table t
-pub record Gathering (sheet : List Row) (document : ℕ) (R : List Row) (before t : Table) (at trying : ℕ) : Type 0 where
+    -- or none
+    pub place_none : 64 ≤ t.count → Placed R base t t None
+    unfolding remember
+    place_none m = let l : 64 ≤ length (bases_of t) = omega (arith, count_is s) in record { sound = s; is = (rw (new, le-ltb _ _ l), refl) }
+
+module _ {R : List Row} {base fragment : ℕ} {t u : Table} {x : Maybe ℕ} (p : Placed R base t u x) where
+  -- without a place it is passed over
+  pub url_skipped : x ≡ None → UrlTried R base fragment t u false
+  url_skipped e = let i = (rw e at p).is in record { sound = p.sound; is = λ n used next. rw (i.0, i.1) }
+
+  -- else it leads to what the file of its base says
+  pub url_tried : {j : ℕ} (c : Maybe Chosen) {led : Bool} → x ≡ Some j → Leads R (source_at u j) fragment c → led ≡ is_some c → UrlTried R base fragment t u led
+  unfolding pick_url
+  url_tried {j} c e l b =
+      let i = (rw e at p).is in
+      let f : IsFileOf R base (source_at u j) = rw i.2 at (p.sound.sources j i.1) in
+      record {
+        sound = p.sound;
+        is = λ n used next. rw (i.0, f, sym (l base used), b) (go c n next (bases_of u));
+      }
+    where
+      go : (c : Maybe Chosen) (n : ℕ) (next : Bases → Picked) (T : Bases) → (or_next n next T (prototype_by c)).1 ≡ choose (is_some c) T (next T).1
+      go (Some x) n next T = refl
+      go None n next T = refl
+
+-- ---- the urls of an extern: those from row p on are left
+
+pub record Trying (sheet : List Row) (at : ℕ) (R : List Row) (before t : Table) (p : ℕ) : Type 0 where
   pub sound : TableSound R t
   pub url : ℕ
-  pub is : bases_from (files_of R) (document_at sheet document).extern_protos (bases_of before) ≡ bases_from (files_of R) (externs_from sheet at) (pending (files_of R) trying url (urls_from sheet at) (bases_of t))
-  pub few : trying ≤ 1
+  pub is : (pick_urls (files_of R) 0 (urls_from sheet at) (bases_of before)).1 ≡ (pick_urls (files_of R) url (urls_from sheet p) (bases_of t)).1
+
+pub try_start : (sheet : List Row) (at : ℕ) {R : List Row} {t : Table} → TableSound R t → Trying sheet at R t t at
+try_start sheet at s = record { sound = s; url = 0; is = refl }
+
+module _ {sheet : List Row} {at : ℕ} {R : List Row} {before t : Table} {p : ℕ} (w : Trying sheet at R before t p) where
+  -- no url is left
+  pub try_none : elements Urls (drop p sheet) ≡ [] → UrlsTried sheet at R before t
+  unfolding pick_urls
+  try_none e = record { sound = w.sound; bases = sym (w.is ∙ rw (urls_none sheet p e)) }
+
+  module _ {q : ℕ} {r : Row} (h : Stands Urls sheet p q) (is : r ≡ get_or sheet q blank) {u : Table} {led : Bool} (y : UrlTried R r.a r.b t u led) where
+    here : (pick_urls (files_of R) 0 (urls_from sheet at) (bases_of before)).1 ≡ choose led (bases_of u) (pick_urls (files_of R) (suc w.url) (urls_from sheet (q + 1)) (bases_of u)).1
+    unfolding pick_urls
+    here = w.is ∙ rw (urls_at h is) (y.is w.url (eqb r.c 1) (pick_urls (files_of R) (suc w.url) (urls_from sheet (q + 1))))
+
+    -- a pick
+    pub try_led : led ≡ true → UrlsTried sheet at R before u
+    try_led e = record { sound = y.sound; bases = sym (here ∙ rw e) }
+
+    -- none: the next url
+    pub try_next : led ≡ false → Trying sheet at R before u (q + 1)
+    try_next e = record { sound = y.sound; url = suc w.url; is = here ∙ rw e }
+
+-- ---- the externs of a document: those from row p on are left
+
+pub record Gathering (sheet : List Row) (document : ℕ) (R : List Row) (before t : Table) (p : ℕ) : Type 0 where
+  pub sound : TableSound R t
+  pub is : bases_from (files_of R) (document_at sheet document).extern_protos (bases_of before) ≡ bases_from (files_of R) (externs_from sheet p) (bases_of t)
 
 -- the walk begins at the row after the document's
-pub gather_start : (sheet : List Row) (document : ℕ) (R : List Row) (t : Table) → TableSound R t → Gathering sheet document R t t (document + 1) 0
+pub gather_start : (sheet : List Row) (document : ℕ) (R : List Row) (t : Table) → TableSound R t → Gathering sheet document R t t (document + 1)
 unfolding document_of
-gather_start sheet document R t s = record { sound = s; url = 0; is = rw (rest_drop sheet document); few = omega arith }
+gather_start sheet document R t s = record { sound = s; is = rw (rest_drop sheet document) }
 
--- a document past the end of the sheet has no externs
+-- past the last row there are none
 pub gather_past : (sheet : List Row) (document : ℕ) (R : List Row) (t : Table) → TableSound R t → length sheet ≤ document → Tried sheet document R t t
 unfolding document_of bases_from
 gather_past sheet document R t s h =
     record { sound = s; bases = rw (rest_drop sheet document, elements_end Externs sheet (document + 1) (omega arith)) }
 
-module _ {sheet : List Row} {document : ℕ} {R : List Row} {before t : Table} {at trying : ℕ} (w : Gathering sheet document R before t at trying) where
+module _ {sheet : List Row} {document : ℕ} {R : List Row} {before t : Table} {p : ℕ} (w : Gathering sheet document R before t p) where
   -- no extern is left
-  pub gather_none : trying ≡ 0 → elements Externs (drop at sheet) ≡ [] → Tried sheet document R before t
+  pub gather_none : elements Externs (drop p sheet) ≡ [] → Tried sheet document R before t
   unfolding bases_from
-  gather_none z e = record { sound = w.sound; bases = sym (w.is ∙ rw (z, each_none extern_proto_of Externs sheet at e)) }
+  gather_none e = record { sound = w.sound; bases = sym (w.is ∙ rw (each_none extern_proto_of Externs sheet p e)) }
 
-  -- the next extern: its urls are tried
-  pub gather_extern : {q : ℕ} → trying ≡ 0 → Stands Externs sheet at q → Gathering sheet document R before t (q + 1) 1
+  -- the urls of the next extern were tried
+  pub gather_next : {q : ℕ} {u : Table} → Stands Externs sheet p q → UrlsTried sheet (q + 1) R t u → Gathering sheet document R before u (q + 1)
   unfolding bases_from
-  gather_extern {q} z h = record {
-    sound = w.sound;
-    url = 0;
-    is = w.is ∙ rw (z, each_at extern_proto_of h, extern_urls sheet q);
-    few = omega arith;
-  }
-
-  module _ (o : trying ≡ 0 → ⊥) where
-    is_trying : trying ≡ 1
-    is_trying = omega (arith, o, w.few)
-
-    -- no url is left
-    pub gather_shut : elements Urls (drop at sheet) ≡ [] → Gathering sheet document R before t at 0
-    unfolding pick_urls
-    gather_shut e = record { sound = w.sound; url = 0; is = w.is ∙ rw (is_trying, urls_none sheet at e); few = omega arith }
-
-    module _ {q : ℕ} {r : Row} (h : Stands Urls sheet at q) (is : r ≡ get_or sheet q blank) {j : ℕ} (p : Position t.bases t.count r.a j) where
-      abbrev F : List File
-      F = files_of R
-
-      abbrev next : List Url
-      next = urls_from sheet (q + 1)
-
-      here : bases_from F (document_at sheet document).extern_protos (bases_of before) ≡ bases_from F (externs_from sheet (q + 1)) (pick_urls F w.url (url_in r ∷ next) (bases_of t)).1
-      here = w.is ∙ rw (is_trying, urls_at h is, externs_past sheet (q - at) at q (omega (arith, h.from)) h)
-
-      -- its base is known: what it leads to
-      module _ (k : j < t.count) (x : Chosen) (l : Leads R (source_at t j) r.b x) where
-        step : pick_urls F w.url (url_in r ∷ next) (bases_of t) ≡ or_next w.url (pick_urls F (suc w.url) next) (bases_of t) (prototype_by x)
-        step =
-            tried_known F w.url (url_in r) next (bases_of t) (position_known p (omega (arith, w.sound.room, w.sound.long.0)) k) ∙
-            ap (or_next w.url (pick_urls F (suc w.url) next) (bases_of t)) (url_leads R (source_at t j) r x (rw (p.here k) at (w.sound.sources j k)) l)
-
-        -- a pick
-        pub gather_proto : {d : ℕ} {id : ProtoId} → x ≡ Proto d id → Gathering sheet document R before t (q + 1) 0
-        gather_proto e = record { sound = w.sound; url = 0; is = here ∙ rw (step, e); few = omega arith }
-
-        -- none: the next url
-        pub gather_next : x ≡ Nothing → Gathering sheet document R before t (q + 1) trying
-        gather_next e = record { sound = w.sound; url = suc w.url; is = here ∙ rw (step, e, is_trying); few = w.few }
-
-      -- a new base, and a place for it: it comes into the table, and the url is tried again
-      pub gather_new : {s : Source} {u : Table} → t.count ≤ j → j < 64 → IsFileOf R r.a s → BaseAdded t r.a s u → Gathering sheet document R before u at trying
-      gather_new {u = u} k m f a =
-          let n : t.count < 64 = omega arith in
-          let e = bases_added w.sound n a in
-          let g = tried_again F w.url (url_in r) next (bases_of t) (position_new p k) (omega (arith, count_is w.sound)) in
-          let i : pending F trying w.url (urls_from sheet at) (bases_of t) ≡ pending F trying w.url (urls_from sheet at) (bases_of u) = rw (is_trying, urls_at h is, e) (ap (λ (x : Picked). x.1) g) in
-          record {
-            sound = sound_added w.sound n a f;
-            url = w.url;
-            is = w.is ∙ ap (bases_from F (externs_from sheet at)) i;
-            few = w.few;
-          }
-
-      -- a new one and a full table: it is skipped
-      pub gather_skip : t.count ≤ j → 64 ≤ j → Gathering sheet document R before t (q + 1) trying
-      gather_skip k m = record {
-        sound = w.sound;
-        url = suc w.url;
-        is = here ∙ rw (tried_full F w.url (url_in r) next (bases_of t) (position_new p k) (omega (arith, p.upto, count_is w.sound)), is_trying);
-        few = w.few;
-      }
+  gather_next {q} h y = record { sound = y.sound; is = w.is ∙ rw (each_at extern_proto_of h, extern_urls sheet q, y.bases) }
 
 -- ---- the words lent
 

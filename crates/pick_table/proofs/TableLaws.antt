@@ -1,6 +1,6 @@
 -- The table of bases: a base that it knows, a new one.
-use mathlib.Core.Path.{◌≡◌, refl}
-use mathlib.Core.Bool.{true, false}
+use mathlib.Core.Path.{◌≡◌, refl, sym, ◌∙◌}
+use mathlib.Core.Bool.{Bool, true, false}
 use mathlib.Core.List.{List, [], ◌∷◌, ◌++◌}
 use mathlib.Core.Option.{some}
 use Prim.Native.Nat.{ℕ, zero, suc, ◌+◌, ◌≤◌, ◌<◌}
@@ -8,21 +8,44 @@ use native.Mathlib.Omega.{arith}
 use native.Mathlib.Numerals.{add-one}
 use native.Mathlib.Decide.{ℕ_discrete}
 use lib.ListN.{length, get_or, take, get_elem?, length-set}
-use lib.Seq.{length-take-le, take-suc-set, get_or-set_same, get_or-set_other}
+use Rattle.std.specs.Prelude.{Option as Maybe, Some, None}
+use Rattle.std.specs.List.{position, position_or_len}
+use Rattle.std.proofs.lemmas.Grind.{common_steps}
+use Rattle.std.proofs.lemmas.List.Sums.{fails_before_first}
+use Rattle.std.proofs.lemmas.List.Quantifiers.{position-Some}
+use lib.Dec.{eqb}
+use borrow.Author.Tests.{eq-eqb, eqb-true}
+use lib.Seq.{length-take-le, take-length, get_or-take, take-suc-set, get_or-set_same, get_or-set_other}
 use Rattle.sheet_rows.specs.declared.row.Row.{Row}
 use Rattle.pick_table.specs.declared.table.Source.{Source}
 use Rattle.pick_table.specs.declared.table.Table.{Table}
 use Rattle.pick_definition.specs.Picks.{member}
-use Rattle.pick_table.specs.Table.{bases_of, IsFileOf, source_at, TableSound, Position, BaseAdded}
+use Rattle.pick_table.specs.Table.{bases_of, IsFileOf, source_at, TableSound, StandsAt, Position, BaseAdded}
 use Rattle.pick_definition.proofs.MemberLaws.{member_at, member_none}
 
--- a base among the first of a list, by its position
-module _ {bases : List ℕ} {count base j : ℕ} (p : Position bases count base j) where
-  pub position_known : count ≤ length bases → j < count → member base (take count bases) ≡ true
-  position_known h i = member_at base count bases j i (omega arith) (p.here i)
+-- what the library's search for a base says
+pub positioned : (bases : List ℕ) (base : ℕ) (x : Maybe ℕ) → x ≡ position (λ y. eqb y base) bases → Position bases base x
+positioned bases base (Some j) e =
+    let p = position-Some (λ y. eqb y base) bases j 0 (sym e) in
+    record { within = p.0; here = eqb-true (get_or bases j 0) base p.1; before = λ k h i. other (eq-eqb (get_or bases k 0) base i) (p.2 k h) }
+  where
+    other : {b : Bool} → b ≡ true → b ≡ false → ⊥
+    other t f = cc
+positioned bases base None e =
+    let p : ℕ → Bool = λ y. eqb y base in
+    let missing : position p bases ≡ None = sym e in
+    let full : length bases ≤ position_or_len p bases = grind (arith, common_steps) in
+    λ k h i. other (eq-eqb (get_or bases k 0) base i) (fails_before_first p bases k 0 (omega arith))
+  where
+    other : {b : Bool} → b ≡ true → b ≡ false → ⊥
+    other t f = cc
 
-  pub position_new : count ≤ j → member base (take count bases) ≡ false
-  position_new h = member_none base count bases (λ k i. p.before k (omega (arith, p.upto)))
+-- a base in a list, by its position
+pub position_known : {bases : List ℕ} {base j : ℕ} → StandsAt bases base j → member base bases ≡ true
+position_known {bases} {base} {j} p = rw take-length at (member_at base (length bases) bases j p.within p.within p.here)
+
+pub position_new : (bases : List ℕ) {base : ℕ} → Position bases base None → member base bases ≡ false
+position_new bases {base} p = rw take-length at (member_none base (length bases) bases p)
 
 -- the first of a list by their places
 pub taken_at : (n : ℕ) (l : List ℕ) (k : ℕ) → k < n → n ≤ length l → get_elem? (take n l) k ≡ some (get_or l k 0)
@@ -38,6 +61,14 @@ module _ {R : List Row} {t : Table} (s : TableSound R t) where
 
   pub base_at : (k : ℕ) → k < t.count → get_elem? (bases_of t) k ≡ some (get_or t.bases k 0)
   base_at k h = taken_at t.count t.bases k h (omega (arith, s.room, s.long.0))
+
+  -- where a base stands in it
+  module _ {base j : ℕ} (p : StandsAt (bases_of t) base j) where
+    pub stands_low : j < t.count
+    stands_low = omega (arith, p.within, count_is)
+
+    pub stands_here : get_or t.bases j 0 ≡ base
+    stands_here = sym (get_or-take t.count t.bases j 0 stands_low) ∙ p.here
 
   -- one base more, with its file
   module _ {base : ℕ} {x : Source} {u : Table} (m : t.count < 64) (a : BaseAdded t base x u) where

@@ -1,27 +1,27 @@
 -- What the code answers, as picks.
-use Rattle.std.specs.Prelude.{◌≡◌, Bool, List, ℕ, zero, suc, ◌≤◌, length, take}
+use Rattle.std.specs.Prelude.{Option as Maybe, Some, None, ◌≡◌, Bool, List, ℕ, ◌≤◌, ◌<◌, length, get_or, take, drop, map}
 use Rattle.std.proofs.Math.Option.{Option, none, some}
 use Rattle.ast.specs.Ast.{File}
-use Rattle.ast.specs.Choice.{and_then}
+use Rattle.ast.specs.Choice.{choose, and_then}
 use Rattle.sheet_rows.specs.declared.row.Row.{Row}
-use Rattle.sheet_rows.specs.Parse.{optional, document_of, files_of}
+use Rattle.sheet_rows.specs.declared.part.Part.TheVariants.{Urls}
+use Rattle.sheet_rows.specs.Parse.{elements, optional, url_of, document_of, files_of}
 use Rattle.sheet_lookup.specs.Lookup.{document_at}
 use Rattle.pick_memo.specs.declared.Memo.{Memo}
 use Rattle.pick_memo.specs.Memo.{MemoSound}
 use Rattle.pick_table.specs.declared.table.Source.{Source}
 use Rattle.pick_table.specs.declared.table.Table.{Table}
 use Rattle.pick_table.specs.declared.Chosen.{Chosen}
-use Rattle.pick_table.specs.declared.Chosen.TheVariants.{Proto, Nothing}
-use Rattle.pick_definition.specs.Picks.{Prototype, Bases, pick_from, bases_from, fetched, final_bases}
+use Rattle.pick_definition.specs.Picks.{Prototype, Bases, Picked, remember, pick_from, try_url, pick_urls, bases_from, fetched, final_bases}
 use Rattle.pick_table.specs.Table.{file_at, bases_of, FilesListed, TableSound}
 
 -- the prototype that an answer stands for
-abbrev pub prototype_by : Chosen → Option Prototype
-prototype_by (Proto document id) = some (record { document = document; proto = id.0 })
-prototype_by Nothing = none
+abbrev pub prototype_by : Maybe Chosen → Option Prototype
+prototype_by (Some x) = some (record { document = x.document; proto = x.id.0 })
+prototype_by None = none
 
 -- what a url with a fragment leads to, by the file of its base
-abbrev pub Leads : List Row → Source → ℕ → Chosen → Type 0
+abbrev pub Leads : List Row → Source → ℕ → Maybe Chosen → Type 0
 Leads R s fragment x =
     (base : ℕ) (used : Bool) → prototype_by x ≡ and_then (file_at R base s) (pick_from (record { base = base; fragment = optional fragment; used = used }))
 
@@ -30,6 +30,26 @@ pub record Scratch (R : List Row) (w : List ℕ) (from files : ℕ) (m : Memo) :
   pub within : from ≤ length w
   pub memo : MemoSound R (take from w) m
   pub listed : FilesListed R w from files
+
+-- where a base stands in the table u, once it was looked for in t; nowhere if it has no place
+abbrev pub PlacedAt : ℕ → Table → Table → Maybe ℕ → Type 0
+PlacedAt base t u (Some j) = (remember base (bases_of t) ≡ some (bases_of u)) × (j < u.count) × (get_or u.bases j 0 ≡ base)
+PlacedAt base t u None = (remember base (bases_of t) ≡ none) × (bases_of u ≡ bases_of t)
+
+pub record Placed (R : List Row) (base : ℕ) (t u : Table) (x : Maybe ℕ) : Type 0 where
+  pub sound : TableSound R u
+  pub is : PlacedAt base t u x
+
+-- the table once a url was tried, which is the extern's last if it led to a prototype; next says what its other urls do
+pub record UrlTried (R : List Row) (base fragment : ℕ) (t u : Table) (led : Bool) : Type 0 where
+  pub sound : TableSound R u
+  pub is : (n : ℕ) (used : Bool) (next : Bases → Picked)
+      → (try_url (files_of R) n (record { base = base; fragment = optional fragment; used = used }) next (bases_of t) (remember base (bases_of t))).1 ≡ choose led (bases_of u) (next (bases_of u)).1
+
+-- once the urls from a row of a sheet on were tried, up to a pick
+pub record UrlsTried (sheet : List Row) (at : ℕ) (R : List Row) (t u : Table) : Type 0 where
+  pub sound : TableSound R u
+  pub bases : bases_of u ≡ (pick_urls (files_of R) 0 (map url_of (elements Urls (drop at sheet))) (bases_of t)).1
 
 -- the table once the urls of the externs of the document at a row of a sheet were tried
 pub record Tried (sheet : List Row) (document : ℕ) (R : List Row) (t u : Table) : Type 0 where

@@ -1,5 +1,5 @@
 -- What the table of bases holds, and what looking for a base does to it.
-use Rattle.std.specs.Prelude.{◌≡◌, List, [], ℕ, ◌+◌, ◌≤◌, ◌<◌, length, get_or, take, drop, set, eqb}
+use Rattle.std.specs.Prelude.{Option as Maybe, Some, None, ◌≡◌, List, [], ℕ, ◌+◌, ◌≤◌, ◌<◌, length, get_or, take, drop, set, eqb}
 use Rattle.std.proofs.Math.Option.{Option, none, some}
 use Rattle.std.proofs.Math.ListN.{get_elem?}
 use Rattle.ast.specs.Ast.{File}
@@ -39,11 +39,16 @@ pub record Empty (t : Table) : Type 0 where
   pub bases : bases_of t ≡ []
   pub sound : (R : List Row) → TableSound R t
 
--- j is where a base stands among the first bases of a list, or their count if it doesn't
-pub record Position (bases : List ℕ) (count base j : ℕ) : Type 0 where
-  pub upto : j ≤ count
-  pub here : j < count → get_or bases j 0 ≡ base
+-- j is where a base stands first in a list
+pub record StandsAt (bases : List ℕ) (base j : ℕ) : Type 0 where
+  pub within : j < length bases
+  pub here : get_or bases j 0 ≡ base
   pub before : (k : ℕ) → k < j → get_or bases k 0 ≡ base → ⊥
+
+-- where a base stands in a list, if it does
+abbrev pub Position : List ℕ → ℕ → Maybe ℕ → Type 0
+Position bases base (Some j) = StandsAt bases base j
+Position bases base None = (k : ℕ) → k < length bases → get_or bases k 0 ≡ base → ⊥
 
 -- the rows of the library's n files stand in w from a place on; of none where there is none, or they don't fit
 pub record FilesListed (R : List Row) (w : List ℕ) (from n : ℕ) : Type 0 where

@@ -1,14 +1,14 @@
 // The table of the bases that were looked for, each with the library's file of that base.
-ghost use Rattle.std.specs.Prelude.{◌≡◌, ◌+◌, ◌≤◌, ◌<◌, length};
+ghost use Rattle.std.specs.List.{position};
+ghost use Rattle.std.specs.Prelude.{◌==◌, ◌≡◌, ◌+◌, ◌≤◌, ◌<◌, length};
 ghost use Rattle.sheet_rows.specs.Rows.{rows};
 ghost use Rattle.words_lent.specs.Words.{Outside};
 ghost use Rattle.pick_file.specs.File.{Capped};
-ghost use Rattle.pick_table.specs.Table.{Empty, Position, IsFileOf, FilesListed, BaseAdded};
+ghost use Rattle.pick_table.specs.Table.{Empty, IsFileOf, FilesListed, BaseAdded};
 
 use sheet_rows::part::Part;
 use sheet_rows::row;
 use sheet_walks::walk;
-use sheet_walks::walk::Found;
 use words_lent::wide;
 
 // A file of the library: its number, from 1, and the row where its document begins. Number 0 stands for no file.
@@ -27,30 +27,11 @@ pub struct Table {
     pub count: usize,
 }
 
-pub fn empty() -> Table
-    ensures { Empty result }
+// Where a base stands in a list of bases, if it does.
+pub fn position(bases: &[u32], base: u32) -> Option<usize>
+    ensures { result ≡ position (λ b. b == base) bases.now }
 {
-    Table {
-        bases: [0; 64],
-        files: [0; 64],
-        rows: [0; 64],
-        count: 0,
-    }
-}
-
-// Where a base stands among the first bases of a list, or their count if it doesn't.
-pub fn position(bases: &[u32], count: usize, base: u32) -> usize
-    requires { count ≤ length bases.now }
-    ensures { Position bases.now count base result }
-{
-    let mut j = 0;
-    while j < count {
-        if bases[j] == base {
-            return j;
-        }
-        j += 1;
-    }
-    j
+    bases.iter().position(|b| *b == base)
 }
 
 // Writes the row of each file of the library to the words from a place on; how many there are, 0 if they don't fit.
@@ -59,18 +40,14 @@ pub fn list(library: &[u32], slots: &mut [u32], from: usize) -> usize
     ensures { FilesListed (rows library.now) slots.new from result }
 {
     let mut n = 0;
-    let mut at = 0;
-    loop {
-        let Found::At(q) = walk::seek(library, Part::Files, at) else {
-            return n;
-        };
+    for q in walk::elements(library, Part::Files, 0) {
         if slots.len() - from <= n {
             return 0;
         }
         slots[from + n] = q as u32;
         n += 1;
-        at = q + 1;
     }
+    n
 }
 
 // The library's file of a base, the last of several, by one walk over the files.
@@ -78,21 +55,15 @@ fn walked(library: &[u32], base: u32) -> Source
     requires { Capped library.now }
     ensures { IsFileOf (rows library.now) base result }
 {
-    let mut found = 0;
-    let mut row = 0;
+    let mut best = Source { number: 0, row: 0 };
     let mut number = 1;
-    let mut at = 0;
-    loop {
-        let Found::At(q) = walk::seek(library, Part::Files, at) else {
-            return Source { number: found, row };
-        };
-        at = q + 1;
+    for q in walk::elements(library, Part::Files, 0) {
         if row::row_at(library, q).a == base {
-            found = number;
-            row = at;
+            best = Source { number, row: q + 1 };
         }
         number += 1;
     }
+    best
 }
 
 // The same by the list of the files, from the last one back.
@@ -103,30 +74,40 @@ pub fn library_file(library: &[u32], slots: &[u32], from: usize, count: usize, b
     if count == 0 {
         return walked(library, base);
     }
-    let mut j = count;
-    while 0 < j {
-        let q = wide(slots[from + (j - 1)]);
+    for j in (0..count).rev() {
+        let q = wide(slots[from + j]);
         if row::row_at(library, q).a == base {
             return Source {
-                number: j as u32,
+                number: (j + 1) as u32,
                 row: q + 1,
             };
         }
-        j -= 1;
     }
     Source { number: 0, row: 0 }
 }
 
-// The table with one base more.
-pub fn add(table: Table, base: u32, source: Source) -> Table
-    requires { table.count < 64 }
-    ensures { BaseAdded table base source result }
-{
-    let at = table.count;
-    let mut t = table;
-    t.bases[at] = base;
-    t.files[at] = source.number;
-    t.rows[at] = source.row;
-    t.count = at + 1;
-    t
+impl Table {
+    // The table of no base.
+    pub fn new() -> Table
+        ensures { Empty result }
+    {
+        Table {
+            bases: [0; 64],
+            files: [0; 64],
+            rows: [0; 64],
+            count: 0,
+        }
+    }
+
+    // One base more.
+    pub fn add(&mut self, base: u32, source: Source)
+        requires { self.old.count < 64 }
+        ensures { BaseAdded self.old base source self.new }
+    {
+        let at = self.count;
+        self.bases[at] = base;
+        self.files[at] = source.number;
+        self.rows[at] = source.row;
+        self.count = at + 1;
+    }
 }

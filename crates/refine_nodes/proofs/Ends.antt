@@ -8,8 +8,8 @@ use borrow.Author.Tests.{ne_eqb}
 use Rattle.ast.specs.Choice.{and_then}
 use Rattle.sheet_rows.specs.Parse.{optional}
 use Rattle.expansion_definition.specs.State.{lookup}
-use Rattle.journal_index.specs.declared.Newest.{Newest}
-use Rattle.journal_index.specs.declared.Newest.TheVariants.{At, Nothing}
+use Rattle.journal_index.specs.Index.{Newest}
+use Rattle.std.specs.declared.option.Option.TheVariants.{None, Some}
 use Rattle.journal_records.specs.Records.{tag_node, cell}
 use Rattle.journal_lists.specs.Owned.{tagged}
 use Rattle.journal_records.proofs.Lists.{count_low}
@@ -27,10 +27,10 @@ module _ (L : Limits) (w : List ℕ) (t : Counts) (scope id : ℕ) (st : Standin
   same = rw (ne_eqb id 4294967295 ne)
 
   -- it is not in the map
-  pub end_nothing : f ≡ Nothing → EndOf w t.charges scope id 4294967295
+  pub end_nothing : f ≡ None → EndOf w t.charges scope id 4294967295
   end_nothing e = sym (same ∙ k.same ∙ rw e)
 
-  module _ (r : ℕ) (e : f ≡ At r) where
+  module _ (r : ℕ) (e : f ≡ Some r) where
     pub end_room : r * 12 + 12 ≤ length w
     end_room = omega (arith, k.low r e, st.sound.charges, st.ready.room)
 

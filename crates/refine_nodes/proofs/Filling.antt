@@ -25,9 +25,8 @@ use Rattle.journal_reading.specs.RecordsStay.{EndsKept}
 use Rattle.journal_reading.proofs.States.{state_patch}
 use Rattle.refine_records.specs.declared.Limits.{Limits}
 use Rattle.refine_records.specs.declared.Counts.{Counts}
-use Rattle.refine_records.specs.declared.Answer.TheVariants.{Done}
 use Rattle.refine_records.specs.Sound.{Source, heads_at, JournalSound, Later}
-use Rattle.refine_records.specs.Does.{number, at, Does}
+use Rattle.refine_records.specs.Does.{did, number, at, Does}
 use Rattle.refine_records.specs.Contract.{contents_of}
 
 -- what is written
@@ -137,5 +136,5 @@ module _ {L : Limits} {w : List ℕ} {t : Counts} (so : JournalSound L w t) {o p
   pub fill_later : (young : ℕ) → Later L young w t w' t
   fill_later young = node_later only so heads long closed young
 
-  pub fill_does : (S : Source) (young q : ℕ) → Does S L young number (λ st. ok o (with_nodes (set st.nodes o (node_by w ty def kind id fs is ss os 0)) st)) w t w' (Done t o q)
+  pub fill_does : (S : Source) (young q : ℕ) → Does S L young number (λ st. ok o (with_nodes (set st.nodes o (node_by w ty def kind id fs is ss os 0)) st)) w t w' (did t o q)
   fill_does S young q = record { same = ap (ok o) (node_state only so heads long closed low S ∙ rw (contents, at'.number)); later = fill_later young }

@@ -4,10 +4,9 @@ use mathlib.Core.Bool.{true}
 use mathlib.Core.List.{List}
 use Prim.Native.Nat.{ℕ, ◌<◌}
 use native.Mathlib.Omega.{arith}
-use Rattle.journal_index.specs.declared.Newest.{Newest}
-use Rattle.journal_index.specs.declared.Newest.TheVariants.{At}
+use Rattle.std.specs.declared.option.Option.TheVariants.{Some}
 use Rattle.journal_records.specs.Records.{tag_map}
-use Rattle.journal_index.specs.Index.{hit, newest, found_of}
+use Rattle.journal_index.specs.Index.{Newest, hit, newest, found_of}
 use Rattle.journal_index.proofs.Keys.{hit_is}
 use Rattle.journal_records.proofs.Lists.{newest_is}
 use Rattle.journal_reading.proofs.Fair.{node_at_more}
@@ -27,5 +26,5 @@ module _ {L : Limits} {w : List ℕ} {t : Counts} (so : JournalSound L w t) (e :
     low = λ r z. (is r z).0;
   }
     where
-      is : (r : ℕ) → f ≡ At r → (r < t.charges) × (hit w tag_map e.place id r ≡ true)
+      is : (r : ℕ) → f ≡ Some r → (r < t.charges) × (hit w tag_map e.place id r ≡ true)
       is r z = newest_is (hit w tag_map e.place id) t.charges r (sym q ∙ rw z)

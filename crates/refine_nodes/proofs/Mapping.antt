@@ -19,12 +19,12 @@ use Rattle.journal_reading.proofs.Nodes.{calm_enter}
 use Rattle.journal_reading.specs.RecordsStay.{RecordsStay}
 use Rattle.journal_reading.proofs.States.{state_map}
 use Rattle.refine_records.specs.declared.Limits.{Limits}
+use Rattle.std.specs.declared.result.Result.TheVariants.{Err}
+use Rattle.refine_records.specs.declared.Refusal.TheVariants.{TooManyRows}
 use Rattle.refine_records.specs.declared.Counts.{Counts}
 use Rattle.refine_records.specs.declared.Env as code
-use Rattle.refine_records.specs.declared.Answer.{Answer}
-use Rattle.refine_records.specs.declared.Answer.TheVariants.{Done, Refused}
 use Rattle.refine_records.specs.Sound.{Source, heads_at, JournalSound, OfBody, Later, EnvAt}
-use Rattle.refine_records.specs.Does.{nothing, at}
+use Rattle.refine_records.specs.Does.{Answer, did, nothing, at}
 use Rattle.refine_records.specs.Contract.{charged, Mapped}
 use Rattle.refine_records.proofs.Grow.{sound_more, later_more, alone, count_other}
 use Rattle.refine_records.proofs.Later.{env_scope}
@@ -69,11 +69,11 @@ module _ {L : Limits} {w : List ℕ} {t : Counts} (so : JournalSound L w t) (e :
   pub entry_state : (S : Source) → at S w' (charged t 1) ≡ add_entry e.scope id out (one_more (at S w t))
   entry_state S = state_map S.root S.library calm so.fair put p.holds refl
 
-  pub map_done : (t' : Counts) → t' ≡ charged t 1 → Mapped L w t e.scope id out place w' (Done t' out place)
+  pub map_done : (t' : Counts) → t' ≡ charged t 1 → Mapped L w t e.scope id out place w' (did t' out place)
   map_done t' q = rw q (record {
     does = λ S young. change_done S young nothing (λ st. ok tt (add_entry e.scope id out st)) room (entry_later young) out place (ap (ok tt) (entry_state S));
     done = record { counts = refl; value = refl; node = refl };
   })
 
-pub map_full : (L : Limits) (w : List ℕ) (t : Counts) (scope id out place : ℕ) → L.rows ≤ t.charges → (a : Answer) → a ≡ Refused 10 0 0 → Mapped L w t scope id out place w a
+pub map_full : (L : Limits) (w : List ℕ) (t : Counts) (scope id out place : ℕ) → L.rows ≤ t.charges → (a : Answer) → a ≡ Err TooManyRows → Mapped L w t scope id out place w a
 map_full L w t scope id out place h a e = rw e (record { does = λ S young. change_refused S young nothing (λ st. ok tt (add_entry scope id out st)) h; done = tt })

@@ -28,12 +28,12 @@ use Rattle.journal_reading.proofs.Nodes.{calm_same, nodes_length, node_blank}
 use Rattle.journal_reading.specs.RecordsStay.{RecordsStay}
 use Rattle.journal_reading.proofs.States.{with_ledger, state_node}
 use Rattle.refine_records.specs.declared.Limits.{Limits}
+use Rattle.std.specs.declared.result.Result.TheVariants.{Err}
+use Rattle.refine_records.specs.declared.Refusal.TheVariants.{TooManyRows, TooManyNodes}
 use Rattle.refine_records.specs.declared.Counts.{Counts}
 use Rattle.refine_records.specs.declared.Env as code
-use Rattle.refine_records.specs.declared.Answer.{Answer}
-use Rattle.refine_records.specs.declared.Answer.TheVariants.{Done, Refused}
 use Rattle.refine_records.specs.Sound.{Source, input_of, heads_at, JournalSound, Standing, OfBody, Later, EnvAt, env_of}
-use Rattle.refine_records.specs.Does.{number, at}
+use Rattle.refine_records.specs.Does.{Answer, did, number, at}
 use Rattle.refine_records.specs.Contract.{Reserved}
 use Rattle.refine_records.proofs.Grow.{grown, sound_more, later_more, alone, count_other, count_new}
 use Rattle.refine_records.proofs.Later.{env_known, later_trans, later_node, later_env}
@@ -71,14 +71,14 @@ module _ (L : Limits) (w : List ℕ) (t : Counts) (e : code.Env) (id : ℕ) (st 
   count : length (nodes_of w c) ≡ t.nodes
   count = nodes_length w c ∙ sym so.nodes
 
-  pub reserve_most : (n : ℕ) → n ≡ t.nodes → L.nodes ≤ n → Reserved L w t e id w (Refused 8 0 0)
+  pub reserve_most : (n : ℕ) → n ≡ t.nodes → L.nodes ≤ n → Reserved L w t e id w (Err TooManyNodes)
   reserve_most n en h = record { does = λ S young. record { same = sym (reserve_8 (input_of S L) (env_of w e) id (at S w t) (omega (arith, count))); later = tt }; done = tt }
 
   module _ (n : ℕ) (en : n ≡ t.nodes) (h8 : n < L.nodes) where
     few : length (nodes_of w c) < L.nodes
     few = omega (arith, count)
 
-    pub reserve_full : L.rows - t.charges < 2 → (a : Answer) → a ≡ Refused 10 0 0 → Reserved L w t e id w a
+    pub reserve_full : L.rows - t.charges < 2 → (a : Answer) → a ≡ Err TooManyRows → Reserved L w t e id w a
     reserve_full h a q = rw q (record { does = λ S young. record { same = sym (reserve_10 (input_of S L) (env_of w e) id (at S w t) few h); later = tt }; done = tt })
 
     module _ (room : 2 ≤ L.rows - t.charges) (w1 : List ℕ) (long1 : length w1 ≡ length w) (p : Pushed w w1 t.charges (reserved_record e.scope id)) where
@@ -154,7 +154,7 @@ module _ (L : Limits) (w : List ℕ) (t : Counts) (e : code.Env) (id : ℕ) (st 
             let x : at S w2 t2 ≡ add_entry e.scope id t.nodes (one_more (at S w1 t1)) = rw two at (entry_state sound e env1 id t.nodes (c + 1) node (omega arith) long2 q S) in
             x ∙ ap (λ (s : State). add_entry e.scope id t.nodes (one_more s)) (state1 S) ∙ rw (← count)
 
-        pub reserve_done : Reserved L w t e id w2 (Done t2 t.nodes (t.charges + 1))
+        pub reserve_done : Reserved L w t e id w2 (did t2 t.nodes (t.charges + 1))
         reserve_done = record {
           does = λ S young. record {
             same = rw (state2 S, ← count) (sym (reserve_some (input_of S L) (env_of w e) id (at S w t) few (omega arith)));

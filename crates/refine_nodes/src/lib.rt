@@ -3,101 +3,92 @@
 ghost use Rattle.std.specs.Prelude.{◌+◌, ◌-◌};
 ghost use Rattle.journal_records.specs.Records.{Pushed};
 ghost use Rattle.journal_reading.specs.WellFormed.{NodeAt};
+ghost use Rattle.refine_records.specs.Does.{copy_given};
 ghost use Rattle.refine_records.specs.Sound.{Standing, EnvAt};
 ghost use Rattle.refine_records.specs.Contract.{Mapped, Reserved, CopyLooked, EndOf, contents_of, Fillable};
 
 use ast::NodeId;
-use journal_index::Newest;
 use journal_records;
-use journal_records::Record;
-use refine_records::{Answer, Counts, Env, Limits};
+use journal_records::{Record, words};
+use refine_records::{Env, Journal, Limits, NodeCopy, Refusal};
 use sheet_rows::row::NONE;
 use words_lent::wide;
 
 // A charge and a map entry: the node whose record is before `place`.
 pub fn map(
-    work: &mut [u32],
+    journal: &mut Journal<'_>,
     lim: Limits,
-    st: Counts,
     env: Env,
     id: NodeId,
-    out: NodeId,
-    place: u32,
-) -> Answer
-    requires standing { Standing lim work.old st }
-    requires env_at { EnvAt work.old st.charges env }
-    requires node_at { NodeAt work.old st.charges out.0 place }
-    ensures { Mapped lim work.old st env.scope id.0 out.0 place work.new result }
+    out: NodeCopy,
+) -> Result<NodeCopy, Refusal>
+    requires standing { Standing lim journal.old.work.now journal.old.counts }
+    requires env_at { EnvAt journal.old.work.now journal.old.counts.charges env }
+    requires node_at { NodeAt journal.old.work.now journal.old.counts.charges out.id.0 out.place }
+    ensures { Mapped lim journal.old.work.now journal.old.counts env.scope id.0 out.id.0 out.place journal.new.work.now (copy_given journal.new.counts result) }
 {
-    let at = st.charges;
+    let at = journal.counts.charges;
     if lim.rows <= at {
-        return refine_records::too_many();
+        return Err(Refusal::TooManyRows);
     }
     journal_index::enter(
-        work,
+        journal.work,
         lim.rows * 12,
         lim.slots,
         at,
-        Record::map_entry(env.place as u32, id.0, out.0, place, env.scope),
+        Record::map_entry(env.place as u32, id.0, out.id.0, out.place, env.scope),
     );
-    Answer::Done {
-        st: refine_records::charged(st, 1),
-        value: out.0,
-        place,
-    }
+    journal.counts = refine_records::charged(journal.counts, 1);
+    Ok(out)
 }
 
 // A new node, blank, and its map entry: its id, and its record's place with one added.
-pub fn reserve(work: &mut [u32], lim: Limits, st: Counts, env: Env, id: NodeId) -> Answer
-    requires standing { Standing lim work.old st }
-    requires env_at { EnvAt work.old st.charges env }
-    ensures { Reserved lim work.old st env id.0 work.new result }
+pub fn reserve(
+    journal: &mut Journal<'_>,
+    lim: Limits,
+    env: Env,
+    id: NodeId,
+) -> Result<NodeCopy, Refusal>
+    requires standing { Standing lim journal.old.work.now journal.old.counts }
+    requires env_at { EnvAt journal.old.work.now journal.old.counts.charges env }
+    ensures { Reserved lim journal.old.work.now journal.old.counts env id.0 journal.new.work.now (copy_given journal.new.counts result) }
 {
-    let c = st.charges;
-    let new = st.nodes;
+    let c = journal.counts.charges;
+    let new = journal.counts.nodes;
     if lim.nodes <= wide(new) {
-        return Answer::Refused {
-            number: 8,
-            first: 0,
-            second: 0,
-        };
+        return Err(Refusal::TooManyNodes);
     }
     if lim.rows - c < 2 {
-        return refine_records::too_many();
+        return Err(Refusal::TooManyRows);
     }
-    journal_records::push(work, c, Record::reserved(env.scope, id.0));
+    journal_records::push(journal.work, c, Record::reserved(env.scope, id.0));
     let place = (c + 1) as u32;
     journal_index::enter(
-        work,
+        journal.work,
         lim.rows * 12,
         lim.slots,
         c + 1,
         Record::map_entry(env.place as u32, id.0, new, place, env.scope),
     );
-    let t = Counts {
-        nodes: new + 1,
-        scopes: st.scopes,
-        externs: st.externs,
-        charges: c + 2,
-    };
-    Answer::Done {
-        st: t,
-        value: new,
+    journal.counts.nodes = new + 1;
+    journal.counts.charges = c + 2;
+    Ok(NodeCopy {
+        id: NodeId(new),
         place,
-    }
+    })
 }
 
 // The map entry of a source id in a scope: word 3 is its copy, word 4 the copy's place.
-pub fn look(work: &[u32], lim: Limits, st: Counts, env: Env, id: NodeId) -> Newest
-    requires standing { Standing lim work.now st }
-    requires env_at { EnvAt work.now st.charges env }
-    ensures { CopyLooked work.now st.charges env.scope id.0 result }
+pub fn look(journal: &Journal<'_>, lim: Limits, env: Env, id: NodeId) -> Option<usize>
+    requires standing { Standing lim journal.now.work.now journal.now.counts }
+    requires env_at { EnvAt journal.now.work.now journal.now.counts.charges env }
+    ensures { CopyLooked journal.now.work.now journal.now.counts.charges env.scope id.0 result }
 {
     journal_index::find(
-        work,
+        journal.work,
         lim.rows * 12,
         lim.slots,
-        st.charges,
+        journal.counts.charges,
         journal_records::TAG_MAP,
         env.place as u32,
         id.0,
@@ -105,18 +96,18 @@ pub fn look(work: &[u32], lim: Limits, st: Counts, env: Env, id: NodeId) -> Newe
 }
 
 // A route's end: its copy in the scope, or none. The word NONE is none.
-pub fn remap(work: &[u32], lim: Limits, st: Counts, env: Env, id: NodeId) -> NodeId
-    requires standing { Standing lim work.now st }
-    requires env_at { EnvAt work.now st.charges env }
-    ensures { EndOf work.now st.charges env.scope id.0 result.0 }
+pub fn remap(journal: &Journal<'_>, lim: Limits, env: Env, id: NodeId) -> NodeId
+    requires standing { Standing lim journal.now.work.now journal.now.counts }
+    requires env_at { EnvAt journal.now.work.now journal.now.counts.charges env }
+    ensures { EndOf journal.now.work.now journal.now.counts.charges env.scope id.0 result.0 }
 {
     if id.0 == NONE {
         return NodeId(NONE);
     }
-    let Newest::At(r) = look(work, lim, st, env, id) else {
+    let Some(r) = look(journal, lim, env, id) else {
         return NodeId(NONE);
     };
-    NodeId(journal_records::word(work, r, 3))
+    NodeId(journal_records::word(journal.work, r, words::map::COPY))
 }
 
 // The contents of the node whose record is before `place`.
@@ -137,8 +128,8 @@ pub fn fill(
         (contents_of work.old (place - 1) ty def kind id fields interface statements order) }
 {
     let n = wide(place) - 1;
-    let scope = journal_records::word(work, n, 1);
-    let source = journal_records::word(work, n, 2);
+    let scope = journal_records::word(work, n, words::node::SCOPE);
+    let source = journal_records::word(work, n, words::node::SOURCE);
     journal_records::push(
         work,
         n,

@@ -6,11 +6,12 @@ use Rattle.expansion_definition.specs.State.{Result, refusal, ok, Comp, bind_r, 
 use Rattle.expansion_definition.specs.Input.{Input}
 use Rattle.expansion_definition.specs.Charges.{charge, paid}
 use Rattle.refine_records.specs.declared.Limits.{Limits}
+use Rattle.std.specs.declared.result.Result.TheVariants.{Ok, Err}
+use Rattle.refine_records.specs.declared.Refusal.{Refusal}
 use Rattle.refine_records.specs.declared.Counts.{Counts}
-use Rattle.refine_records.specs.declared.Answer.{Answer}
-use Rattle.refine_records.specs.declared.Answer.TheVariants.{Done, Refused}
+use Rattle.refine_records.specs.Refusals.{refusal_number, first_place, second_place}
 use Rattle.refine_records.specs.Sound.{Source, JournalSound, Later}
-use Rattle.refine_records.specs.Does.{Decode, at, IfDone, Does, Doing}
+use Rattle.refine_records.specs.Does.{Answer, did, Decode, at, IfDone, Does, Doing}
 use Rattle.refine_records.proofs.Later.{later_refl, later_trans, later_young}
 
 -- ---- the monad: nested steps in a row
@@ -25,8 +26,8 @@ pub does_young : {A : Type 0} {S : Source} {L : Limits} {young young' : ℕ} {d 
 does_young {A} {S} {L} {young} {young'} {d} {m} {w} {t} {w'} {r} le x = record { same = x.same; later = by r x.later }
   where
     by : (r : Answer) → IfDone (λ t' v p. Later L young' w t w' t') r → IfDone (λ t' v p. Later L young w t w' t') r
-    by (Done t' v p) y = later_young le y
-    by (Refused n i j) y = tt
+    by (Ok a') y = later_young le y
+    by (Err x') y = tt
 
 -- what was done by one piece is done by another that is equal here
 pub does_as : {A : Type 0} {S : Source} {L : Limits} {young : ℕ} {d : Decode A} {m : Comp A} {w : List ℕ} {t : Counts} {w' : List ℕ} {r : Answer} → Does S L young d m w t w' r → (m' : Comp A) → m (at S w t) ≡ m' (at S w t) → Does S L young d m' w t w' r
@@ -42,22 +43,22 @@ module _ {M : Type 0} {S : Source} {L : Limits} {young : ℕ} {m₀ : Comp M} {w
   turn g l' e = record { left = g.left ∙ e; later = g.later }
 
   -- the end: an answer, a refusal, or what another piece does
-  pub finish : {a : M} → Doing S L young m₀ w₀ t₀ (ret a) w t → (d : Decode M) (v p : ℕ) → a ≡ d w v p → Does S L young d m₀ w₀ t₀ w (Done t v p)
+  pub finish : {a : M} → Doing S L young m₀ w₀ t₀ (ret a) w t → (d : Decode M) (v p : ℕ) → a ≡ d w v p → Does S L young d m₀ w₀ t₀ w (did t v p)
   finish g d v p e = record { same = rw (← e) (sym g.left); later = g.later }
 
-  pub refuse : {n i j : ℕ} → Doing S L young m₀ w₀ t₀ (fail n i j) w t → (d : Decode M) → Does S L young d m₀ w₀ t₀ w (Refused n i j)
-  refuse g d = record { same = sym g.left; later = tt }
+  pub refuse : (x' : Refusal) → Doing S L young m₀ w₀ t₀ (fail (refusal_number x') (first_place x') (second_place x')) w t → (d : Decode M) → Does S L young d m₀ w₀ t₀ w (Err x')
+  refuse x' g d = record { same = sym g.left; later = tt }
 
   pub tail : {l : Comp M} {d : Decode M} {w' : List ℕ} {r : Answer} → Doing S L young m₀ w₀ t₀ l w t → Does S L young d l w t w' r → Does S L young d m₀ w₀ t₀ w' r
   tail {l} {d} {w'} {r} g x = record { same = x.same ∙ sym g.left; later = by r x.later }
     where
       by : (r : Answer) → IfDone (λ t' v p. Later L young w t w' t') r → IfDone (λ t' v p. Later L young w₀ t₀ w' t') r
-      by (Done t' v p) y = later_trans g.later y
-      by (Refused n i j) y = tt
+      by (Ok a') y = later_trans g.later y
+      by (Err x') y = tt
 
   module _ {A : Type 0} {d : Decode A} {m : Comp A} (k : A → Comp M) {w' : List ℕ} {r : Answer} where
     -- a step is done, and the rest is left
-    pub step : {t' : Counts} {v p : ℕ} → Doing S L young m₀ w₀ t₀ (m >>= k) w t → Does S L young d m w t w' r → r ≡ Done t' v p → Doing S L young m₀ w₀ t₀ (k (d w' v p)) w' t'
+    pub step : {t' : Counts} {v p : ℕ} → Doing S L young m₀ w₀ t₀ (m >>= k) w t → Does S L young d m w t w' r → r ≡ did t' v p → Doing S L young m₀ w₀ t₀ (k (d w' v p)) w' t'
     unfolding bind_r
     step {t'} {v} {p} g x e =
         let s : ok (d w' v p) (at S w' t') ≡ m (at S w t) = rw e at x.same in
@@ -65,10 +66,10 @@ module _ {M : Type 0} {S : Source} {L : Limits} {young : ℕ} {m₀ : Comp M} {w
         record { left = g.left ∙ rw (← s); later = later_trans g.later y }
 
     -- a step is refused
-    pub stop : {n i j : ℕ} → Doing S L young m₀ w₀ t₀ (m >>= k) w t → Does S L young d m w t w' r → r ≡ Refused n i j → (e : Decode M) → Does S L young e m₀ w₀ t₀ w' r
+    pub stop : {x' : Refusal} → Doing S L young m₀ w₀ t₀ (m >>= k) w t → Does S L young d m w t w' r → r ≡ Err x' → (e : Decode M) → Does S L young e m₀ w₀ t₀ w' r
     unfolding bind_r
-    stop {n} {i} {j} g x q e =
-        let s : refusal n i j ≡ m (at S w t) = rw q at x.same in
+    stop {x'} g x q e =
+        let s : refusal (refusal_number x') (first_place x') (second_place x') ≡ m (at S w t) = rw q at x.same in
         rw q (record { same = sym (g.left ∙ rw (← s)); later = tt })
 
   -- ---- nested steps and lists
@@ -106,7 +107,7 @@ module _ {M : Type 0} {S : Source} {L : Limits} {young : ℕ} {m₀ : Comp M} {w
 
     -- the next element is done
     pub each_step : (a : A) (l : List A) (k : List B → Comp M) → Doing S L young m₀ w₀ t₀ (map_m f (a ∷ l) >>= k) w t → {d : Decode B} {w' : List ℕ} {r : Answer} → Does S L young d (f a) w t w' r → {t' : Counts} {v p : ℕ}
-        → r ≡ Done t' v p → Doing S L young m₀ w₀ t₀ (map_m f l >>= (λ bs. k (d w' v p ∷ bs))) w' t'
+        → r ≡ did t' v p → Doing S L young m₀ w₀ t₀ (map_m f l >>= (λ bs. k (d w' v p ∷ bs))) w' t'
     each_step a l k g x e = step (λ b. map_m f l >>= (λ bs. k (b ∷ bs))) (each a l k g) x e
 
     pub each_end : (k : List B → Comp M) → Doing S L young m₀ w₀ t₀ (map_m f [] >>= k) w t → Doing S L young m₀ w₀ t₀ (k []) w t
@@ -121,7 +122,7 @@ module _ {M : Type 0} {S : Source} {L : Limits} {young : ℕ} {m₀ : Comp M} {w
 
     -- the next element is done
     pub fold_step : (b : B) (a : A) (l : List A) (k : B → Comp M) → Doing S L young m₀ w₀ t₀ (fold_m f b (a ∷ l) >>= k) w t → {d : Decode B} {w' : List ℕ} {r : Answer} → Does S L young d (f b a) w t w' r → {t' : Counts} {v p : ℕ}
-        → r ≡ Done t' v p → Doing S L young m₀ w₀ t₀ (fold_m f (d w' v p) l >>= k) w' t'
+        → r ≡ did t' v p → Doing S L young m₀ w₀ t₀ (fold_m f (d w' v p) l >>= k) w' t'
     fold_step b a l k g x e = step (λ c. fold_m f c l >>= k) (fold b a l k g) x e
 
     pub fold_end : (b : B) (k : B → Comp M) → Doing S L young m₀ w₀ t₀ (fold_m f b [] >>= k) w t → Doing S L young m₀ w₀ t₀ (k b) w t

@@ -21,11 +21,11 @@ use Rattle.journal_reading.proofs.Nodes.{calm_same}
 use Rattle.journal_reading.specs.RecordsStay.{RecordsStay}
 use Rattle.journal_reading.proofs.States.{Silent, state_one}
 use Rattle.refine_records.specs.declared.Limits.{Limits}
+use Rattle.std.specs.declared.result.Result.TheVariants.{Err}
+use Rattle.refine_records.specs.declared.Refusal.TheVariants.{TooManyRows}
 use Rattle.refine_records.specs.declared.Counts.{Counts}
-use Rattle.refine_records.specs.declared.Answer.{Answer}
-use Rattle.refine_records.specs.declared.Answer.TheVariants.{Done, Refused}
 use Rattle.refine_records.specs.Sound.{JournalSound, Standing, OfBody, Later}
-use Rattle.refine_records.specs.Does.{at}
+use Rattle.refine_records.specs.Does.{Answer, did, at}
 use Rattle.refine_records.specs.Contract.{charged, Keepable, KeptAt, RecordKept}
 use Rattle.refine_records.proofs.Grow.{sound_more, later_more, alone, count_other}
 use Rattle.refine_records.proofs.Charges.{charge_refused, charge_done}
@@ -34,7 +34,7 @@ use Rattle.refine_records.proofs.Charges.{charge_refused, charge_done}
 pub not_of_body : (t : ℕ) → t ≤ tag_scope → OfBody t → ⊥
 not_of_body t l o = ⊎_elim (λ e. omega arith) (λ x. ⊎_elim (λ e. omega arith) (λ e. omega arith) x) o
 
-pub keep_full : (L : Limits) (w : List ℕ) (t : Counts) (r : Record) → L.rows ≤ t.charges → (a : Answer) → a ≡ Refused 10 0 0 → RecordKept L w t r w a
+pub keep_full : (L : Limits) (w : List ℕ) (t : Counts) (r : Record) → L.rows ≤ t.charges → (a : Answer) → a ≡ Err TooManyRows → RecordKept L w t r w a
 keep_full L w t r h a e = rw e (record { does = λ S young. charge_refused S young h; done = tt })
 
 module _ (L : Limits) (w : List ℕ) (t : Counts) (r : Record) (st : Standing L w t) (k : Keepable w t.charges r) (room : t.charges < L.rows) (w' : List ℕ) (long : length w' ≡ length w) (p : Pushed w w' t.charges r) where
@@ -83,7 +83,7 @@ module _ (L : Limits) (w : List ℕ) (t : Counts) (r : Record) (st : Standing L 
       (alone c (λ n. OfBody (cell w' n 0) → young ≤ cell w' n 1) (λ o. absurd (not_of_body (cell w' c 0) (omega (arith, p.holds.at0, k.most)) o)))
       sound
 
-  pub keep_done : (t' : Counts) → t' ≡ charged t 1 → RecordKept L w t r w' (Done t' (t.charges + 1) 0)
+  pub keep_done : (t' : Counts) → t' ≡ charged t 1 → RecordKept L w t r w' (did t' (t.charges + 1) 0)
   keep_done t' e = rw e (record {
     does = λ S young. charge_done S young room (state_one S.root S.library calm so.fair r p.holds silent) (later young) (t.charges + 1) 0;
     done = record { counts = refl; handle = refl; pushed = p };

@@ -1,6 +1,7 @@
 pub mod Later
 pub mod Beginning
 pub mod Calculus
+pub mod Exits
 pub mod Grow
 pub mod Charges
 pub mod Keeping

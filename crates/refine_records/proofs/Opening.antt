@@ -30,12 +30,12 @@ use Rattle.journal_reading.proofs.Nodes.{calm_same}
 use Rattle.journal_reading.specs.RecordsStay.{RecordsStay, Unrecorded}
 use Rattle.journal_reading.proofs.States.{scopes_length_lem, state_scope}
 use Rattle.refine_records.specs.declared.Limits.{Limits}
+use Rattle.std.specs.declared.result.Result.TheVariants.{Err}
+use Rattle.refine_records.specs.declared.Refusal.TheVariants.{TooManyRows}
 use Rattle.refine_records.specs.declared.Counts.{Counts}
 use Rattle.refine_records.specs.declared.Env as code
-use Rattle.refine_records.specs.declared.Answer.{Answer}
-use Rattle.refine_records.specs.declared.Answer.TheVariants.{Done, Refused}
 use Rattle.refine_records.specs.Sound.{Source, input_of, JournalSound, OfBody, Later, EnvAt, env_of}
-use Rattle.refine_records.specs.Does.{number, at}
+use Rattle.refine_records.specs.Does.{Answer, did, number, at}
 use Rattle.refine_records.specs.Contract.{OpenedAt, ScopeOpened}
 use Rattle.refine_records.proofs.Grow.{grown, sound_more, later_more, alone, count_other, count_new}
 use Rattle.refine_records.proofs.Charges.{change_refused, change_done}
@@ -45,7 +45,7 @@ use Rattle.refine_records.proofs.Keeping.{not_of_body}
 pub few_scopes : {L : Limits} {w : List ℕ} {t : Counts} → JournalSound L w t → t.scopes ≤ t.charges
 few_scopes {L} {w} {t} so = omega (arith, so.scopes, count_low (tagged w tag_scope) t.charges)
 
-pub open_full : (L : Limits) (w : List ℕ) (t : Counts) (kind document proto index opener : ℕ) → L.rows ≤ t.charges → (a : Answer) → a ≡ Refused 10 0 0 → ScopeOpened L w t kind document proto index opener w a
+pub open_full : (L : Limits) (w : List ℕ) (t : Counts) (kind document proto index opener : ℕ) → L.rows ≤ t.charges → (a : Answer) → a ≡ Err TooManyRows → ScopeOpened L w t kind document proto index opener w a
 unfolding open_scope
 open_full L w t kind document proto index opener h a e = rw e (record { does = λ S young. change_refused S young number (push_scope (scope_by kind document proto index opener)) h; done = tt })
 
@@ -96,7 +96,7 @@ module _ {L : Limits} {w : List ℕ} {t : Counts} (so : JournalSound L w t) (kin
       let n : length (scopes_of w c) ≡ t.scopes = scopes_length_lem w c ∙ sym so.scopes in
       rw n (ap (ok t.scopes) (state_scope S.root S.library calm so.fair put p.holds refl))
 
-  pub open_done : ScopeOpened L w t kind document proto index opener w' (Done t1 t.scopes t.charges)
+  pub open_done : ScopeOpened L w t kind document proto index opener w' (did t1 t.scopes t.charges)
   unfolding open_scope
   open_done = record {
     does = λ S young. change_done S young number (push_scope (scope_by kind document proto index opener)) room (later young) t.scopes c (pushed S);

@@ -26,17 +26,17 @@ use Rattle.journal_reading.proofs.Nodes.{calm_append}
 use Rattle.journal_reading.specs.RecordsStay.{RecordsStay}
 use Rattle.journal_reading.proofs.States.{state_one, state_association}
 use Rattle.refine_records.specs.declared.Limits.{Limits}
+use Rattle.std.specs.declared.result.Result.TheVariants.{Err}
+use Rattle.refine_records.specs.declared.Refusal.TheVariants.{TooManyRows}
 use Rattle.refine_records.specs.declared.Counts.{Counts}
 use Rattle.refine_records.specs.declared.Env as code
-use Rattle.refine_records.specs.declared.Answer.{Answer}
-use Rattle.refine_records.specs.declared.Answer.TheVariants.{Done, Refused}
 use Rattle.refine_records.specs.Sound.{JournalSound, Standing, OfBody, Later}
-use Rattle.refine_records.specs.Does.{nothing}
+use Rattle.refine_records.specs.Does.{Answer, did, nothing}
 use Rattle.refine_records.specs.Contract.{charged, Ownership, OwnedAt, RecordOwned}
 use Rattle.refine_records.proofs.Grow.{sound_more, later_more, alone, count_other}
 use Rattle.refine_records.proofs.Charges.{charge_refused, charge_done, change_refused, change_done}
 
-pub own_full : (L : Limits) (w : List ℕ) (t : Counts) (e : code.Env) (r : Record) → L.rows ≤ t.charges → (a : Answer) → a ≡ Refused 10 0 0 → RecordOwned L w t e r w a
+pub own_full : (L : Limits) (w : List ℕ) (t : Counts) (e : code.Env) (r : Record) → L.rows ≤ t.charges → (a : Answer) → a ≡ Err TooManyRows → RecordOwned L w t e r w a
 unfolding associate
 own_full L w t e r h a q = rw q (record {
   body = λ ne S young le. charge_refused S young h;
@@ -74,7 +74,7 @@ module _ (L : Limits) (w : List ℕ) (t : Counts) (e : code.Env) (r : Record) (s
   later young new =
       later_more so calm 1 t.nodes t.scopes t.externs young (omega arith) (λ m l. p.above m (omega arith)) long (alone c (λ n. OfBody (cell w' n 0) → young ≤ cell w' n 1) new) sound
 
-  pub own_done : (t' : Counts) → t' ≡ charged t 1 → RecordOwned L w t e r w' (Done t' 0 0)
+  pub own_done : (t' : Counts) → t' ≡ charged t 1 → RecordOwned L w t e r w' (did t' 0 0)
   unfolding associate
   own_done t' q = rw q (record {
     body = λ ne S young le.

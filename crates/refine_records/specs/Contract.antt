@@ -8,20 +8,18 @@ use Rattle.expansion_definition.specs.Values.{value_named, clone}
 use Rattle.expansion_definition.specs.PlainCopy.{reserve, associate}
 use Rattle.expansion_definition.specs.Instances.{open_scope, add_entry}
 use Rattle.journal_records.specs.declared.Record.{Record}
-use Rattle.journal_index.specs.declared.Newest.{Newest}
-use Rattle.journal_index.specs.declared.Newest.TheVariants.{At}
+use Rattle.std.specs.declared.option.Option.TheVariants.{Some}
 use Rattle.journal_records.specs.Records.{tag_id, tag_order, tag_stored, tag_scope, tag_association, cell, Pushed}
 use Rattle.journal_records.specs.Made.{node_record}
-use Rattle.journal_index.specs.Index.{found_of}
+use Rattle.journal_index.specs.Index.{Newest, found_of}
 use Rattle.journal_lists.specs.Owned.{OwnedTag, Appended}
 use Rattle.journal_reading.specs.Reading.{value_at, value_rec, values_at, scope_by, scope_rec, map_of}
 use Rattle.journal_reading.specs.WellFormed.{HandleAt, NodeAt, valued}
 use Rattle.refine_records.specs.declared.Limits.{Limits}
 use Rattle.refine_records.specs.declared.Counts.{Counts}
 use Rattle.refine_records.specs.declared.Env as code
-use Rattle.refine_records.specs.declared.Answer.{Answer}
 use Rattle.refine_records.specs.Sound.{Source, input_of, EnvAt, env_of}
-use Rattle.refine_records.specs.Does.{nothing, number, IfDone, Does}
+use Rattle.refine_records.specs.Does.{Answer, nothing, number, IfDone, Does}
 
 -- n charges more
 abbrev pub charged : Counts → ℕ → Counts
@@ -112,8 +110,8 @@ pub record ScopeOpened (L : Limits) (w : List ℕ) (t : Counts) (kind document p
 -- ---- the copy of a source id
 pub record CopyLooked (w : List ℕ) (c scope id : ℕ) (f : Newest) : Type 0 where
   pub same : lookup (map_of w c) scope id ≡ map_o (λ r. cell w r 3) (found_of f)
-  pub node : (r : ℕ) → f ≡ At r → NodeAt w c (cell w r 3) (cell w r 4)
-  pub low : (r : ℕ) → f ≡ At r → r < c
+  pub node : (r : ℕ) → f ≡ Some r → NodeAt w c (cell w r 3) (cell w r 4)
+  pub low : (r : ℕ) → f ≡ Some r → r < c
 
 -- ---- o is what a route's end is remapped to: its copy in the scope, or none
 abbrev pub EndOf : List ℕ → ℕ → ℕ → ℕ → ℕ → Type 0
@@ -133,8 +131,8 @@ pub record Fillable (w : List ℕ) (place : ℕ) : Type 0 where
 -- the stored value of a name
 pub record ValueFound (w : List ℕ) (h name : ℕ) (f : Newest) : Type 0 where
   pub same : value_named name (values_at w h) ≡ map_o (value_rec w) (found_of f)
-  pub stored : (r : ℕ) → f ≡ At r → cell w r 0 ≡ tag_stored
-  pub low : (r : ℕ) → f ≡ At r → r < h
+  pub stored : (r : ℕ) → f ≡ Some r → cell w r 0 ≡ tag_stored
+  pub low : (r : ℕ) → f ≡ Some r → r < h
 
 -- ---- the charges of a value that is cloned
 pub record Cloned (L : Limits) (w : List ℕ) (t : Counts) (class payload : ℕ) (w' : List ℕ) (a : Answer) : Type 0 where

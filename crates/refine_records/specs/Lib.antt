@@ -1,3 +1,4 @@
 pub mod Sound
+pub mod Refusals
 pub mod Does
 pub mod Contract

@@ -1,10 +1,14 @@
 #![tactic(auto)]
 // What an expansion keeps by value, and the steps that write one record of the journal.
-ghost use Rattle.std.specs.Prelude.{◌≡◌, ◌+◌, ◌-◌, ◌≤◌};
+ghost use Rattle.std.specs.Prelude.{◌≡◌, ◌+◌, ◌-◌, ◌*◌, ◌≤◌, ◌<◌, length};
+ghost use Rattle.journal_records.specs.Records.{cell};
+ghost use Rattle.journal_index.specs.Index.{Findable, found_of, newest};
+ghost use Rattle.refine_records.specs.Refusals.{refusal_number, PlacesOf};
+ghost use Rattle.refine_records.specs.Does.{number_given, done_given, scope_given};
 ghost use Rattle.refine_records.specs.Sound.{Standing};
 ghost use Rattle.refine_records.specs.Contract.{charged as counted, Keepable, RecordKept, Ownership, RecordOwned, ScopeOpened};
 
-use ast::ProtoId;
+use ast::{NodeId, ProtoId};
 use journal_records;
 use journal_records::Record;
 
@@ -36,30 +40,76 @@ pub struct Env {
     pub values: u32,
 }
 
-// What a step gives: a node id, a payload or a handle, and where it is of use a place; or a refusal with its two place
-// numbers.
-#[derive(Clone, Copy)]
-pub enum Answer {
-    Done {
-        st: Counts,
-        value: u32,
-        place: u32,
-    },
-    Refused {
-        number: u32,
-        first: u32,
-        second: u32,
-    },
+// The journal of an expansion: its records in lent words, and how many of each there are.
+#[derive(Drop)]
+pub struct Journal<'w> {
+    pub work: &'w mut [u32],
+    pub counts: Counts,
 }
 
-// The charge that would make more than K.
-pub fn too_many() -> Answer
-    ensures { result ≡ Answer.Refused 10 0 0 }
-{
-    Answer::Refused {
-        number: 10,
-        first: 0,
-        second: 0,
+// A scope that was opened: its number, and the place of its record.
+#[derive(Clone, Copy)]
+pub struct Opened {
+    pub number: u32,
+    pub place: usize,
+}
+
+// A node of the output, and the place of its record with one added.
+#[derive(Clone, Copy)]
+pub struct NodeCopy {
+    pub id: NodeId,
+    pub place: u32,
+}
+
+// Why Expand says no, in the order of the numbers 1 to 10. 11, no room for a further scope, cannot come: scopes has room for an
+// entry to each charge.
+#[derive(Clone, Copy, Debug, PartialEq, Eq)]
+pub enum Refusal {
+    NoRoom,
+    WrongLength,
+    Malformed { sheet: u32, row: u32 },
+    DanglingExtern { document: u32, id: u32 },
+    DanglingNode { document: u32, id: u32 },
+    DanglingProto { document: u32, id: u32 },
+    NoRoot { document: u32, proto: u32 },
+    TooManyNodes,
+    TooDeep,
+    TooManyRows,
+}
+
+// The number that C reads.
+impl From<Refusal> for u32 {
+    ghost from_gives = { λ e n. n ≡ refusal_number e };
+
+    fn from(e: Refusal) -> u32 {
+        match e {
+            Refusal::NoRoom => 1,
+            Refusal::WrongLength => 2,
+            Refusal::Malformed { .. } => 3,
+            Refusal::DanglingExtern { .. } => 4,
+            Refusal::DanglingNode { .. } => 5,
+            Refusal::DanglingProto { .. } => 6,
+            Refusal::NoRoot { .. } => 7,
+            Refusal::TooManyNodes => 8,
+            Refusal::TooDeep => 9,
+            Refusal::TooManyRows => 10,
+        }
+    }
+}
+
+impl Refusal {
+    // The two places that C reads; 0 where the refusal names none.
+    pub fn places(self) -> (u32, u32)
+        ensures { PlacesOf self result }
+    {
+        match self {
+            Refusal::Malformed { sheet, row } => (sheet, row),
+            Refusal::DanglingExtern { document, id } => (document, id),
+            Refusal::DanglingNode { document, id } => (document, id),
+            Refusal::DanglingProto { document, id } => (document, id),
+            Refusal::NoRoot { document, proto } => (document, proto),
+            _ => (0, 0),
+        }
     }
 }
 
@@ -76,76 +126,97 @@ pub fn charged(st: Counts, n: usize) -> Counts
     }
 }
 
-// A charge and its record; the value is the record's handle.
-pub fn keep(work: &mut [u32], lim: Limits, st: Counts, r: Record) -> Answer
-    requires standing { Standing lim work.old st }
-    requires keepable { Keepable work.old st.charges r }
-    ensures { RecordKept lim work.old st r work.new result }
-{
-    let c = st.charges;
-    if lim.rows <= c {
-        return too_many();
+impl Journal<'_> {
+    // The lent words.
+    pub fn lent(&self) -> &[u32]
+        ensures { result.now ≡ self.now.work.now }
+    {
+        self.work
     }
-    journal_records::push(work, c, r);
-    Answer::Done {
-        st: charged(st, 1),
-        value: (c + 1) as u32,
-        place: 0,
-    }
-}
 
-// A charge and a record of a scope's own lists: an extra root, a route, an association.
-pub fn own(work: &mut [u32], lim: Limits, st: Counts, env: Env, r: Record) -> Answer
-    requires standing { Standing lim work.old st }
-    requires ownership { Ownership work.old st.charges env r }
-    ensures { RecordOwned lim work.old st env r work.new result }
-{
-    let c = st.charges;
-    if lim.rows <= c {
-        return too_many();
+    // A word of a record.
+    pub fn word(&self, n: usize, j: usize) -> u32
+        requires { (n * 12 + 12 ≤ length self.now.work.now) × (j < 12) }
+        ensures { result ≡ cell self.now.work.now n j }
+    {
+        journal_records::word(self.work, n, j)
     }
-    let s = env.place;
-    journal_lists::append(work, s, c, r);
-    Answer::Done {
-        st: charged(st, 1),
-        value: 0,
-        place: 0,
-    }
-}
 
-// A charge and a scope: its number, and the place of its record.
-pub fn open(
-    work: &mut [u32],
-    lim: Limits,
-    st: Counts,
-    kind: u32,
-    document: u32,
-    proto: ProtoId,
-    index: u32,
-    opener: u32,
-) -> Answer
-    requires { Standing lim work.old st }
-    ensures { ScopeOpened lim work.old st kind document proto.0 index opener work.new result }
-{
-    let c = st.charges;
-    if lim.rows <= c {
-        return too_many();
+    // The newest record of a key, if there is one.
+    pub fn find(&self, lim: Limits, tag: u32, x: u32, y: u32) -> Option<usize>
+        requires rows { lim.rows ≤ 16777216 }
+        requires findable { Findable self.now.work.now (lim.rows * 12) lim.slots self.now.counts.charges tag }
+        ensures { found_of result ≡ newest self.now.work.now tag x y self.now.counts.charges }
+    {
+        journal_index::find(
+            self.work,
+            lim.rows * 12,
+            lim.slots,
+            self.counts.charges,
+            tag,
+            x,
+            y,
+        )
     }
-    let n = st.scopes;
-    journal_records::push(
-        work,
-        c,
-        Record::scope(kind, document, proto.0, index, opener, n),
-    );
-    let t = Counts {
-        nodes: st.nodes,
-        scopes: n + 1,
-        externs: st.externs,
-        charges: c + 1,
-    };
-    Answer::Done {
-        st: t,
-        value: n,
-        place: c as u32,
+
+    // A charge and its record; the record's handle.
+    pub fn keep(&mut self, lim: Limits, r: Record) -> Result<u32, Refusal>
+        requires standing { Standing lim self.old.work.now self.old.counts }
+        requires keepable { Keepable self.old.work.now self.old.counts.charges r }
+        ensures { RecordKept lim self.old.work.now self.old.counts r self.new.work.now (number_given self.new.counts result) }
+    {
+        let c = self.counts.charges;
+        if lim.rows <= c {
+            return Err(Refusal::TooManyRows);
+        }
+        journal_records::push(self.work, c, r);
+        self.counts = charged(self.counts, 1);
+        Ok((c + 1) as u32)
+    }
+
+    // A charge and a record of a scope's own lists: an extra root, a route, an association.
+    pub fn own(&mut self, lim: Limits, env: Env, r: Record) -> Result<(), Refusal>
+        requires standing { Standing lim self.old.work.now self.old.counts }
+        requires ownership { Ownership self.old.work.now self.old.counts.charges env r }
+        ensures { RecordOwned lim self.old.work.now self.old.counts env r self.new.work.now (done_given self.new.counts result) }
+    {
+        let c = self.counts.charges;
+        if lim.rows <= c {
+            return Err(Refusal::TooManyRows);
+        }
+        journal_lists::append(self.work, env.place, c, r);
+        self.counts = charged(self.counts, 1);
+        Ok(())
+    }
+
+    // A charge and a scope.
+    pub fn open(
+        &mut self,
+        lim: Limits,
+        kind: u32,
+        document: u32,
+        proto: ProtoId,
+        index: u32,
+        opener: u32,
+    ) -> Result<Opened, Refusal>
+        requires { Standing lim self.old.work.now self.old.counts }
+        ensures { ScopeOpened lim self.old.work.now self.old.counts kind document proto.0 index opener self.new.work.now (scope_given self.new.counts result) }
+    {
+        let c = self.counts.charges;
+        if lim.rows <= c {
+            return Err(Refusal::TooManyRows);
+        }
+        let n = self.counts.scopes;
+        journal_records::push(
+            self.work,
+            c,
+            Record::scope(kind, document, proto.0, index, opener, n),
+        );
+        self.counts.scopes = n + 1;
+        self.counts.charges = c + 1;
+        Ok(Opened {
+            number: n,
+            place: c,
+        })
     }
 }

@@ -23,11 +23,11 @@ use Rattle.journal_reading.specs.RecordsStay.{RecordsStay}
 use Rattle.journal_reading.proofs.States.{Silent, more, state_silent}
 use Rattle.journal_reading.proofs.Walks.{walkable}
 use Rattle.refine_records.specs.declared.Limits.{Limits}
+use Rattle.std.specs.declared.result.Result.TheVariants.{Err}
+use Rattle.refine_records.specs.declared.Refusal.TheVariants.{TooManyRows}
 use Rattle.refine_records.specs.declared.Counts.{Counts}
-use Rattle.refine_records.specs.declared.Answer.{Answer}
-use Rattle.refine_records.specs.declared.Answer.TheVariants.{Done, Refused}
 use Rattle.refine_records.specs.Sound.{Source, input_of, JournalSound, Standing, Later}
-use Rattle.refine_records.specs.Does.{at}
+use Rattle.refine_records.specs.Does.{Answer, did, at}
 use Rattle.refine_records.specs.Contract.{charged, Cloned}
 use Rattle.refine_records.proofs.Grow.{sound_more, later_more}
 use Rattle.refine_records.proofs.Later.{later_refl}
@@ -73,7 +73,7 @@ module _ (L : Limits) (w : List ℕ) (t : Counts) (class payload : ℕ) (st : St
   so = st.sound
 
   -- a payload
-  pub clone_payload : (class ≡ 2 → ⊥) → Cloned L w t class payload w (Done t payload 0)
+  pub clone_payload : (class ≡ 2 → ⊥) → Cloned L w t class payload w (did t payload 0)
   unfolding clone charge_each bind_r
   clone_payload ne = record { does = λ S young ty. record { same = rw (ne_eqb class 2 ne); later = later_refl young so }; done = refl }
 
@@ -83,7 +83,7 @@ module _ (L : Limits) (w : List ℕ) (t : Counts) (class payload : ℕ) (st : St
     clone_walk = walkable so.fair (omega (arith, so.charges, st.ready.room)) refl h
 
     module _ (n : ℕ) (en : n ≡ length (ids_at w payload)) where
-      pub clone_full : L.rows - t.charges < n → (a : Answer) → a ≡ Refused 10 0 0 → Cloned L w t class payload w a
+      pub clone_full : L.rows - t.charges < n → (a : Answer) → a ≡ Err TooManyRows → Cloned L w t class payload w a
       unfolding clone bind_r
       clone_full l a q = rw q (record { does = λ S young ty. record { same = rw (eq-eqb class 2 e, each_full (input_of S L) (ids_at w payload) (at S w t) (omega arith)); later = tt }; done = tt })
 
@@ -91,7 +91,7 @@ module _ (L : Limits) (w : List ℕ) (t : Counts) (class payload : ℕ) (st : St
         fits : t.charges + n ≤ L.rows
         fits = omega (arith, so.charges)
 
-        pub clone_done : (t' : Counts) → t' ≡ charged t n → Cloned L w t class payload w' (Done t' payload 0)
+        pub clone_done : (t' : Counts) → t' ≡ charged t n → Cloned L w t class payload w' (did t' payload 0)
         unfolding clone bind_r
         clone_done t' et = rw et (record { does = λ S young ty. record { same = same S ty; later = paid_later so fits long p young }; done = refl })
           where

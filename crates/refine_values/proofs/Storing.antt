@@ -18,16 +18,17 @@ use Rattle.journal_reading.proofs.Fair.{handle_fixed, handle_new}
 use Rattle.journal_reading.proofs.Nodes.{calm_join}
 use Rattle.journal_reading.proofs.States.{Silent, state_one}
 use Rattle.refine_records.specs.declared.Limits.{Limits}
+use Rattle.refine_records.specs.Does.{Answer, did}
+use Rattle.std.specs.declared.result.Result.TheVariants.{Err}
+use Rattle.refine_records.specs.declared.Refusal.TheVariants.{TooManyRows}
 use Rattle.refine_records.specs.declared.Counts.{Counts}
-use Rattle.refine_records.specs.declared.Answer.{Answer}
-use Rattle.refine_records.specs.declared.Answer.TheVariants.{Done, Refused}
 use Rattle.refine_records.specs.Sound.{heads_at, JournalSound, Standing, OfBody, Later}
 use Rattle.refine_records.specs.Contract.{charged, Storable, ValueKept}
 use Rattle.refine_records.proofs.Grow.{sound_more, later_more, alone, count_other}
 use Rattle.refine_records.proofs.Charges.{charge_refused, charge_done}
 use Rattle.refine_records.proofs.Keeping.{not_of_body}
 
-pub store_full : (L : Limits) (w : List ℕ) (t : Counts) (name ty class payload h : ℕ) → L.rows ≤ t.charges → (a : Answer) → a ≡ Refused 10 0 0 → ValueKept L w t name ty class payload h w a
+pub store_full : (L : Limits) (w : List ℕ) (t : Counts) (name ty class payload h : ℕ) → L.rows ≤ t.charges → (a : Answer) → a ≡ Err TooManyRows → ValueKept L w t name ty class payload h w a
 store_full L w t name ty class payload h full a e = rw e (record { does = λ S young. charge_refused S young full; done = tt })
 
 module _ (L : Limits) (w : List ℕ) (t : Counts) (name ty class payload h : ℕ) (st : Standing L w t) (k : Storable w t.charges class payload h) (room : t.charges < L.rows) where
@@ -82,7 +83,7 @@ module _ (L : Limits) (w : List ℕ) (t : Counts) (name ty class payload h : ℕ
         (alone c (λ n. OfBody (cell w' n 0) → young ≤ cell w' n 1) (λ o. absurd (not_of_body (cell w' c 0) (omega (arith, p.holds.at0)) o)))
         sound
 
-    pub store_done : (t' : Counts) → t' ≡ charged t 1 → ValueKept L w t name ty class payload h w' (Done t' (t.charges + 1) 0)
+    pub store_done : (t' : Counts) → t' ≡ charged t 1 → ValueKept L w t name ty class payload h w' (did t' (t.charges + 1) 0)
     store_done t' e = rw e (record {
       does = λ S young. charge_done S young room (state_one S.root S.library calm so.fair put p.holds silent) (later young) (t.charges + 1) 0;
       done = record { handle = handle_new w' c tag_stored p.holds.at0; list = values_new calm.fixed put p.holds (omega arith) k.before.low (λ q. (k.value q).low) };

@@ -11,11 +11,11 @@ use borrow.Author.Tests.{eqb-true, eqb-false, eq-eqb, ne_eqb}
 use Rattle.ast.specs.Ast.{FieldValue}
 use Rattle.ast.specs.Choice.{choose, or_else, map_o}
 use Rattle.expansion_definition.specs.Values.{value_named}
-use Rattle.journal_index.specs.declared.Newest.{Newest}
-use Rattle.journal_index.specs.declared.Newest.TheVariants.{At, Nothing}
+use Rattle.std.specs.Option.{is_some}
+use Rattle.std.specs.declared.option.Option.TheVariants.{None, Some}
 use Rattle.journal_records.specs.Records.{tag_id, tag_stored, cell}
 use Rattle.journal_records.specs.Logs.{newest_below, newest_of}
-use Rattle.journal_index.specs.Index.{hit, newest, found_of, Findable}
+use Rattle.journal_index.specs.Index.{Newest, hit, newest, found_of, Findable}
 use Rattle.journal_lists.specs.Owned.{owned_by, last_owned}
 use Rattle.journal_lists.specs.Families.{First, Families}
 use Rattle.journal_index.proofs.Keys.{hit_is}
@@ -101,11 +101,11 @@ module _ {L : Limits} {w : List ℕ} {t : Counts} (st : Standing L w t) where
             rw (hit_owned w tag_stored f name n, e) (go (omega arith))
 
   module _ {h name cur : ℕ} (s : Searching w t.charges h name cur) where
-    pub search_none : cur ≤ 0 → ValueFound w h name Nothing
+    pub search_none : cur ≤ 0 → ValueFound w h name None
     unfolding values_at value_named
     search_none l = record { same = s.same ∙ rw (walk_end w (stored_rec w) cur l); stored = λ r e. absurd (never r e); low = λ r e. absurd (never r e) }
       where
-        never : (r : ℕ) → Nothing ≡ At r → ⊥
+        never : (r : ℕ) → None ≡ Some r → ⊥
         never r e = let z : ◌≡◌ {A = ℕ} 0 1 = cc in omega arith
 
     pub search_room : 0 < cur → (cur - 1) * 12 + 12 ≤ length w
@@ -115,7 +115,7 @@ module _ {L : Limits} {w : List ℕ} {t : Counts} (st : Standing L w t) where
       is : cell w (cur - 1) 0 ≡ tag_stored
       is = s.handle.tag lt
 
-      found : (r : ℕ) → r < cur → cell w r 0 ≡ tag_stored → value_named name (values_at w cur) ≡ some (value_rec w r) → ValueFound w h name (At r)
+      found : (r : ℕ) → r < cur → cell w r 0 ≡ tag_stored → value_named name (values_at w cur) ≡ some (value_rec w r) → ValueFound w h name (Some r)
       found r l e q = record {
         same = s.same ∙ q;
         stored = λ n z. let y : r ≡ n = cc in rw (← y) e;
@@ -127,7 +127,7 @@ module _ {L : Limits} {w : List ℕ} {t : Counts} (st : Standing L w t) where
 
       -- one by one
       module _ (x : ℕ) (ex : x ≡ cell w (cur - 1) 2) where
-        pub search_here : x ≡ name → ValueFound w h name (At (cur - 1))
+        pub search_here : x ≡ name → ValueFound w h name (Some (cur - 1))
         search_here e = found (cur - 1) (omega arith) is (one name cur lt s.handle ∙ rw (← ex, eq-eqb x name e))
 
         pub search_next : (next : ℕ) → next ≡ cell w (cur - 1) 8 → (x ≡ name → ⊥) → Searching w t.charges h name next
@@ -159,11 +159,11 @@ module _ {L : Limits} {w : List ℕ} {t : Counts} (st : Standing L w t) where
             let y : suc (cur - 1) ≡ cur = omega arith in
             ap (λ (n : ℕ). value_named name (values_at w n)) (sym (z ∙ y)) ∙ family name f cur low s.handle.low start
 
-        pub search_found : (x : Newest) → found_of x ≡ newest w tag_stored f name cur → {r : ℕ} → x ≡ At r → ValueFound w h name x
-        search_found x ex {r} e =
-            let q : newest w tag_stored f name cur ≡ some r = sym ex ∙ rw e in
-            let i = newest_is (hit w tag_stored f name) cur r q in
-            rw e (found r i.0 (hit_is w tag_stored f name r i.1).tag (split ∙ rw q))
+        pub search_found : (x : Newest) → found_of x ≡ newest w tag_stored f name cur → is_some x ≡ true → ValueFound w h name x
+        search_found (Some r) q e =
+            let i = newest_is (hit w tag_stored f name) cur r (sym q) in
+            found r i.0 (hit_is w tag_stored f name r i.1).tag (split ∙ rw (← q))
+        search_found None q e = absurd (let z : true ≡ false = sym e in let y : ◌≡◌ {A = ℕ} 0 1 = cc in omega arith)
 
         module _ (g : ℕ) (eg : g ≡ f) (next : ℕ) (en : next ≡ cell w g 8) where
           b : HandleAt w f tag_stored (cell w f 8)
@@ -172,10 +172,9 @@ module _ {L : Limits} {w : List ℕ} {t : Counts} (st : Standing L w t) where
           pub search_less : next < cur
           search_less = omega (arith, en, ap (λ (k : ℕ). cell w k 8) eg, b.low, low)
 
-          pub search_past : (x : Newest) → found_of x ≡ newest w tag_stored f name cur → x ≡ Nothing → Searching w t.charges h name next
-          search_past x ex e =
-              let q : newest w tag_stored f name cur ≡ none = sym ex ∙ rw e in
-              rw (en, eg) (on (cell w f 8) (omega (arith, b.low, low)) (handle_more (omega (arith, low, s.handle.low)) b) (split ∙ rw q))
+          pub search_past : (x : Newest) → found_of x ≡ newest w tag_stored f name cur → is_some x ≡ false → Searching w t.charges h name next
+          search_past None q e = rw (en, eg) (on (cell w f 8) (omega (arith, b.low, low)) (handle_more (omega (arith, low, s.handle.low)) b) (split ∙ rw (← q)))
+          search_past (Some r) q e = absurd (let z : true ≡ false = e in let y : ◌≡◌ {A = ℕ} 0 1 = cc in omega arith)
 
 -- ---- how many ids: those that are counted, and those of the list from here on
 pub record Counting (w : List ℕ) (h n cur : ℕ) : Type 0 where

@@ -4,124 +4,117 @@ ghost use Rattle.std.specs.Prelude.{◌≡◌, ◌+◌, ◌-◌, length};
 ghost use Rattle.journal_records.specs.Records.{tag_id, tag_stored};
 ghost use Rattle.journal_reading.specs.Reading.{ids_at};
 ghost use Rattle.journal_reading.specs.WellFormed.{HandleAt, Walkable};
+ghost use Rattle.refine_records.specs.Does.{number_given};
 ghost use Rattle.refine_records.specs.Sound.{Standing};
 ghost use Rattle.refine_records.specs.Contract.{Storable, ValueKept, ValueFound, Cloned};
 
-use journal_index::Newest;
 use journal_records;
-use journal_records::Record;
-use refine_records::{Answer, Counts, Limits};
+use journal_records::{Record, words};
+use refine_records::{Journal, Limits, Refusal};
 use words_lent::wide;
 
 // A charge and the stored value of a name, behind those of `h`; the value is its handle.
 pub fn store(
-    work: &mut [u32],
+    journal: &mut Journal<'_>,
     lim: Limits,
-    st: Counts,
     name: u32,
     ty: u32,
     class: u32,
     payload: u32,
     h: u32,
-) -> Answer
-    requires standing { Standing lim work.old st }
-    requires storable { Storable work.old st.charges class payload h }
-    ensures { ValueKept lim work.old st name ty class payload h work.new result }
+) -> Result<u32, Refusal>
+    requires standing { Standing lim journal.old.work.now journal.old.counts }
+    requires storable { Storable journal.old.work.now journal.old.counts.charges class payload h }
+    ensures { ValueKept lim journal.old.work.now journal.old.counts name ty class payload h journal.new.work.now (number_given journal.new.counts result) }
 {
-    let c = st.charges;
+    let c = journal.counts.charges;
     if lim.rows <= c {
-        return refine_records::too_many();
+        return Err(Refusal::TooManyRows);
     }
     journal_lists::join(
-        work,
+        journal.work,
         lim.rows * 12,
         lim.slots,
         c,
         Record::stored(name, ty, class, payload, h),
     );
-    let v = (c + 1) as u32;
-    Answer::Done {
-        st: refine_records::charged(st, 1),
-        value: v,
-        place: 0,
-    }
+    journal.counts = refine_records::charged(journal.counts, 1);
+    Ok((c + 1) as u32)
 }
 
 // The stored value of a name, newest first: one by one for the first few, then family by family.
-pub fn value_of(work: &[u32], lim: Limits, st: Counts, values: u32, name: u32) -> Newest
-    requires standing { Standing lim work.now st }
-    requires handle_at { HandleAt work.now st.charges tag_stored values }
-    ensures { ValueFound work.now values name result }
+pub fn value_of(journal: &Journal<'_>, lim: Limits, values: u32, name: u32) -> Option<usize>
+    requires standing { Standing lim journal.now.work.now journal.now.counts }
+    requires handle_at { HandleAt journal.now.work.now journal.now.counts.charges tag_stored values }
+    ensures { ValueFound journal.now.work.now values name result }
 {
     let mut cur = wide(values);
     let mut few: usize = 8;
     while 0 < few {
         if cur == 0 {
-            return Newest::Nothing;
+            return None;
         }
         let r = cur - 1;
-        if journal_records::word(work, r, 2) == name {
-            return Newest::At(r);
+        if journal_records::word(journal.work, r, words::stored::NAME) == name {
+            return Some(r);
         }
-        cur = wide(journal_records::word(work, r, 8));
+        cur = wide(journal_records::word(journal.work, r, words::BEFORE));
         few -= 1;
     }
     while 0 < cur {
-        let f = journal_records::word(work, cur - 1, 1);
+        let f = journal_records::word(journal.work, cur - 1, words::stored::FAMILY);
         let x = journal_index::find_below(
-            work,
+            journal.work,
             lim.rows * 12,
             lim.slots,
-            st.charges,
+            journal.counts.charges,
             cur,
             9,
             f,
             name,
         );
-        let Newest::Nothing = x else {
+        if x.is_some() {
             return x;
-        };
-        cur = wide(journal_records::word(work, wide(f), 8));
+        }
+        cur = wide(journal_records::word(journal.work, wide(f), words::BEFORE));
     }
-    Newest::Nothing
+    None
 }
 
 // How many ids a list has.
-fn count(work: &[u32], ids: u32) -> usize
-    requires { Walkable work.now tag_id ids }
-    ensures { result ≡ length (ids_at work.now ids) }
+fn count(journal: &Journal<'_>, ids: u32) -> usize
+    requires { Walkable journal.now.work.now tag_id ids }
+    ensures { result ≡ length (ids_at journal.now.work.now ids) }
 {
     let mut n = 0;
     let mut cur = wide(ids);
     while 0 < cur {
         n += 1;
-        cur = wide(journal_records::word(work, cur - 1, 8));
+        cur = wide(journal_records::word(journal.work, cur - 1, words::BEFORE));
     }
     n
 }
 
 // The charges of a value that is cloned: one for each id.
-pub fn clone(work: &mut [u32], lim: Limits, st: Counts, class: u32, payload: u32) -> Answer
-    requires standing { Standing lim work.old st }
-    requires handle_at { class ≡ 2 → HandleAt work.old st.charges tag_id payload }
-    ensures { Cloned lim work.old st class payload work.new result }
+pub fn clone(
+    journal: &mut Journal<'_>,
+    lim: Limits,
+    class: u32,
+    payload: u32,
+) -> Result<u32, Refusal>
+    requires standing { Standing lim journal.old.work.now journal.old.counts }
+    requires handle_at { class ≡ 2 → HandleAt journal.old.work.now journal.old.counts.charges tag_id payload }
+    ensures { Cloned lim journal.old.work.now journal.old.counts class payload journal.new.work.now (number_given journal.new.counts result) }
 {
     if class != 2 {
-        return Answer::Done {
-            st,
-            value: payload,
-            place: 0,
-        };
+        return Ok(payload);
     }
-    let n = count(work, payload);
-    let c = st.charges;
+    let n = count(journal, payload);
+    let c = journal.counts.charges;
     if lim.rows - c < n {
-        return refine_records::too_many();
+        return Err(Refusal::TooManyRows);
     }
-    journal_records::paid(work, c, n);
-    Answer::Done {
-        st: refine_records::charged(st, n),
-        value: payload,
-        place: 0,
-    }
+    journal_records::paid(journal.work, c, n);
+    journal.counts = refine_records::charged(journal.counts, n);
+    Ok(payload)
 }

@@ -1,7 +1,8 @@
 -- One step of the check, at a place of the sheet.
-use mathlib.Core.Path.{◌≡◌, sym, ap, ◌∙◌}
+use mathlib.Core.Path.{◌≡◌, refl, sym, ap, ◌∙◌}
 use mathlib.Core.List.{List, [], ◌∷◌}
 use Rattle.sheet_check.specs.declared.grammar.Form.{Form}
+use Rattle.sheet_check.specs.declared.grammar.UnknownForm.{UnknownForm}
 use Prim.Native.Nat.{ℕ, zero, suc, ◌+◌, ◌≤◌, ◌<◌}
 use native.Mathlib.Numerals.{add-one}
 use native.Mathlib.Omega.{arith}
@@ -9,30 +10,52 @@ use lib.ListN.{length, get_or, drop, drop_of_length-le, get_or-eq_default}
 use lib.Seq.{drop-cons}
 use Rattle.sheet_rows.specs.declared.row.Row.{Row}
 use Rattle.sheet_check.specs.declared.grammar.State.{State}
-use Rattle.sheet_check.specs.declared.grammar.Next.{Next}
-use Rattle.sheet_check.specs.declared.grammar.Next.TheVariants.{Go, No}
-use Rattle.sheet_check.specs.declared.Checked.TheVariants.{Fits, Bad}
+use Rattle.std.specs.Prelude.{Option, Some, None, Ok, Err, ok_or}
+use Rattle.sheet_check.specs.declared.BadRow.{BadRow}
+use Rattle.sheet_check.specs.Checked.{Checked, Fits, Bad}
 use Rattle.sheet_rows.specs.Rows.{blank}
 use Rattle.ast.specs.Choice.{choose}
-use Rattle.sheet_check.specs.Grammar.{run, go_on, fits, has_ended, numbered_checks, checked_numbered}
+use Rattle.sheet_check.specs.Grammar.{run, go_on, fits, has_ended, form_of, checked_words, checked_numbered}
 
 module _ (form : Form) (s : State) (R : List Row) (n : ℕ) where
   run_at : n < length R → run form s n (drop n R) ≡ go_on (fits form s (get_or R n blank)) (λ t. run form t (suc n) (drop (suc n) R)) n
   unfolding run
   run_at h = ap (run form s n) (drop-cons R n blank h)
 
-  pub run_go : (t : State) → n < length R → fits form s (get_or R n blank) ≡ Go t → run form t (n + 1) (drop (n + 1) R) ≡ run form s n (drop n R)
+  pub run_go : (t : State) → n < length R → fits form s (get_or R n blank) ≡ Some t → run form t (n + 1) (drop (n + 1) R) ≡ run form s n (drop n R)
   run_go t h e =
-      rw (add-one n) (sym (run_at h ∙ ap (λ (x : Next). go_on x (λ u. run form u (suc n) (drop (suc n) R)) n) e))
+      rw (add-one n) (sym (run_at h ∙ ap (λ (x : Option State). go_on x (λ u. run form u (suc n) (drop (suc n) R)) n) e))
 
-  pub run_no : n < length R → fits form s (get_or R n blank) ≡ No → Bad n ≡ run form s n (drop n R)
-  run_no h e = sym (run_at h ∙ ap (λ (x : Next). go_on x (λ u. run form u (suc n) (drop (suc n) R)) n) e)
+  pub run_no : n < length R → fits form s (get_or R n blank) ≡ None → Bad n ≡ run form s n (drop n R)
+  run_no h e = sym (run_at h ∙ ap (λ (x : Option State). go_on x (λ u. run form u (suc n) (drop (suc n) R)) n) e)
 
   pub run_end : length R ≤ n → choose (has_ended form s) Fits (Bad n) ≡ run form s n (drop n R)
   unfolding run
   run_end h = ap (run form s n) (sym (drop_of_length-le R h))
 
--- past the forms' numbers
-pub numbered_none : (n : ℕ) (sheet : List ℕ) → (n ≡ 0 → ⊥) → (n ≡ 1 → ⊥) → (n ≡ 2 → ⊥) → (n ≡ 3 → ⊥) → (n ≡ 4 → ⊥) → Bad 0 ≡ checked_numbered n sheet
-unfolding checked_numbered
-numbered_none n sheet a b c d e = let h : 5 ≤ n = omega arith in sym (get_or-eq_default (numbered_checks sheet) (Bad 0) h)
+-- the row that a refused step leaves
+pub bad_row : {n : ℕ} {b : BadRow} {o : Option State} → o ≡ None → Err b ≡ ok_or o (record { 0 = n }) → Err b ≡ Bad n
+bad_row {n} {b} h e =
+    let k = rw h at e in
+    let z : ◌≡◌ {A = BadRow} b (record { 0 = n }) = cc in
+    ap Err z
+
+-- the check by a number is that of its form
+pub numbered_form : (n : ℕ) (sheet : List ℕ) (form : Form) → Ok form ≡ form_of n → checked_words form sheet ≡ checked_numbered n sheet
+unfolding checked_numbered form_of
+numbered_form zero sheet form e = ap (λ (f : Form). checked_words f sheet) (cc)
+numbered_form (suc zero) sheet form e = ap (λ (f : Form). checked_words f sheet) (cc)
+numbered_form (suc (suc zero)) sheet form e = ap (λ (f : Form). checked_words f sheet) (cc)
+numbered_form (suc (suc (suc zero))) sheet form e = ap (λ (f : Form). checked_words f sheet) (cc)
+numbered_form (suc (suc (suc (suc zero)))) sheet form e = ap (λ (f : Form). checked_words f sheet) (cc)
+numbered_form (suc (suc (suc (suc (suc n))))) sheet form e = cc
+
+-- and no row fits where it has none
+pub numbered_none : (n : ℕ) (sheet : List ℕ) (u : UnknownForm) → Err u ≡ form_of n → Bad 0 ≡ checked_numbered n sheet
+unfolding checked_numbered form_of
+numbered_none zero sheet u e = cc
+numbered_none (suc zero) sheet u e = cc
+numbered_none (suc (suc zero)) sheet u e = cc
+numbered_none (suc (suc (suc zero))) sheet u e = cc
+numbered_none (suc (suc (suc (suc zero)))) sheet u e = cc
+numbered_none (suc (suc (suc (suc (suc n))))) sheet u e = refl

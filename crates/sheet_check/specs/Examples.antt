@@ -3,8 +3,7 @@ use Rattle.std.specs.Prelude.{◌≡◌, refl, List, [], ◌∷◌, ◌++◌, �
 use Rattle.std.proofs.Math.Option.{none}
 use Rattle.ast.specs.Ast.{Document, NodeOrigin, Statement}
 use Rattle.sheet_check.specs.declared.grammar.Form.TheVariants.{Root, Library, Expanded, Documents, Protos}
-use Rattle.sheet_check.specs.declared.Checked.{Checked}
-use Rattle.sheet_check.specs.declared.Checked.TheVariants.{Fits, Bad}
+use Rattle.sheet_check.specs.Checked.{Checked, Fits, Bad}
 use Rattle.sheet_rows.specs.Rows.{rows, words}
 use Rattle.sheet_shape.specs.Shape.{shape_fits}
 use Rattle.sheet_check.specs.Grammar.{checked, run, fits, role_of, moves, checked_numbered}

@@ -1,18 +1,16 @@
 -- Which sheets fit, and where one does not: the first row that doesn't (document 01, Sheets). What may follow what.
-use Rattle.std.specs.Prelude.{List, [], ◌∷◌, Bool, true, false, not, ◌&&◌, ◌||◌, ℕ, suc, ◌-◌, ◌/◌, ◌%◌, length, get_or, ltb, leb, eqb}
+use Rattle.std.specs.Prelude.{Option, Some, None, Result, Ok, Err, List, [], ◌∷◌, Bool, true, false, not, ◌&&◌, ◌||◌, ℕ, suc, ◌-◌, ◌/◌, ◌%◌, length, get_or, ltb, leb, eqb}
 use Rattle.ast.specs.Choice.{choose}
 use Rattle.sheet_rows.specs.declared.row.Row.{Row}
 use Rattle.sheet_check.specs.declared.grammar.Form.{Form}
+use Rattle.sheet_check.specs.declared.grammar.UnknownForm.{UnknownForm}
 use Rattle.sheet_check.specs.declared.grammar.Form.TheVariants.{Root, Library, Expanded, Documents, Protos}
 use Rattle.sheet_check.specs.declared.grammar.State.{State}
 use Rattle.sheet_check.specs.declared.grammar.Role.{Role}
 use Rattle.sheet_check.specs.declared.grammar.Role.TheVariants.{Starts, Opens, Inner, Files, Owed, Never}
-use Rattle.sheet_check.specs.declared.grammar.Next.{Next}
-use Rattle.sheet_check.specs.declared.grammar.Next.TheVariants.{Go, No}
 use Rattle.sheet_rows.specs.Rows.{none#, rows}
 use Rattle.sheet_shape.specs.Shape.{shape_fits}
-use Rattle.sheet_check.specs.declared.Checked.{Checked}
-use Rattle.sheet_check.specs.declared.Checked.TheVariants.{Fits, Bad}
+use Rattle.sheet_check.specs.Checked.{Checked, Fits, Bad}
 
 -- what a row of each kind, 0 to 14, does; no other does anything
 abbrev pub roles : List Role
@@ -27,8 +25,8 @@ role_of k = get_or roles k Never
 abbrev pub opened_part : ℕ → State
 opened_part k = record { part = k; last = 0; ids = 0; routes = 0; associations = 0 }
 
-abbrev pub go_if : Bool → State → Next
-go_if b s = choose b (Go s) No
+abbrev pub go_if : Bool → State → Option State
+go_if b s = choose b (Some s) None
 
 -- "A node is row 2, fields, interfaces, statements, body order, at most one instance. A proto is row 7, interfaces, body statements. An extern is row 8, interfaces of class 0, urls."
 abbrev pub stands_in : ℕ → Row → Bool
@@ -65,13 +63,13 @@ begins_in Documents part = leb 11 part
 begins_in Protos part = eqb part 0
 
 -- "A document is row 1; nodes; protos; externs; row 11; top statements. A library is any number of files, row 12 then a document."
-abbrev pub by_role : Form → State → Row → Role → Next
+abbrev pub by_role : Form → State → Row → Role → Option State
 by_role form s r Starts = go_if (begins_in form s.part) (opened_part 1)
 by_role form s r Opens = go_if (leb 1 s.part && leb s.part r.kind && ltb s.part 11) (opened_part r.kind)
 by_role form s r Inner = go_if (comes_in s r) (after_inner s r)
 by_role form s r Files = go_if (is_library form && leb 11 s.part) (opened_part 0)
-by_role form s r Owed = No
-by_role form s r Never = No
+by_role form s r Owed = None
+by_role form s r Never = None
 
 abbrev pub less_id : State → State
 less_id s =
@@ -86,7 +84,7 @@ less_association s =
     record { part = s.part; last = s.last; ids = s.ids; routes = s.routes; associations = s.associations - 1 }
 
 -- the state after a row of the right shape: "its counted id, Route and association rows" first
-unfoldable pub moves : Form → State → Row → Next
+unfoldable pub moves : Form → State → Row → Option State
 moves form s r =
     choose (ltb 0 s.ids) (go_if (eqb r.kind 9) (less_id s))
     (choose (ltb 0 s.routes) (go_if (eqb r.kind 5 && eqb r.a 3) (less_route s))
@@ -102,8 +100,8 @@ takes_marks Documents = true
 takes_marks Protos = false
 
 -- a row by its shape and its place
-abbrev pub row_fits : Form → State → Row → Next
-row_fits form s r = choose (shape_fits (takes_marks form) r) (moves form s r) No
+abbrev pub row_fits : Form → State → Row → Option State
+row_fits form s r = choose (shape_fits (takes_marks form) r) (moves form s r) None
 
 -- "An expanded document is a root sheet without kind 7, Proto statements or origin Proto, whose nodes hold only Route and ExternProto statements and whose interfaces with an IS have class 0."
 abbrev pub stays_expanded : State → Row → Bool
@@ -126,8 +124,8 @@ allowed Expanded s r = stays_expanded s r
 allowed Documents s r = stays_expanded s r
 allowed Protos s r = stays_bare r
 
-unfoldable pub fits : Form → State → Row → Next
-fits form s r = choose (allowed form s r) (row_fits form s r) No
+unfoldable pub fits : Form → State → Row → Option State
+fits form s r = choose (allowed form s r) (row_fits form s r) None
 
 -- a sheet may end in the top, or before the first of files or documents; one of protos anywhere
 abbrev pub ends_in : Form → ℕ → Bool
@@ -141,9 +139,9 @@ ends_in Protos part = true
 abbrev pub has_ended : Form → State → Bool
 has_ended form s = ends_in form s.part && eqb s.ids 0 && eqb s.routes 0 && eqb s.associations 0
 
-abbrev pub go_on : Next → (State → Checked) → ℕ → Checked
-go_on (Go s) k n = k s
-go_on No k n = Bad n
+abbrev pub go_on : Option State → (State → Checked) → ℕ → Checked
+go_on (Some s) k n = k s
+go_on None k n = Bad n
 
 -- the first row that doesn't fit, counted from n; the count of all, where the sheet ends early
 unfoldable pub run : Form → State → ℕ → List Row → Checked
@@ -164,8 +162,8 @@ abbrev pub checked : Form → List Row → Checked
 checked form l = run form (start form) 0 l
 
 abbrev pub is_fits : Checked → Bool
-is_fits Fits = true
-is_fits (Bad n) = false
+is_fits (Ok _) = true
+is_fits (Err _) = false
 
 -- "An operation that takes one calls any other sheet malformed, also a length not a multiple of 8 words"
 abbrev pub is_sheet : Form → List ℕ → Bool
@@ -178,8 +176,8 @@ is_expanded s = is_sheet Expanded s
 
 -- "the first that doesn't fit, the number of whole rows where the sheet ends early or its words are no multiple of 8"
 abbrev pub or_past : Checked → List ℕ → Checked
-or_past Fits s = choose (eqb (length s % 8) 0) Fits (Bad (length s / 8))
-or_past (Bad n) s = Bad n
+or_past (Ok _) s = choose (eqb (length s % 8) 0) Fits (Bad (length s / 8))
+or_past (Err e) s = Err e
 
 abbrev pub checked_words : Form → List ℕ → Checked
 checked_words form s = or_past (checked form (rows s)) s
@@ -187,6 +185,11 @@ checked_words form s = or_past (checked form (rows s)) s
 -- "form 0 root, 1 library, 2 expanded document, 3 expanded documents one after another, 4 protos without body statements"
 abbrev pub numbered_checks : List ℕ → List Checked
 numbered_checks s = checked_words Root s ∷ checked_words Library s ∷ checked_words Expanded s ∷ checked_words Documents s ∷ checked_words Protos s ∷ []
+
+-- the form of a number
+unfoldable pub form_of : ℕ → Result Form UnknownForm
+form_of n =
+    get_or (Ok Root ∷ Ok Library ∷ Ok Expanded ∷ Ok Documents ∷ Ok Protos ∷ []) n (Err (record { 0 = n }))
 
 -- no row fits a form of another number, so the first is named
 unfoldable pub checked_numbered : ℕ → List ℕ → Checked

@@ -1,12 +1,12 @@
 // What may follow what (document 01, Sheets, the paragraphs after the table).
 ghost use Rattle.std.specs.Prelude.{◌≡◌};
-ghost use Rattle.sheet_check.specs.Grammar.{is_library, takes_marks, begins_in, ends_in, starts_in, stays_expanded, allowed, role_of, opened_part, go_if, stands_in, comes_in, after_inner, by_role, moves, fits, has_ended, start};
+ghost use Rattle.sheet_check.specs.Grammar.{form_of, is_library, takes_marks, begins_in, ends_in, starts_in, stays_expanded, allowed, role_of, opened_part, stands_in, comes_in, after_inner, by_role, moves, fits, has_ended, start};
 
 use sheet_rows::row::{NONE, Row};
 
 // What a sheet is to be: a root sheet; a library; an expanded document, which is a root sheet without prototypes; expanded
 // documents one after another; protos without body statements.
-#[derive(Clone, Copy)]
+#[derive(Clone, Copy, Debug, PartialEq, Eq)]
 pub enum Form {
     Root,
     Library,
@@ -15,67 +15,81 @@ pub enum Form {
     Protos,
 }
 
-fn is_library(form: Form) -> bool
-    ensures { result ≡ is_library form }
-{
-    match form {
-        Form::Root => false,
-        Form::Library => true,
-        Form::Expanded => false,
-        Form::Documents => false,
-        Form::Protos => false,
+// A number that is no form's.
+#[derive(Clone, Copy, Debug, PartialEq, Eq)]
+pub struct UnknownForm(pub u32);
+
+impl TryFrom<u32> for Form {
+    type Error = UnknownForm;
+
+    ghost try_from_gives = { λ n r. r ≡ form_of n };
+
+    #[tactic(auto, unfolding(crate::specs::Grammar::form_of))]
+    fn try_from(number: u32) -> Result<Form, UnknownForm> {
+        match number {
+            0 => Ok(Form::Root),
+            1 => Ok(Form::Library),
+            2 => Ok(Form::Expanded),
+            3 => Ok(Form::Documents),
+            4 => Ok(Form::Protos),
+            _ => Err(UnknownForm(number)),
+        }
     }
 }
 
-// Whether a document may begin in a part.
-fn begins_in(form: Form, part: u32) -> bool
-    ensures { result ≡ begins_in form part }
-{
-    match form {
-        Form::Root => part == 0,
-        Form::Library => part == 0,
-        Form::Expanded => part == 0,
-        Form::Documents => 11 <= part,
-        Form::Protos => part == 0,
+impl Form {
+    fn is_library(self) -> bool
+        ensures { result ≡ is_library self }
+    {
+        matches!(self, Form::Library)
     }
-}
 
-// Whether the sheet may end in a part.
-fn ends_in(form: Form, part: u32) -> bool
-    ensures { result ≡ ends_in form part }
-{
-    match form {
-        Form::Root => 11 <= part,
-        Form::Library => 11 <= part,
-        Form::Expanded => 11 <= part,
-        Form::Documents => 11 <= part,
-        Form::Protos => true,
+    // Whether a document may begin in a part.
+    fn begins_in(self, part: u32) -> bool
+        ensures { result ≡ begins_in self part }
+    {
+        match self {
+            Form::Documents => 11 <= part,
+            _ => part == 0,
+        }
     }
-}
 
-// The part that the sheet starts in.
-fn starts_in(form: Form) -> u32
-    ensures { result ≡ starts_in form }
-{
-    match form {
-        Form::Root => 0,
-        Form::Library => 12,
-        Form::Expanded => 0,
-        Form::Documents => 12,
-        Form::Protos => 1,
+    // Whether the sheet may end in a part.
+    fn ends_in(self, part: u32) -> bool
+        ensures { result ≡ ends_in self part }
+    {
+        match self {
+            Form::Protos => true,
+            _ => 11 <= part,
+        }
     }
-}
 
-// Whether its urls may have marks.
-fn takes_marks(form: Form) -> bool
-    ensures { result ≡ takes_marks form }
-{
-    match form {
-        Form::Root => false,
-        Form::Library => false,
-        Form::Expanded => true,
-        Form::Documents => true,
-        Form::Protos => false,
+    // The part that the sheet starts in.
+    fn starts_in(self) -> u32
+        ensures { result ≡ starts_in self }
+    {
+        match self {
+            Form::Root | Form::Expanded => 0,
+            Form::Library | Form::Documents => 12,
+            Form::Protos => 1,
+        }
+    }
+
+    // Whether its urls may have marks.
+    fn takes_marks(self) -> bool
+        ensures { result ≡ takes_marks self }
+    {
+        matches!(self, Form::Expanded | Form::Documents)
+    }
+
+    fn allows(self, s: State, r: Row) -> bool
+        ensures { result ≡ allowed self s r }
+    {
+        match self {
+            Form::Root | Form::Library => true,
+            Form::Expanded | Form::Documents => stays_expanded(s, r),
+            Form::Protos => (r.kind == 7) | (r.kind == 4) | (r.kind == 9),
+        }
     }
 }
 
@@ -107,6 +121,7 @@ fn role_of(kind: u32) -> Role
 // Where the check stands. part: 0 before a document, 1 after its row and before the first of protos, 2 in a node, 7 in a
 // proto, 8 in an extern, 11 in the top, 12 before the first of files or documents. last: the kind of the part's last row but
 // those owed, or 0. ids, routes, associations: how many such rows are owed, in this order.
+// Kept: parts are numbers, as kinds of rows are; a part is compared with the kind that opens the next.
 #[derive(Clone, Copy)]
 pub struct State {
     pub part: u32,
@@ -116,28 +131,19 @@ pub struct State {
     pub associations: u32,
 }
 
-#[derive(Clone, Copy)]
-pub enum Next {
-    Go(State),
-    No,
-}
-
-fn opens(part: u32) -> State
-    ensures { result ≡ opened_part part }
-{
-    State {
-        part,
-        last: 0,
-        ids: 0,
-        routes: 0,
-        associations: 0,
+impl State {
+    // At the start of a part.
+    fn opened(part: u32) -> State
+        ensures { result ≡ opened_part part }
+    {
+        State {
+            part,
+            last: 0,
+            ids: 0,
+            routes: 0,
+            associations: 0,
+        }
     }
-}
-
-fn go_if(fits: bool, s: State) -> Next
-    ensures { result ≡ go_if fits s }
-{
-    if fits { Next::Go(s) } else { Next::No }
 }
 
 fn stands_in(part: u32, r: Row) -> bool
@@ -159,74 +165,63 @@ fn comes_in(s: State, r: Row) -> bool
 fn after_inner(s: State, r: Row) -> State
     ensures { result ≡ after_inner s r }
 {
+    let after = State {
+        last: r.kind,
+        ..State::opened(s.part)
+    };
     if r.kind == 13 {
         State {
-            part: s.part,
-            last: r.kind,
             ids: r.b,
             routes: r.c,
             associations: r.d,
+            ..after
         }
-    } else if r.kind < 5 {
-        if r.f == 2 {
-            State {
-                part: s.part,
-                last: r.kind,
-                ids: r.g,
-                routes: 0,
-                associations: 0,
-            }
-        } else {
-            State {
-                part: s.part,
-                last: r.kind,
-                ids: 0,
-                routes: 0,
-                associations: 0,
-            }
-        }
+    } else if (r.kind < 5) & (r.f == 2) {
+        State { ids: r.g, ..after }
     } else {
-        State {
-            part: s.part,
-            last: r.kind,
-            ids: 0,
-            routes: 0,
-            associations: 0,
-        }
+        after
     }
 }
 
 // A row when nothing is owed.
-fn by_role(form: Form, s: State, r: Row) -> Next
+fn by_role(form: Form, s: State, r: Row) -> Option<State>
     ensures { result ≡ by_role form s r (role_of r.kind) }
 {
     match role_of(r.kind) {
-        Role::Starts => go_if(begins_in(form, s.part), opens(1)),
-        Role::Opens => go_if(
-            (1 <= s.part) & (s.part <= r.kind) & (s.part < 11),
-            opens(r.kind),
-        ),
-        Role::Inner => go_if(comes_in(s, r), after_inner(s, r)),
-        Role::Files => go_if(is_library(form) & (11 <= s.part), opens(0)),
-        Role::Owed => Next::No,
-        Role::Never => Next::No,
+        Role::Starts => form.begins_in(s.part).then_some(State::opened(1)),
+        Role::Opens => {
+            let opens = (1 <= s.part) & (s.part <= r.kind) & (s.part < 11);
+            opens.then_some(State::opened(r.kind))
+        }
+        Role::Inner => comes_in(s, r).then_some(after_inner(s, r)),
+        Role::Files => {
+            let ends = form.is_library() & (11 <= s.part);
+            ends.then_some(State::opened(0))
+        }
+        Role::Owed | Role::Never => None,
     }
 }
 
 // A row of the right shape: first what is owed.
-fn moves(form: Form, s: State, r: Row) -> Next
+#[tactic(auto, unfolding(crate::specs::Grammar::moves))]
+fn moves(form: Form, s: State, r: Row) -> Option<State>
     ensures { result ≡ moves form s r }
 {
-    let mut t = s;
     if 0 < s.ids {
-        t.ids = s.ids - 1;
-        go_if(r.kind == 9, t)
+        (r.kind == 9).then_some(State {
+            ids: s.ids - 1,
+            ..s
+        })
     } else if 0 < s.routes {
-        t.routes = s.routes - 1;
-        go_if((r.kind == 5) & (r.a == 3), t)
+        ((r.kind == 5) & (r.a == 3)).then_some(State {
+            routes: s.routes - 1,
+            ..s
+        })
     } else if 0 < s.associations {
-        t.associations = s.associations - 1;
-        go_if(r.kind == 14, t)
+        (r.kind == 14).then_some(State {
+            associations: s.associations - 1,
+            ..s
+        })
     } else {
         by_role(form, s, r)
     }
@@ -243,40 +238,26 @@ fn stays_expanded(s: State, r: Row) -> bool
     !(prototype | statement | is_and_value)
 }
 
-fn allowed(form: Form, s: State, r: Row) -> bool
-    ensures { result ≡ allowed form s r }
-{
-    match form {
-        Form::Root => true,
-        Form::Library => true,
-        Form::Expanded => stays_expanded(s, r),
-        Form::Documents => stays_expanded(s, r),
-        Form::Protos => (r.kind == 7) | (r.kind == 4) | (r.kind == 9),
-    }
-}
-
-pub fn step(form: Form, s: State, r: Row) -> Next
+// The state after a row, where the row fits.
+#[tactic(auto, unfolding(crate::specs::Grammar::fits))]
+pub fn step(form: Form, s: State, r: Row) -> Option<State>
     ensures { result ≡ fits form s r }
 {
-    if allowed(form, s, r) {
-        if sheet_shape::shape_fits(takes_marks(form), r) {
-            moves(form, s, r)
-        } else {
-            Next::No
-        }
+    if form.allows(s, r) && sheet_shape::shape_fits(form.takes_marks(), r) {
+        moves(form, s, r)
     } else {
-        Next::No
+        None
     }
 }
 
 pub fn has_ended(form: Form, s: State) -> bool
     ensures { result ≡ has_ended form s }
 {
-    ends_in(form, s.part) & (s.ids == 0) & (s.routes == 0) & (s.associations == 0)
+    form.ends_in(s.part) & (s.ids == 0) & (s.routes == 0) & (s.associations == 0)
 }
 
 pub fn start(form: Form) -> State
     ensures { result ≡ start form }
 {
-    opens(starts_in(form))
+    State::opened(form.starts_in())
 }

@@ -6,34 +6,27 @@ ghost use Rattle.std.specs.Prelude.{◌≡◌};
 ghost use Rattle.sheet_rows.specs.Rows.{rows};
 ghost use Rattle.sheet_check.specs.Grammar.{checked, is_sheet, is_expanded, checked_words, checked_numbered};
 
-use grammar::{Form, Next};
+use grammar::Form;
 use sheet_rows::row;
 
-// Whether a sheet fits its form, or else the first row, from 0, that doesn't: the row count, where the sheet ends early.
-// Words past the last whole row are no row.
-#[derive(Clone, Copy)]
-pub enum Checked {
-    Fits,
-    Bad(usize),
-}
+// The first row, from 0, that doesn't fit a sheet's form: the row count, where the sheet ends early. Words past the last
+// whole row are no row.
+#[derive(Clone, Copy, Debug, PartialEq, Eq)]
+pub struct BadRow(pub usize);
 
-pub fn check(sheet: &[u32], form: Form) -> Checked
+// Whether a sheet fits its form.
+pub fn check(sheet: &[u32], form: Form) -> Result<(), BadRow>
     ensures { result ≡ checked form (rows sheet.now) }
 {
     let count = sheet.len() / 8;
     let mut s = grammar::start(form);
-    let mut at = 0;
-    while at < count {
-        match grammar::step(form, s, row::row_at(sheet, at)) {
-            Next::Go(n) => s = n,
-            Next::No => return Checked::Bad(at),
-        }
-        at += 1;
+    for at in 0..count {
+        s = grammar::step(form, s, row::row_at(sheet, at)).ok_or(BadRow(at))?;
     }
     if grammar::has_ended(form, s) {
-        Checked::Fits
+        Ok(())
     } else {
-        Checked::Bad(at)
+        Err(BadRow(count))
     }
 }
 
@@ -41,14 +34,7 @@ pub fn check(sheet: &[u32], form: Form) -> Checked
 pub fn is_sheet(sheet: &[u32], form: Form) -> bool
     ensures { result ≡ is_sheet form sheet.now }
 {
-    if sheet.len() % 8 == 0 {
-        match check(sheet, form) {
-            Checked::Fits => true,
-            Checked::Bad(_) => false,
-        }
-    } else {
-        false
-    }
+    sheet.len() % 8 == 0 && check(sheet, form).is_ok()
 }
 
 pub fn is_expanded(sheet: &[u32]) -> bool
@@ -58,31 +44,22 @@ pub fn is_expanded(sheet: &[u32]) -> bool
 }
 
 // The check with words past the last whole row counted as a row that doesn't fit.
-fn check_words(sheet: &[u32], form: Form) -> Checked
+fn check_words(sheet: &[u32], form: Form) -> Result<(), BadRow>
     ensures { result ≡ checked_words form sheet.now }
 {
-    match check(sheet, form) {
-        Checked::Fits => {
-            if sheet.len() % 8 != 0 {
-                Checked::Bad(sheet.len() / 8)
-            } else {
-                Checked::Fits
-            }
-        }
-        Checked::Bad(row) => Checked::Bad(row),
+    check(sheet, form)?;
+    if sheet.len() % 8 != 0 {
+        return Err(BadRow(sheet.len() / 8));
     }
+    Ok(())
 }
 
 // The same by the number of a form; no row fits a form of another number.
-pub fn check_numbered(sheet: &[u32], form: u32) -> Checked
+pub fn check_numbered(sheet: &[u32], form: u32) -> Result<(), BadRow>
     ensures { result ≡ checked_numbered form sheet.now }
 {
-    match form {
-        0 => check_words(sheet, Form::Root),
-        1 => check_words(sheet, Form::Library),
-        2 => check_words(sheet, Form::Expanded),
-        3 => check_words(sheet, Form::Documents),
-        4 => check_words(sheet, Form::Protos),
-        _ => Checked::Bad(0),
-    }
+    let Ok(form) = Form::try_from(form) else {
+        return Err(BadRow(0));
+    };
+    check_words(sheet, form)
 }

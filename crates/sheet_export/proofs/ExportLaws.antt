@@ -5,7 +5,7 @@ use Prim.Native.Nat.{ℕ, ◌≤◌, ◌<◌}
 use native.Mathlib.Omega.{arith}
 use lib.ListN.{length, get_or}
 use borrow.Author.Tests.{lt-ltb, le-ltb}
-use Rattle.sheet_check.specs.declared.Checked.{Checked}
+use Rattle.sheet_check.specs.Checked.{Checked}
 use Rattle.sheet_check.specs.Grammar.{checked_numbered}
 use Rattle.words_lent.specs.Words.{over}
 use Rattle.sheet_export.specs.Exports.{check_words, check_c}

@@ -1,8 +1,7 @@
 -- luhetami_check: the result, and every word of the answer after a call, from the words before it.
-use Rattle.std.specs.Prelude.{List, [], ◌∷◌, ℕ, length, get_or, ltb}
+use Rattle.std.specs.Prelude.{Ok, Err, List, [], ◌∷◌, ℕ, length, get_or, ltb}
 use Rattle.ast.specs.Choice.{choose}
-use Rattle.sheet_check.specs.declared.Checked.{Checked}
-use Rattle.sheet_check.specs.declared.Checked.TheVariants.{Fits, Bad}
+use Rattle.sheet_check.specs.Checked.{Checked}
 use Rattle.sheet_check.specs.Grammar.{checked_numbered}
 use Rattle.words_lent.specs.Words.{over}
 
@@ -13,8 +12,8 @@ pub record AfterCheck : Type 0 where
 
 -- "1 or 0, row"; "0 where it fits"
 abbrev pub check_words : Checked → List ℕ
-check_words Fits = 1 ∷ 0 ∷ []
-check_words (Bad row) = 0 ∷ row ∷ []
+check_words (Ok _) = 1 ∷ 0 ∷ []
+check_words (Err b) = 0 ∷ b.0 ∷ []
 
 -- "The result is 1 where it fits, 0 where it doesn't, the form is none of these or the answer has fewer than two words (then none is written)"
 unfoldable pub check_c : (sheet : List ℕ) → (form : ℕ) → (answer : List ℕ) → AfterCheck

@@ -3,7 +3,7 @@
 ghost use Rattle.std.specs.Prelude.{◌≡◌};
 ghost use Rattle.sheet_export.specs.Exports.{check_c};
 
-use sheet_check::Checked;
+use sheet_check::BadRow;
 
 // The check of a sheet by a form's number. Answer: 1 where it fits, else 0; the row. The result is the first of these.
 pub fn export(words: &[u32], form: u32, answer: &mut [u64]) -> u32
@@ -13,7 +13,13 @@ pub fn export(words: &[u32], form: u32, answer: &mut [u64]) -> u32
         return 0;
     }
     match sheet_check::check_numbered(words, form) {
-        Checked::Fits => words_answer::put(answer, 1, &[0]),
-        Checked::Bad(row) => words_answer::put(answer, 0, &[row as u64]),
+        Ok(()) => {
+            answer[..2].copy_from_slice(&[1, 0]);
+            1
+        }
+        Err(BadRow(row)) => {
+            answer[..2].copy_from_slice(&[0, row as u64]);
+            0
+        }
     }
 }

@@ -16,8 +16,8 @@ use Rattle.sheet_check.specs.declared.grammar.Form.TheVariants.{Expanded, Docume
 use Rattle.sheet_check.specs.declared.grammar.State.{State}
 use Rattle.sheet_check.specs.declared.grammar.Role.{Role}
 use Rattle.sheet_check.specs.declared.grammar.Role.TheVariants.{Starts, Opens, Inner, Files, Owed, Never}
-use Rattle.sheet_check.specs.declared.grammar.Next.TheVariants.{Go}
-use Rattle.sheet_check.specs.declared.Checked.TheVariants.{Fits}
+use Rattle.std.specs.Prelude.{Some}
+use Rattle.sheet_check.specs.Checked.{Fits}
 use Rattle.sheet_check.specs.Grammar.{role_of, opened_part, fits, checked}
 use Rattle.sheet_roundtrip.proofs.Tests.{never}
 use Rattle.sheet_roundtrip.proofs.Accepts.{bare, no_go, Accepts, accepts, accepted}

@@ -13,7 +13,7 @@ use Rattle.sheet_rows.specs.Parse.{elements, document_of, documents_of, own_rows
 use Rattle.sheet_rows.specs.Print.{document_rows, documents_rows}
 use Rattle.sheet_rows.specs.declared.part.Part.TheVariants.{Documents as DocumentsPart}
 use Rattle.sheet_check.specs.declared.grammar.Form.TheVariants.{Expanded, Documents}
-use Rattle.sheet_check.specs.declared.Checked.TheVariants.{Fits}
+use Rattle.sheet_check.specs.Checked.{Fits}
 use Rattle.sheet_check.specs.Grammar.{checked}
 use Rattle.sheet_roundtrip.specs.Ranges.{InRange}
 use Rattle.sheet_roundtrip.proofs.Parsed.{documents_parsed}

@@ -13,7 +13,7 @@ use Rattle.sheet_rows.specs.Parse.{passes, elements, document_of, up_to_next, ow
 use Rattle.sheet_rows.specs.Print.{document_rows}
 use Rattle.sheet_check.specs.declared.grammar.Form.TheVariants.{Expanded, Documents}
 use Rattle.sheet_check.specs.declared.grammar.State.{State}
-use Rattle.sheet_check.specs.declared.Checked.TheVariants.{Fits}
+use Rattle.sheet_check.specs.Checked.{Fits}
 use Rattle.sheet_check.specs.Grammar.{opened_part, has_ended, fits, checked}
 use Rattle.sheet_roundtrip.proofs.Tests.{every_at}
 use Rattle.sheet_roundtrip.proofs.Accepts.{bare, Accepts, accepts, accepted}

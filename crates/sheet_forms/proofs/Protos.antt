@@ -23,9 +23,8 @@ use Rattle.sheet_check.specs.declared.grammar.Form.TheVariants.{Root, Protos}
 use Rattle.sheet_check.specs.declared.grammar.State.{State}
 use Rattle.sheet_check.specs.declared.grammar.Role.{Role}
 use Rattle.sheet_check.specs.declared.grammar.Role.TheVariants.{Starts, Opens, Inner, Files, Owed, Never}
-use Rattle.sheet_check.specs.declared.grammar.Next.{Next}
-use Rattle.sheet_check.specs.declared.grammar.Next.TheVariants.{Go, No}
-use Rattle.sheet_check.specs.declared.Checked.TheVariants.{Fits}
+use Rattle.std.specs.Prelude.{Option as Maybe, Some, None}
+use Rattle.sheet_check.specs.Checked.{Fits}
 use Rattle.sheet_check.specs.Grammar.{role_of, opened_part, go_if, less_id, less_route, less_association, by_role, comes_in, after_inner, moves, row_fits, stays_bare, fits, has_ended, checked}
 use Rattle.sheet_roundtrip.specs.Ranges.{InRange, ProtoInRange}
 use Rattle.sheet_roundtrip.proofs.Tests.{never, or_e, among}
@@ -50,7 +49,7 @@ framed R = row 1 0 0 0 0 0 0 0 ∷ R ++ (top_row ∷ [])
 -- but for what is allowed, a row of protos moves as one of a root sheet
 same_moves : (s : State) (r : Row) → moves Protos s r ≡ moves Root s r
 unfolding moves
-same_moves s r = ap (λ (x : Next). choose (ltb 0 s.ids) (go_if (eqb r.kind 9) (less_id s)) (choose (ltb 0 s.routes) (go_if (eqb r.kind 5 && eqb r.a 3) (less_route s)) (choose (ltb 0 s.associations) (go_if (eqb r.kind 14) (less_association s)) x))) (go (role_of r.kind))
+same_moves s r = ap (λ (x : Maybe State). choose (ltb 0 s.ids) (go_if (eqb r.kind 9) (less_id s)) (choose (ltb 0 s.routes) (go_if (eqb r.kind 5 && eqb r.a 3) (less_route s)) (choose (ltb 0 s.associations) (go_if (eqb r.kind 14) (less_association s)) x))) (go (role_of r.kind))
   where
     go : (role : Role) → by_role Protos s r role ≡ by_role Root s r role
     go Starts = refl
@@ -62,12 +61,12 @@ same_moves s r = ap (λ (x : Next). choose (ltb 0 s.ids) (go_if (eqb r.kind 9) (
 
 same_fits : (s : State) (r : Row) → row_fits Protos s r ≡ fits Root s r
 unfolding fits
-same_fits s r = ap (λ (x : Next). choose (shape_fits false r) x No) (same_moves s r)
+same_fits s r = ap (λ (x : Maybe State). choose (shape_fits false r) x None) (same_moves s r)
 
 -- ---- from a root sheet to protos
 
 -- row 11 comes where nothing is owed
-top_row_lem : (s : State) → fits Root s top_row ≡ choose true (choose (ltb 0 s.ids) No (choose (ltb 0 s.routes) No (choose (ltb 0 s.associations) No (go_if (leb 1 s.part && leb s.part 11 && ltb s.part 11) (opened_part 11))))) No
+top_row_lem : (s : State) → fits Root s top_row ≡ choose true (choose (ltb 0 s.ids) None (choose (ltb 0 s.routes) None (choose (ltb 0 s.associations) None (go_if (leb 1 s.part && leb s.part 11 && ltb s.part 11) (opened_part 11))))) None
 unfolding fits moves role_of shape_fits
 top_row_lem s = refl
 
@@ -85,7 +84,7 @@ abbrev Inside : State → Type 0
 Inside s = (1 ≤ s.part) × (s.part ≤ 7)
 
 -- a row that pays an id, or else none
-pays : (A B C S : Bool) (u t : State) → choose S (choose A (Go u) (choose B No (choose C No No))) No ≡ Go t → u ≡ t
+pays : (A B C S : Bool) (u t : State) → choose S (choose A (Some u) (choose B None (choose C None None))) None ≡ Some t → u ≡ t
 pays A B C false u t h = no_go h
 pays true B C true u t h = go_inj h
 pays false true C true u t h = no_go h
@@ -94,40 +93,40 @@ pays false false false true u t h = no_go h
 
 -- a row keeps inside
 module _ (s t : State) (a b c d e f g : ℕ) (i : Inside s) where
-  seven : fits Root s (row 7 a b c d e f g) ≡ Go t → Inside t
+  seven : fits Root s (row 7 a b c d e f g) ≡ Some t → Inside t
   unfolding fits moves role_of
   seven h = let x = goes (ltb 0 s.ids) (ltb 0 s.routes) (ltb 0 s.associations) (shape_fits false (row 7 a b c d e f g)) (leb 1 s.part && leb s.part 7 && ltb s.part 11) (opened_part 7) t h in subst Inside x.to (omega arith)
 
-  four : fits Root s (row 4 a b c d e f g) ≡ Go t → Inside t
+  four : fits Root s (row 4 a b c d e f g) ≡ Some t → Inside t
   unfolding fits moves role_of
   four h = let x = goes (ltb 0 s.ids) (ltb 0 s.routes) (ltb 0 s.associations) (shape_fits false (row 4 a b c d e f g)) (comes_in s (row 4 a b c d e f g)) (after_inner s (row 4 a b c d e f g)) t h in subst Inside x.to i
 
-  nine : fits Root s (row 9 a b c d e f g) ≡ Go t → Inside t
+  nine : fits Root s (row 9 a b c d e f g) ≡ Some t → Inside t
   unfolding fits moves role_of
   nine h = subst Inside (pays (ltb 0 s.ids) (ltb 0 s.routes) (ltb 0 s.associations) (shape_fits false (row 9 a b c d e f g)) (less_id s) t h) i
 
-stays_inside : (s t : State) (r : Row) → stays_bare r ≡ true → fits Root s r ≡ Go t → Inside s → Inside t
+stays_inside : (s t : State) (r : Row) → stays_bare r ≡ true → fits Root s r ≡ Some t → Inside s → Inside t
 stays_inside s t r b h i = ⊎_elim (λ x. ⊎_elim (λ (e : eqb r.kind 7 ≡ true). seven s t r.a r.b r.c r.d r.e r.f r.g i (of_kind 7 (eqb-true r.kind 7 e))) (λ (e : eqb r.kind 4 ≡ true). four s t r.a r.b r.c r.d r.e r.f r.g i (of_kind 4 (eqb-true r.kind 4 e))) (or_e (eqb r.kind 7) (eqb r.kind 4) x)) (λ (e : eqb r.kind 9 ≡ true). nine s t r.a r.b r.c r.d r.e r.f r.g i (of_kind 9 (eqb-true r.kind 9 e))) (or_e (eqb r.kind 7 || eqb r.kind 4) (eqb r.kind 9) b)
   where
-    of_kind : (k : ℕ) → r.kind ≡ k → fits Root s (row k r.a r.b r.c r.d r.e r.f r.g) ≡ Go t
+    of_kind : (k : ℕ) → r.kind ≡ k → fits Root s (row k r.a r.b r.c r.d r.e r.f r.g) ≡ Some t
     of_kind k m = ap (fits Root s) (sym (as_kind r k m)) ∙ h
 
 root_of_lem : (R : List Row) (s : State) → Inside s → Accepts Protos s R → Bare R × Accepts Root s (R ++ (top_row ∷ []))
 unfolding fits
 root_of_lem [] s i k =
     let a = and_l (eqb s.ids 0 && eqb s.routes 0) (eqb s.associations 0) k in
-    let e : choose true (choose (ltb 0 s.ids) No (choose (ltb 0 s.routes) No (choose (ltb 0 s.associations) No (go_if (leb 1 s.part && leb s.part 11 && ltb s.part 11) (opened_part 11))))) No ≡ Go (opened_part 11) =
+    let e : choose true (choose (ltb 0 s.ids) None (choose (ltb 0 s.routes) None (choose (ltb 0 s.associations) None (go_if (leb 1 s.part && leb s.part 11 && ltb s.part 11) (opened_part 11))))) None ≡ Some (opened_part 11) =
     rw (owes_none s.ids (and_l (eqb s.ids 0) (eqb s.routes 0) a), owes_none s.routes (and_r (eqb s.ids 0) (eqb s.routes 0) a), owes_none s.associations (and_r (eqb s.ids 0 && eqb s.routes 0) (eqb s.associations 0) k), le-leb 1 s.part i.0, le-leb s.part 11 (omega arith), lt-ltb s.part 11 (omega arith)) in
     (tt, (opened_part 11, top_row_lem s ∙ e, refl))
 root_of_lem (r ∷ R) s i k =
     let b = go_l (stays_bare r) (row_fits Protos s r) k.0 k.1 in
-    let e : fits Root s r ≡ Go k.0 = sym (same_fits s r) ∙ go_r (stays_bare r) (row_fits Protos s r) k.0 k.1 in
+    let e : fits Root s r ≡ Some k.0 = sym (same_fits s r) ∙ go_r (stays_bare r) (row_fits Protos s r) k.0 k.1 in
     let w = root_of_lem R k.0 (stays_inside s k.0 r b e i) k.2 in
     ((b, w.0), (k.0, e, w.1))
 
 -- ---- the whole sheet
 
-first_row : fits Root (bare 0 0) (row 1 0 0 0 0 0 0 0) ≡ Go (bare 1 0)
+first_row : fits Root (bare 0 0) (row 1 0 0 0 0 0 0 0) ≡ Some (bare 1 0)
 unfolding fits moves role_of shape_fits
 first_row = refl
 

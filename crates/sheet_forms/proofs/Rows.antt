@@ -14,8 +14,7 @@ use Rattle.sheet_check.specs.declared.grammar.Form.TheVariants.{Expanded, Docume
 use Rattle.sheet_check.specs.declared.grammar.State.{State}
 use Rattle.sheet_check.specs.declared.grammar.Role.{Role}
 use Rattle.sheet_check.specs.declared.grammar.Role.TheVariants.{Starts, Opens, Inner, Files, Owed, Never}
-use Rattle.sheet_check.specs.declared.grammar.Next.{Next}
-use Rattle.sheet_check.specs.declared.grammar.Next.TheVariants.{Go, No}
+use Rattle.std.specs.Prelude.{Option, Some, None}
 use Rattle.ast.specs.Choice.{choose}
 use Rattle.ast.proofs.Basics.{and_l, and_r}
 use Rattle.sheet_shape.specs.Shape.{shape_fits}
@@ -44,7 +43,7 @@ pub record Goes (A B C S E : Bool) (u t : State) : Type 0 where
   pub place : E ≡ true
   pub to : u ≡ t
 
-pub goes : (A B C S E : Bool) (u t : State) → choose S (choose A No (choose B No (choose C No (go_if E u)))) No ≡ Go t → Goes A B C S E u t
+pub goes : (A B C S E : Bool) (u t : State) → choose S (choose A None (choose B None (choose C None (go_if E u)))) None ≡ Some t → Goes A B C S E u t
 goes A B C false E u t h = no_go h
 goes true B C true E u t h = no_go h
 goes false true C true E u t h = no_go h
@@ -54,8 +53,8 @@ goes false false false true true u t h = record { ids = refl; routes = refl; ass
 
 -- ---- a row of kind 1
 
-abbrev Owing : State → Row → Bool → Next
-Owing s r E = choose (shape_fits true r) (choose (ltb 0 s.ids) No (choose (ltb 0 s.routes) No (choose (ltb 0 s.associations) No (go_if E (opened_part 1))))) No
+abbrev Owing : State → Row → Bool → Option State
+Owing s r E = choose (shape_fits true r) (choose (ltb 0 s.ids) None (choose (ltb 0 s.routes) None (choose (ltb 0 s.associations) None (go_if E (opened_part 1))))) None
 
 several_row : (s : State) (r : Row) → r.kind ≡ 1 → fits Documents s r ≡ Owing s r (leb 11 s.part)
 unfolding fits moves role_of
@@ -66,32 +65,32 @@ unfolding fits moves role_of
 one_row s r k = rw (as_kind r 1 k)
 
 -- the documents before it may end, and it starts one
-pub starts_here : (s t : State) (r : Row) → r.kind ≡ 1 → fits Documents s r ≡ Go t → (has_ended Expanded s ≡ true) × (opened_part 1 ≡ t) × (fits Expanded (opened_part 0) r ≡ Go (opened_part 1))
+pub starts_here : (s t : State) (r : Row) → r.kind ≡ 1 → fits Documents s r ≡ Some t → (has_ended Expanded s ≡ true) × (opened_part 1 ≡ t) × (fits Expanded (opened_part 0) r ≡ Some (opened_part 1))
 starts_here s t r k h =
     let g = goes (ltb 0 s.ids) (ltb 0 s.routes) (ltb 0 s.associations) (shape_fits true r) (leb 11 s.part) (opened_part 1) t (sym (several_row s r k) ∙ h) in
     (rw (g.place, none_owed s.ids g.ids, none_owed s.routes g.routes, none_owed s.associations g.associations), g.to, one_row (opened_part 0) r k ∙ rw g.shape)
 
 -- where they have ended, it does
-pub starts_again : (s t : State) (r : Row) → r.kind ≡ 1 → has_ended Expanded s ≡ true → fits Expanded (opened_part 0) r ≡ Go t → fits Documents s r ≡ Go t
+pub starts_again : (s t : State) (r : Row) → r.kind ≡ 1 → has_ended Expanded s ≡ true → fits Expanded (opened_part 0) r ≡ Some t → fits Documents s r ≡ Some t
 starts_again s t r k e h =
     let g = goes false false false (shape_fits true r) true (opened_part 1) t (sym (one_row (opened_part 0) r k) ∙ h) in
     let a = and_l (leb 11 s.part && eqb s.ids 0 && eqb s.routes 0) (eqb s.associations 0) e in
     let b = and_l (leb 11 s.part && eqb s.ids 0) (eqb s.routes 0) a in
-    several_row s r k ∙ rw (g.shape, owes_none s.ids (and_r (leb 11 s.part) (eqb s.ids 0) b), owes_none s.routes (and_r (leb 11 s.part && eqb s.ids 0) (eqb s.routes 0) a), owes_none s.associations (and_r (leb 11 s.part && eqb s.ids 0 && eqb s.routes 0) (eqb s.associations 0) e), and_l (leb 11 s.part) (eqb s.ids 0) b) (ap Go g.to)
+    several_row s r k ∙ rw (g.shape, owes_none s.ids (and_r (leb 11 s.part) (eqb s.ids 0) b), owes_none s.routes (and_r (leb 11 s.part && eqb s.ids 0) (eqb s.routes 0) a), owes_none s.associations (and_r (leb 11 s.part && eqb s.ids 0 && eqb s.routes 0) (eqb s.associations 0) e), and_l (leb 11 s.part) (eqb s.ids 0) b) (ap Some g.to)
 
 -- ---- a row of another kind
 
 -- what a choice gives where it is made
-when : (b : Bool) (x y : Next) → (b ≡ true → x ≡ y) → choose b x No ≡ choose b y No
+when : (b : Bool) (x y : Option State) → (b ≡ true → x ≡ y) → choose b x None ≡ choose b y None
 when true x y f = f refl
 when false x y f = refl
 
 pub same_row : (s : State) (r : Row) → eqb r.kind 1 ≡ false → fits Documents s r ≡ fits Expanded s r
 unfolding fits moves
-same_row s r n = ap (λ (x : Next). choose (stays_expanded s r) x No) (when (shape_fits true r) (moves Documents s r) (moves Expanded s r) by_roles)
+same_row s r n = ap (λ (x : Option State). choose (stays_expanded s r) x None) (when (shape_fits true r) (moves Documents s r) (moves Expanded s r) by_roles)
   where
     by_roles : shape_fits true r ≡ true → moves Documents s r ≡ moves Expanded s r
-    by_roles h = ap (λ (x : Next). choose (ltb 0 s.ids) (go_if (eqb r.kind 9) (less_id s)) (choose (ltb 0 s.routes) (go_if (eqb r.kind 5 && eqb r.a 3) (less_route s)) (choose (ltb 0 s.associations) (go_if (eqb r.kind 14) (less_association s)) x))) (go (role_of r.kind) refl)
+    by_roles h = ap (λ (x : Option State). choose (ltb 0 s.ids) (go_if (eqb r.kind 9) (less_id s)) (choose (ltb 0 s.routes) (go_if (eqb r.kind 5 && eqb r.a 3) (less_route s)) (choose (ltb 0 s.associations) (go_if (eqb r.kind 14) (less_association s)) x))) (go (role_of r.kind) refl)
       where
         go : (role : Role) → role_of r.kind ≡ role → by_role Documents s r role ≡ by_role Expanded s r role
         go Starts e = absurd (kind_by_role true r h Starts e (λ k. eqb k 1 ≡ false → ⊥) ((λ z. never (sym z)), tt) n)
@@ -116,6 +115,6 @@ kind_passes r h =
     high (no z) = never (shape_none true r (omega arith) ∙ h)
 
 -- a row that fits has its shape
-pub has_shape : (s t : State) (r : Row) → fits Documents s r ≡ Go t → shape_fits true r ≡ true
+pub has_shape : (s t : State) (r : Row) → fits Documents s r ≡ Some t → shape_fits true r ≡ true
 unfolding fits
-has_shape s t r h = go_l (shape_fits true r) (moves Documents s r) t (go_r (stays_expanded s r) (choose (shape_fits true r) (moves Documents s r) No) t h)
+has_shape s t r h = go_l (shape_fits true r) (moves Documents s r) t (go_r (stays_expanded s r) (choose (shape_fits true r) (moves Documents s r) None) t h)

@@ -21,7 +21,7 @@ use Rattle.sheet_walks.specs.declared.walk.Found.{Found}
 use Rattle.sheet_walks.specs.declared.walk.Found.TheVariants.{At, Nothing}
 use Rattle.sheet_walks.specs.Walk.{rows_at, Below, Stands}
 use Rattle.sheet_lookup.specs.Lookup.{sheet_of, Located}
-use Rattle.sheet_part.specs.Part.{part_of, Says, HandedBack, Ends, Cut, ProtoEnd, ProtoPart}
+use Rattle.sheet_part.specs.Part.{part_of, Says, HandedBack, Ends, Cut, ProtoPart}
 use Rattle.sheet_walks.proofs.WalkLaws.{elements_stop, elements_end, front_drop}
 
 -- ---- rows of a part of the words

@@ -9,7 +9,7 @@ ghost use Rattle.sheet_part.specs.Part.{part_of, ProtoEnd, ProtoPart, HandedBack
 use ast::ProtoId;
 use sheet_lookup::{document, rows};
 use sheet_rows::part::Part;
-use sheet_rows::{part, row};
+use sheet_rows::row;
 use sheet_walks::walk::Found;
 
 // The rows from one to another of the sheet that a document number selects: 0 the root, any other the library.
@@ -32,14 +32,11 @@ pub fn rows_of<'a>(
 fn rows_between(sheet: &[u32], from: usize, to: usize) -> &[u32]
     ensures { result.now ≡ part_of sheet.now from to }
 {
-    if from <= to {
-        if to <= sheet.len() / 8 {
-            let a = 8 * from;
-            let e = 8 * to;
-            return &sheet[a..e];
-        }
+    if from <= to && to <= sheet.len() / 8 {
+        &sheet[8 * from..8 * to]
+    } else {
+        &[]
     }
-    &sheet[..0]
 }
 
 // The first row from a row on that stands in no prototype.
@@ -47,17 +44,13 @@ fn proto_end(sheet: &[u32], from: usize) -> usize
     ensures { ProtoEnd (rows sheet.now) from result }
 {
     let count = sheet.len() / 8;
-    let mut at = from;
-    while at < count {
+    for at in from..count {
         let kind = row::row_at(sheet, at).kind;
-        if kind != 5 {
-            if !part::passes(Part::Statements, kind) {
-                return at;
-            }
+        if kind != Part::Statements.kind() && !Part::Statements.passes(kind) {
+            return at;
         }
-        at += 1;
     }
-    at
+    count.max(from)
 }
 
 // The rows of the prototype that stands at a row.

@@ -12,7 +12,7 @@ use Rattle.sheet_check.specs.declared.grammar.Form.{Form}
 use Rattle.sheet_check.specs.declared.grammar.State.{State}
 use Rattle.sheet_check.specs.declared.grammar.Role.{Role}
 use Rattle.sheet_check.specs.declared.grammar.Role.TheVariants.{Starts, Opens, Inner, Files, Owed, Never}
-use Rattle.sheet_check.specs.declared.grammar.Next.TheVariants.{Go, No}
+use Rattle.std.specs.Prelude.{Some, None}
 use Rattle.ast.specs.Choice.{choose}
 use Rattle.sheet_shape.specs.Shape.{shape_fits}
 use Rattle.sheet_check.specs.Grammar.{takes_marks, role_of, stands_in, comes_in, after_inner, by_role, moves, allowed, go_if, fits, has_ended}
@@ -31,24 +31,24 @@ pub as_kind : (r : Row) (k : ℕ) → r.kind ≡ k → r ≡ row k r.a r.b r.c r
 as_kind r k h i = record { kind = h i; a = r.a; b = r.b; c = r.c; d = r.d; e = r.e; f = r.f; g = r.g }
 
 -- a step that is made
-pub made : (b : Bool) (u t : State) → go_if b u ≡ Go t → (b ≡ true) × (u ≡ t)
+pub made : (b : Bool) (u t : State) → go_if b u ≡ Some t → (b ≡ true) × (u ≡ t)
 made true u t h = (refl, go_inj h)
 made false u t h = no_go h
 
 -- a row that fits has its shape, and moves on
-pub moved : (form : Form) (s : State) (r : Row) (l : List Row) → Accepts form s (r ∷ l) → (shape_fits (takes_marks form) r ≡ true) × ((t : State) × (moves form s r ≡ Go t) × Accepts form t l)
+pub moved : (form : Form) (s : State) (r : Row) (l : List Row) → Accepts form s (r ∷ l) → (shape_fits (takes_marks form) r ≡ true) × ((t : State) × (moves form s r ≡ Some t) × Accepts form t l)
 unfolding fits
 moved form s r l k =
-    let x = go_r (allowed form s r) (choose (shape_fits (takes_marks form) r) (moves form s r) No) k.0 k.1 in
+    let x = go_r (allowed form s r) (choose (shape_fits (takes_marks form) r) (moves form s r) None) k.0 k.1 in
     (go_l (shape_fits (takes_marks form) r) (moves form s r) k.0 x, (k.0, go_r (shape_fits (takes_marks form) r) (moves form s r) k.0 x, k.2))
 
 -- with nothing owed it moves by its role
-pub by_role_lem : (form : Form) (p la : ℕ) (r : Row) (l : List Row) (role : Role) → role_of r.kind ≡ role → Accepts form (bare p la) (r ∷ l) → (shape_fits (takes_marks form) r ≡ true) × ((t : State) × (by_role form (bare p la) r role ≡ Go t) × Accepts form t l)
+pub by_role_lem : (form : Form) (p la : ℕ) (r : Row) (l : List Row) (role : Role) → role_of r.kind ≡ role → Accepts form (bare p la) (r ∷ l) → (shape_fits (takes_marks form) r ≡ true) × ((t : State) × (by_role form (bare p la) r role ≡ Some t) × Accepts form t l)
 unfolding moves
 by_role_lem form p la r l role h k = let x = moved form (bare p la) r l k in (x.0, (x.1.0, ap (by_role form (bare p la) r) (sym h) ∙ x.1.1, x.1.2))
 
 -- where a step is made by a test, the test holds, and the rest fits after it
-pub tested : (form : Form) (b : Bool) (u : State) (l : List Row) → (t : State) × (go_if b u ≡ Go t) × Accepts form t l → (b ≡ true) × Accepts form u l
+pub tested : (form : Form) (b : Bool) (u : State) (l : List Row) → (t : State) × (go_if b u ≡ Some t) × Accepts form t l → (b ≡ true) × Accepts form u l
 tested form b u l w = let x = made b u w.0 w.1 in (x.0, subst (λ (t : State). Accepts form t l) (sym x.1) w.2)
 
 -- ---- rows that are owed

@@ -12,8 +12,7 @@ use Rattle.sheet_rows.specs.declared.row.Row.{Row}
 use Rattle.sheet_check.specs.declared.grammar.Form.{Form}
 use Rattle.sheet_check.specs.declared.grammar.Form.TheVariants.{Root, Library, Expanded, Documents, Protos}
 use Rattle.sheet_check.specs.declared.grammar.State.{State}
-use Rattle.sheet_check.specs.declared.grammar.Next.{Next}
-use Rattle.sheet_check.specs.declared.grammar.Next.TheVariants.{Go, No}
+use Rattle.std.specs.Prelude.{Option, Some, None}
 use Rattle.ast.specs.Choice.{choose}
 use Rattle.sheet_shape.specs.Shape.{shape_fits}
 use Rattle.sheet_check.specs.Grammar.{takes_marks, stays_expanded, begins_in, ends_in, allowed, go_if, fits}
@@ -126,14 +125,14 @@ instead {form} o x e f =
 -- ---- one row
 
 -- what lets a row through: its form, its shape and its place
-thrice : (A B C : Bool) (t : State) (x : Next) → x ≡ choose A (choose B (go_if C t) No) No → A ≡ true → (B && C) ≡ true → x ≡ Go t
+thrice : (A B C : Bool) (t : State) (x : Option State) → x ≡ choose A (choose B (go_if C t) None) None → A ≡ true → (B && C) ≡ true → x ≡ Some t
 thrice true true true t x h i j = h
 thrice true true false t x h i j = let z : ◌≡◌ {A = ℕ} 0 1 = cc in absurd (omega arith)
 thrice true false C t x h i j = let z : ◌≡◌ {A = ℕ} 0 1 = cc in absurd (omega arith)
 thrice false B C t x h i j = let z : ◌≡◌ {A = ℕ} 0 1 = cc in absurd (omega arith)
 
 -- where the row is let through, all three did
-taken : (A B C : Bool) (t u : State) (x : Next) → x ≡ choose A (choose B (go_if C t) No) No → x ≡ Go u → (A ≡ true) × ((B && C) ≡ true) × (t ≡ u)
+taken : (A B C : Bool) (t u : State) (x : Option State) → x ≡ choose A (choose B (go_if C t) None) None → x ≡ Some u → (A ≡ true) × ((B && C) ≡ true) × (t ≡ u)
 taken true true true t u x h k = (refl, refl, go_inj (sym h ∙ k))
 taken true true false t u x h k = no_go (sym h ∙ k)
 taken true false C t u x h k = no_go (sym h ∙ k)
@@ -161,7 +160,7 @@ Keeps s r a = (a.kept → stays_expanded s r ≡ true) × (a.given → stays_exp
 
 -- a row that goes on to t by its shape and a place C: asked are those two, and to stay in an expanded document
 abbrev pub GoesOn : Form → State → State → Row → Bool → Type 0
-GoesOn form s t r C = fits form s r ≡ choose (allowed form s r) (choose (shape_fits (takes_marks form) r) (go_if C t) No) No
+GoesOn form s t r C = fits form s r ≡ choose (allowed form s r) (choose (shape_fits (takes_marks form) r) (go_if C t) None) None
 
 -- so it is let through exactly if it is as asked
 pub through : (form : Form) (s t : State) (r : Row) (C : Bool) (a : Asks) → GoesOn form s t r C → (a.range → (shape_fits (takes_marks form) r && C) ≡ true) → (a.given → (shape_fits (takes_marks form) r && C) ≡ true → a.range) → Keeps s r a → Through form s t a (r ∷ [])

@@ -8,7 +8,7 @@ use native.Mathlib.Omega.{arith}
 use lib.ListN.{length}
 use Rattle.sheet_rows.specs.declared.row.Row.{Row}
 use Rattle.sheet_check.specs.declared.grammar.Form.TheVariants.{Root, Library, Expanded}
-use Rattle.sheet_check.specs.declared.Checked.TheVariants.{Fits}
+use Rattle.sheet_check.specs.Checked.{Fits}
 use Rattle.ast.specs.Ast.{Url, ExternProtoDecl, Document, File}
 use Rattle.sheet_rows.specs.Rows.{rows, words}
 use Rattle.sheet_check.specs.Grammar.{checked}

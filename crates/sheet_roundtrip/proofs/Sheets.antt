@@ -8,7 +8,7 @@ use borrow.Author.Tests.{le-leb}
 use Rattle.sheet_rows.specs.declared.row.Row.{Row}
 use Rattle.sheet_check.specs.declared.grammar.Form.{Form}
 use Rattle.sheet_check.specs.declared.grammar.Form.TheVariants.{Library}
-use Rattle.sheet_check.specs.declared.Checked.TheVariants.{Fits}
+use Rattle.sheet_check.specs.Checked.{Fits}
 use Rattle.sheet_check.specs.Grammar.{takes_marks, is_library, starts_in, has_ended, checked}
 use Rattle.sheet_rows.specs.Parse.{document_of, files_of}
 use Rattle.sheet_rows.specs.Print.{document_rows, library_rows}

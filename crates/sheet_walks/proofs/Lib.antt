@@ -1,2 +1,4 @@
 pub mod WalkLaws
 pub mod BareLaws
+pub mod ElementsLaws
+pub mod OverLaws

@@ -1,5 +1,6 @@
 -- What a walk over a part of a sheet finds.
 use Rattle.std.specs.Prelude.{◌≡◌, Bool, true, false, List, [], ◌∷◌, ℕ, suc, ◌+◌, ◌≤◌, ◌<◌, length, get_or, drop}
+use Rattle.std.specs.Prelude as std
 use Rattle.std.proofs.Math.Option.{Option, none, some}
 use Rattle.std.proofs.Math.ListN.{get_elem?}
 use Rattle.sheet_rows.specs.declared.row.Row.{Row}
@@ -20,6 +21,11 @@ pub record Stands (t : Part) (R : List Row) (p q : ℕ) : Type 0 where
 abbrev pub Sought : Part → List Row → ℕ → Found → Type 0
 Sought t R p (At q) = Stands t R p q
 Sought t R p Nothing = elements t (drop p R) ≡ []
+
+-- one element after another: from row p on the next stands at q, and the walk goes on after it; or there is none
+abbrev pub Steps : Part → List Row → ℕ → std.Option ℕ → Part → List Row → ℕ → Type 0
+Steps t R p (std.Some q) t' R' p' = Stands t R p q × (p' ≡ q + 1) × (t' ≡ t) × (R' ≡ R)
+Steps t R p std.None t' R' p' = (elements t (drop p R) ≡ []) × (p' ≡ p) × (t' ≡ t) × (R' ≡ R)
 
 -- from row p on stand no interfaces, no statements and no body order of a node
 pub record Bare (R : List Row) (p : ℕ) : Type 0 where

@@ -1,11 +1,12 @@
 // Walks over a part of a sheet: its first element from a row on, its n-th, the n-th of what stands at a row.
 ghost use Rattle.std.specs.Prelude.{◌≡◌, length, drop};
+ghost use Rattle.std.specs.Iterator.{at_most};
 ghost use Rattle.sheet_rows.specs.Rows.{rows};
 ghost use Rattle.sheet_rows.specs.Parse.{elements};
-ghost use Rattle.sheet_walks.specs.Walk.{Sought, Bared, Nth, Child};
+ghost use Rattle.sheet_walks.specs.Walk.{Sought, Bared, Steps, Nth, Child};
 
 use sheet_rows::part::Part;
-use sheet_rows::{part, row};
+use sheet_rows::row;
 
 #[derive(Clone, Copy)]
 pub enum Found {
@@ -17,20 +18,53 @@ pub enum Found {
 pub fn seek(sheet: &[u32], part: Part, from: usize) -> Found
     ensures { Sought part (rows sheet.now) from result }
 {
-    let count = sheet.len() / 8;
-    let kind = part::kind_of(part);
-    let mut at = from;
-    while at < count {
+    let kind = part.kind();
+    for at in from..sheet.len() / 8 {
         let r = row::row_at(sheet, at);
         if r.kind == kind {
             return Found::At(at);
         }
-        if !part::passes(part, r.kind) {
+        if !part.passes(r.kind) {
             return Found::Nothing;
         }
-        at += 1;
     }
     Found::Nothing
+}
+
+// The elements of a part from a row on, one after another, each by its row.
+#[derive(Drop)]
+pub struct PartElements<'a> {
+    pub sheet: &'a [u32],
+    pub part: Part,
+    pub next: usize,
+}
+
+pub fn elements(sheet: &[u32], part: Part, from: usize) -> PartElements<'_>
+    ensures sheet { result.sheet.now ≡ sheet.now }
+    ensures part { result.part ≡ part }
+    ensures next { result.next ≡ from }
+{
+    PartElements {
+        sheet,
+        part,
+        next: from,
+    }
+}
+
+impl<'a> Iterator for PartElements<'a> {
+    type Item = usize;
+
+    ghost next_gives = { λ s r t. Steps s.part (rows s.sheet.now) s.next r t.part (rows t.sheet.now) t.next };
+
+    ghost remaining = { λ s. at_most (length (elements s.part (drop s.next (rows s.sheet.now)))) };
+
+    fn next(&mut self) -> Option<usize> {
+        let Found::At(q) = seek(self.sheet, self.part, self.next) else {
+            return None;
+        };
+        self.next = q + 1;
+        Some(q)
+    }
 }
 
 // Whether a node has no interfaces, no statements and no body order, from the row after its own on. An instance is not
@@ -38,17 +72,14 @@ pub fn seek(sheet: &[u32], part: Part, from: usize) -> Found
 pub fn bare(sheet: &[u32], from: usize) -> bool
     ensures { Bared (rows sheet.now) from result }
 {
-    let count = sheet.len() / 8;
-    let mut at = from;
-    while at < count {
+    for at in from..sheet.len() / 8 {
         let kind = row::row_at(sheet, at).kind;
-        if !part::passes(Part::Interfaces, kind) {
+        if !Part::Interfaces.passes(kind) {
             if kind < 4 {
                 return true;
             }
             return 6 < kind;
         }
-        at += 1;
     }
     true
 }
@@ -58,13 +89,11 @@ pub fn nth(sheet: &[u32], part: Part, from: usize, n: u32) -> Found
     ensures { Nth part (rows sheet.now) from n result }
 {
     let mut at = from;
-    let mut left = n;
-    while 0 < left {
+    for skipped in 0..n {
         let Found::At(q) = seek(sheet, part, at) else {
             return Found::Nothing;
         };
         at = q + 1;
-        left -= 1;
     }
     seek(sheet, part, at)
 }
@@ -73,15 +102,7 @@ pub fn nth(sheet: &[u32], part: Part, from: usize, n: u32) -> Found
 pub fn count(sheet: &[u32], part: Part, from: usize) -> usize
     ensures { result ≡ length (elements part (drop from (rows sheet.now))) }
 {
-    let mut n = 0;
-    let mut at = from;
-    loop {
-        let Found::At(q) = seek(sheet, part, at) else {
-            return n;
-        };
-        at = q + 1;
-        n += 1;
-    }
+    elements(sheet, part, from).count()
 }
 
 // The n-th element of a part of what stands at a row: a document's node, a prototype's interface.

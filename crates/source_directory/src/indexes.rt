@@ -89,10 +89,8 @@ pub fn index_all<'a>(
 {
     let count = 3 * (wide(dir[COUNT]) + 1);
     let mut place = at;
-    let mut k = 0;
-    while k < count {
+    for k in 0..count {
         place = index_one(root, library, dir, work, k / 3, k % 3, place, end);
-        k += 1;
     }
     place
 }

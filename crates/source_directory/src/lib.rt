@@ -66,12 +66,10 @@ pub fn store(library: &[u32], table: Table, dir: &mut [u32])
     dir[0] = 0;
     dir[ROWS] = 0;
     dir[COUNT] = table.count as u32;
-    let mut j = 0;
-    while j < 64 {
+    for j in 0..64 {
         let slot = j + 1;
         dir[slot] = table.files[j];
         dir[ROWS + slot] = row_word(library, table.rows[j]);
         dir[BASES + j] = table.bases[j];
-        j += 1;
     }
 }

@@ -1,25 +1,34 @@
 -- What a node is an instance of, by its origin.
-use mathlib.Core.Path.{◌≡◌, refl}
+use mathlib.Core.Path.{◌≡◌, refl, subst}
 use mathlib.Core.List.{List}
 use Prim.Native.Nat.{ℕ, zero, suc}
 use Rattle.ast.specs.Ast.{Document, File}
 use Rattle.ast.specs.Choice.{map_o}
 use Rattle.pick_definition.specs.Picks.{prototype_of, pick_of, prototype_in}
 use Rattle.source_lookup.specs.declared.instance.Target.{Target}
-use Rattle.source_lookup.specs.declared.instance.Target.TheVariants.{Plain, Of}
+use Rattle.source_lookup.specs.declared.instance.Taken.{Taken}
+use Rattle.std.specs.Prelude.{Option as Maybe, Some, None}
 use Rattle.source_directory.specs.Directory.{number_of, Slot}
-use Rattle.source_lookup.specs.Instance.{origin_from, Targeted}
+use Rattle.source_lookup.specs.Instance.{origin_from, Targeted, target_in}
 
 module _ (D : Document) (F : List File) (dir : List ℕ) (s : ℕ) (h : Slot dir s) (id : ℕ) where
-  pub instance_proto : (origin : ℕ) → origin ≡ 1 → Targeted dir (prototype_in D F (number_of dir s) (origin_from origin id)) (Of s (record { 0 = id }))
+  pub instance_proto : (origin : ℕ) → origin ≡ 1 → Targeted dir (prototype_in D F (number_of dir s) (origin_from origin id)) (Some (record { slot = s; proto = record { 0 = id } }))
   unfolding prototype_in
   instance_proto origin e = record { is = rw e; valid = h }
 
-  pub instance_extern : (origin : ℕ) (x : Target) → origin ≡ 2 → Targeted dir (map_o prototype_of (pick_of D F (number_of dir s) id)) x → Targeted dir (prototype_in D F (number_of dir s) (origin_from origin id)) x
+  instance_extern : (origin : ℕ) (x : Maybe Target) → origin ≡ 2 → Targeted dir (map_o prototype_of (pick_of D F (number_of dir s) id)) x → Targeted dir (prototype_in D F (number_of dir s) (origin_from origin id)) x
   unfolding prototype_in
   instance_extern origin x e t = rw e t
 
-  pub instance_plain : (origin : ℕ) → (origin ≡ 1 → ⊥) → (origin ≡ 2 → ⊥) → Targeted dir (prototype_in D F (number_of dir s) (origin_from origin id)) Plain
+  -- by the pick of an extern, or by none
+  module _ (origin : ℕ) (e : origin ≡ 2) {t : Maybe Taken} (g : Targeted dir (map_o prototype_of (pick_of D F (number_of dir s) id)) (target_in t)) where
+    pub instance_none : t ≡ None → Targeted dir (prototype_in D F (number_of dir s) (origin_from origin id)) None
+    instance_none z = instance_extern origin None e (subst (λ (y : Maybe Taken). Targeted dir (map_o prototype_of (pick_of D F (number_of dir s) id)) (target_in y)) z g)
+
+    pub instance_some : {x : Taken} → t ≡ Some x → Targeted dir (prototype_in D F (number_of dir s) (origin_from origin id)) (Some x.target)
+    instance_some {x} z = instance_extern origin (Some x.target) e (subst (λ (y : Maybe Taken). Targeted dir (map_o prototype_of (pick_of D F (number_of dir s) id)) (target_in y)) z g)
+
+  pub instance_plain : (origin : ℕ) → (origin ≡ 1 → ⊥) → (origin ≡ 2 → ⊥) → Targeted dir (prototype_in D F (number_of dir s) (origin_from origin id)) None
   unfolding prototype_in
   instance_plain zero a b = record { is = refl; valid = tt }
   instance_plain (suc zero) a b = absurd (a refl)

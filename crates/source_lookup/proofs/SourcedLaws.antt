@@ -1,9 +1,10 @@
 -- What the lookups rest on: that it stays where the words of the region do.
 use mathlib.Core.Path.{◌≡◌, sym, ap, ◌∙◌}
 use mathlib.Core.List.{List}
-use Prim.Native.Nat.{ℕ, ◌+◌, ◌-◌, ◌*◌, ◌≤◌, ◌<◌}
+use Prim.Native.Nat.{ℕ, ◌+◌, ◌*◌, ◌≤◌, ◌<◌}
 use native.Mathlib.Omega.{arith}
-use lib.ListN.{length, get_or, take, drop}
+use lib.ListN.{length, get_or, take, drop, length-drop}
+use lib.Seq.{length-take-le, get_or-take, get_or-drop}
 use Rattle.sheet_rows.specs.Rows.{rows}
 use Rattle.sheet_rows.proofs.RowLaws.{rows_length}
 use Rattle.sheet_walks.specs.declared.walk.Found.{Found}
@@ -13,7 +14,7 @@ use Rattle.source_directory.specs.Directory.{number_of, row_of, stride_of, from_
 use Rattle.source_names.specs.Names.{LastField, NameTable, NodeTabled, table_sheet}
 use Rattle.source_lookup.specs.Sourced.{PickAt, SlotCached, Cached, Sourced, Region}
 use Rattle.source_names.proofs.NameLaws.{sheet_small, listed_on}
-use Rattle.source_directory.proofs.GroupLaws.{held_filled, held_on}
+use Rattle.source_directory.proofs.GroupLaws.{held_on}
 
 -- the picks of a slot stay where their words do
 slot_cached_on : {root library dir w w' : List ℕ} {lo hi u : ℕ} → SlotCached root library dir w lo hi u → ((k : ℕ) → lo ≤ k → k < hi → get_or w' k 0 ≡ get_or w k 0) → SlotCached root library dir w' lo hi u
@@ -76,8 +77,20 @@ module _ {root library dir w : List ℕ} (s : Sourced root library dir w) where
     pub place_within : index_place dir u g ≤ length w
     place_within = omega (arith, (s.held u g h x).upto, s.cache.upto, s.within)
 
-    pub filled_at : Filled (group_part g) (rows (sheet_of root library (number_of dir u))) (row_of dir u + 1) (stride_of dir) (take (length w - index_place dir u g) (drop (index_place dir u g) w)) (filled_of dir u g)
-    filled_at = held_filled (s.held u g h x) (omega (arith, s.cache.upto, s.within))
+    module _ {m : ℕ} (e : m ≡ filled_of dir u g) where
+      abbrev slots : List ℕ
+      slots = take m (drop (index_place dir u g) w)
+
+      slots_long : length slots ≡ m
+      slots_long = length-take-le m (drop (index_place dir u g) w) (omega (arith, length-drop (index_place dir u g) w, (s.held u g h x).upto, s.cache.upto, s.within))
+
+      pub filled_at : Filled (group_part g) (rows (sheet_of root library (number_of dir u))) (row_of dir u + 1) (stride_of dir) slots (length slots)
+      filled_at = record {
+        room = omega arith;
+        slot = λ j i.
+            let k : j < m = omega (arith, slots_long) in
+            rw (get_or-take m (drop (index_place dir u g) w) j 0 k, get_or-drop (index_place dir u g) w j 0) ((s.held u g h x).slot j (omega (arith, e)));
+      }
 
 -- ---- the last field of a name
 

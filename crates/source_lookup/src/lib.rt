@@ -23,116 +23,84 @@ use sheet_walks::walk::Found;
 use source_directory;
 use words_lent::wide;
 
-// Document::node, of the document of a slot.
-pub fn node<'a>(
-    root: &'a [u32],
-    library: &'a [u32],
-    dir: &[u32],
-    work: &[u32],
-    slot: u32,
-    id: NodeId,
-) -> Found
-    requires { Sourced root.now library.now dir.now work.now × Slot dir.now slot }
-    ensures { Located node_of (node_at (root_and_files root.now library.now) (number_of dir.now slot) id.0) (rows (sheet_of root.now library.now (number_of dir.now slot))) result }
-{
-    group::locate(root, library, dir, work, slot, 0, id.0)
+// What an expansion reads: the two sheets, and the directory of their documents.
+#[derive(Clone, Copy)]
+pub struct Sources<'a> {
+    pub root: &'a [u32],
+    pub library: &'a [u32],
+    pub dir: &'a [u32],
 }
 
-// Document::proto.
-pub fn proto<'a>(
-    root: &'a [u32],
-    library: &'a [u32],
-    dir: &[u32],
-    work: &[u32],
-    slot: u32,
-    id: ProtoId,
-) -> Found
-    requires { Sourced root.now library.now dir.now work.now × Slot dir.now slot }
-    ensures { Located proto_of (proto_at (root_and_files root.now library.now) (number_of dir.now slot) id.0) (rows (sheet_of root.now library.now (number_of dir.now slot))) result }
-{
-    group::locate(root, library, dir, work, slot, 1, id.0)
-}
+impl Sources<'_> {
+    // Document::node, of the document of a slot.
+    pub fn node(&self, work: &[u32], slot: u32, id: NodeId) -> Found
+        requires { Sourced self.now.root.now self.now.library.now self.now.dir.now work.now × Slot self.now.dir.now slot }
+        ensures { Located node_of (node_at (root_and_files self.now.root.now self.now.library.now) (number_of self.now.dir.now slot) id.0) (rows (sheet_of self.now.root.now self.now.library.now (number_of self.now.dir.now slot))) result }
+    {
+        self.locate(work, slot, 0, id.0)
+    }
 
-// Document::extern_proto.
-pub fn extern_proto<'a>(
-    root: &'a [u32],
-    library: &'a [u32],
-    dir: &[u32],
-    work: &[u32],
-    slot: u32,
-    id: ExternProtoId,
-) -> Found
-    requires { Sourced root.now library.now dir.now work.now × Slot dir.now slot }
-    ensures { Located extern_proto_of (extern_proto_at (root_and_files root.now library.now) (number_of dir.now slot) id.0) (rows (sheet_of root.now library.now (number_of dir.now slot))) result }
-{
-    group::locate(root, library, dir, work, slot, 2, id.0)
-}
+    // Document::proto.
+    pub fn proto(&self, work: &[u32], slot: u32, id: ProtoId) -> Found
+        requires { Sourced self.now.root.now self.now.library.now self.now.dir.now work.now × Slot self.now.dir.now slot }
+        ensures { Located proto_of (proto_at (root_and_files self.now.root.now self.now.library.now) (number_of self.now.dir.now slot) id.0) (rows (sheet_of self.now.root.now self.now.library.now (number_of self.now.dir.now slot))) result }
+    {
+        self.locate(work, slot, 1, id.0)
+    }
 
-// What a node of a slot's document is an instance of, by its origin: 0 Builtin, 1 Proto, 2 ExternProto, 3 Unknown.
-pub fn target<'a>(
-    root: &'a [u32],
-    library: &'a [u32],
-    dir: &[u32],
-    work: &[u32],
-    slot: u32,
-    origin: u32,
-    id: u32,
-) -> Target
-    requires { Sourced root.now library.now dir.now work.now × Slot dir.now slot }
-    ensures { Targeted dir.now (prototype_in (document_of (rows root.now)) (files_of (rows library.now)) (number_of dir.now slot) (origin_from origin id)) result }
-{
-    if origin == 1 {
-        return Target::Of {
-            slot,
-            proto: ProtoId(id),
+    // Document::extern_proto.
+    pub fn extern_proto(&self, work: &[u32], slot: u32, id: ExternProtoId) -> Found
+        requires { Sourced self.now.root.now self.now.library.now self.now.dir.now work.now × Slot self.now.dir.now slot }
+        ensures { Located extern_proto_of (extern_proto_at (root_and_files self.now.root.now self.now.library.now) (number_of self.now.dir.now slot) id.0) (rows (sheet_of self.now.root.now self.now.library.now (number_of self.now.dir.now slot))) result }
+    {
+        self.locate(work, slot, 2, id.0)
+    }
+
+    // What a node of a slot's document is an instance of, by its origin: 0 Builtin, 1 Proto, 2 ExternProto, 3 Unknown.
+    pub fn target(&self, work: &[u32], slot: u32, origin: u32, id: u32) -> Option<Target>
+        requires { Sourced self.now.root.now self.now.library.now self.now.dir.now work.now × Slot self.now.dir.now slot }
+        ensures { Targeted self.now.dir.now (prototype_in (document_of (rows self.now.root.now)) (files_of (rows self.now.library.now)) (number_of self.now.dir.now slot) (origin_from origin id)) result }
+    {
+        if origin == 1 {
+            return Some(Target {
+                slot,
+                proto: ProtoId(id),
+            });
+        }
+        if origin == 2 {
+            let picked = self.picked(work, slot, ExternProtoId(id))?;
+            return Some(picked.target);
+        }
+        None
+    }
+
+    // The mark of the url that the pick of an extern of a slot's document took: its index with one added, 0 where there is no pick.
+    pub fn mark(&self, work: &[u32], slot: u32, id: ExternProtoId) -> u32
+        requires { Sourced self.now.root.now self.now.library.now self.now.dir.now work.now × Slot self.now.dir.now slot }
+        ensures { result ≡ mark_of (url_taken (pick_of (document_of (rows self.now.root.now)) (files_of (rows self.now.library.now)) (number_of self.now.dir.now slot) id.0)) }
+    {
+        let Some(picked) = self.picked(work, slot, id) else {
+            return 0;
         };
+        picked.mark
     }
-    if origin == 2 {
-        let picked = instance::picked(root, library, dir, work, slot, ExternProtoId(id));
-        return picked.target;
-    }
-    Target::Plain
-}
 
-// The mark of the url that the pick of an extern of a slot's document took: its index with one added, 0 where there is no pick.
-pub fn mark<'a>(
-    root: &'a [u32],
-    library: &'a [u32],
-    dir: &[u32],
-    work: &[u32],
-    slot: u32,
-    id: ExternProtoId,
-) -> u32
-    requires { Sourced root.now library.now dir.now work.now × Slot dir.now slot }
-    ensures { result ≡ mark_of (url_taken (pick_of (document_of (rows root.now)) (files_of (rows library.now)) (number_of dir.now slot) id.0)) }
-{
-    let picked = instance::picked(root, library, dir, work, slot, id);
-    picked.mark
-}
-
-// The row of the last field of a name, of the node that stands at a row of a slot's document.
-pub fn last_field<'a>(
-    root: &'a [u32],
-    library: &'a [u32],
-    dir: &[u32],
-    work: &[u32],
-    slot: u32,
-    node: usize,
-    name: u32,
-) -> Found
-    requires { Sourced root.now library.now dir.now work.now × Slot dir.now slot × (node < length (rows (sheet_of root.now library.now (number_of dir.now slot)))) }
-    ensures { LastField name (rows (sheet_of root.now library.now (number_of dir.now slot))) node result }
-{
-    let number = source_directory::number(dir, slot);
-    let sheet = sheet_lookup::rows::select(root, library, number);
-    let i = source_names::place_of(root, number, node);
-    if i < wide(dir[source_directory::SPREAD]) {
-        let at = wide(work[wide(dir[source_directory::NAMES]) + i]);
-        if 0 < at {
-            if wide(work[at]) == node {
-                return source_names::named(sheet, work, at + 2, wide(work[at + 1]), node, name);
+    // The row of the last field of a name, of the node that stands at a row of a slot's document.
+    pub fn last_field(&self, work: &[u32], slot: u32, node: usize, name: u32) -> Found
+        requires { Sourced self.now.root.now self.now.library.now self.now.dir.now work.now × Slot self.now.dir.now slot × (node < length (rows (sheet_of self.now.root.now self.now.library.now (number_of self.now.dir.now slot)))) }
+        ensures { LastField name (rows (sheet_of self.now.root.now self.now.library.now (number_of self.now.dir.now slot))) node result }
+    {
+        let number = source_directory::number(self.dir, slot);
+        let sheet = sheet_lookup::rows::select(self.root, self.library, number);
+        let i = source_names::place_of(self.root, number, node);
+        if i < wide(self.dir[source_directory::SPREAD]) {
+            let at = wide(work[wide(self.dir[source_directory::NAMES]) + i]);
+            if 0 < at {
+                if wide(work[at]) == node {
+                    return source_names::named(sheet, work, at + 2, wide(work[at + 1]), node, name);
+                }
             }
         }
+        source_names::walked(sheet, node, name)
     }
-    source_names::walked(sheet, node, name)
 }

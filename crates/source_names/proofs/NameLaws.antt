@@ -18,6 +18,7 @@ use Rattle.sheet_rows.specs.declared.part.Part.TheVariants.{Fields}
 use Rattle.sheet_rows.specs.Rows.{rows, blank}
 use Rattle.sheet_rows.specs.Parse.{elements, field_of, fields_of, node_of}
 use Rattle.sheet_rows.proofs.RowLaws.{row_is, rows_length}
+use Rattle.std.specs.Prelude.{Option as Maybe, Some, None}
 use Rattle.sheet_walks.specs.declared.walk.Found.{Found}
 use Rattle.sheet_walks.specs.declared.walk.Found.TheVariants.{At, Nothing}
 use Rattle.sheet_walks.specs.Walk.{Stands, rows_at, Below}
@@ -99,10 +100,10 @@ module _ {sheet : List ℕ} {n at end : ℕ} {w₀ : List ℕ} where
     last = λ m. rw z (search_start m (rows sheet) n);
   }
 
-  pub fill_end : {p to : ℕ} {w : List ℕ} → Filling sheet n at end p to w₀ w → elements Fields (drop p (rows sheet)) ≡ [] → FieldsListed sheet n at end w₀ w (At to)
+  pub fill_end : {p to : ℕ} {w : List ℕ} → Filling sheet n at end p to w₀ w → elements Fields (drop p (rows sheet)) ≡ [] → FieldsListed sheet n at end w₀ w (Some to)
   fill_end f e = record { stays = f.stays; is = (f.low, f.high, λ m. search_none m (rows sheet) n (f.last m) e) }
 
-  pub fill_full : {p to : ℕ} {w : List ℕ} → Filling sheet n at end p to w₀ w → FieldsListed sheet n at end w₀ w Nothing
+  pub fill_full : {p to : ℕ} {w : List ℕ} → Filling sheet n at end p to w₀ w → FieldsListed sheet n at end w₀ w None
   fill_full f = record { stays = f.stays; is = tt }
 
   module _ {w : List ℕ} {p q to : ℕ} (f : Filling sheet n at end p to w₀ w) (x : Stands Fields (rows sheet) p q) (room : to < end) (long : end ≤ length w) where
@@ -125,7 +126,7 @@ module _ {sheet : List ℕ} {n at end : ℕ} {w₀ : List ℕ} where
       last = λ m. rw (more_is, last_snoc (name_of sheet) m u q Nothing) (step m (ℕ_discrete (name_of sheet q) m));
     }
 
-pub fill_at : {sheet w w' : List ℕ} {n at end next : ℕ} {x : Found} → x ≡ At next → FieldsListed sheet n at end w w' x → FieldsListed sheet n at end w w' (At next)
+pub fill_at : {sheet w w' : List ℕ} {n at end next : ℕ} {x : Maybe ℕ} → x ≡ Some next → FieldsListed sheet n at end w w' x → FieldsListed sheet n at end w w' (Some next)
 fill_at e f = rw e at f
 
 -- ---- what a table tells
@@ -223,7 +224,7 @@ module _ {root library : List ℕ} {free at many place end : ℕ} where
   }
 
   -- words past the tables were written in vain
-  pub grown_vain : {sheet w w' : List ℕ} {n : ℕ} {x : Found} → TablesListed root library w at many place → place + 2 ≤ end → FieldsListed sheet n (place + 2) end w w' x → TablesGrown root library free at many place end place w w'
+  pub grown_vain : {sheet w w' : List ℕ} {n : ℕ} {x : Maybe ℕ} → TablesListed root library w at many place → place + 2 ≤ end → FieldsListed sheet n (place + 2) end w w' x → TablesGrown root library free at many place end place w w'
   grown_vain l h f = record {
     listed = listed_on l (λ k a b. f.stays.below k (omega arith));
     after = omega arith;
@@ -233,7 +234,7 @@ module _ {root library : List ℕ} {free at many place end : ℕ} where
   }
 
   -- the table of a node: its fields' rows are written, sorted, and told
-  module _ {sheet w w₁ p : List ℕ} {n next i : ℕ} (l : TablesListed root library w at many place) (scratch : free ≤ at) (few : i < many) (is_sheet : table_sheet root library i ≡ sheet) (long : end ≤ length w) (f : FieldsListed sheet n (place + 2) end w w₁ (At next)) (s : Sorted (name_of sheet) (place + 2) (take next w₁) p) (half : (next - (place + 2)) / 2 ≤ free) where
+  module _ {sheet w w₁ p : List ℕ} {n next i : ℕ} (l : TablesListed root library w at many place) (scratch : free ≤ at) (few : i < many) (is_sheet : table_sheet root library i ≡ sheet) (long : end ≤ length w) (f : FieldsListed sheet n (place + 2) end w w₁ (Some next)) (s : Sorted (name_of sheet) (place + 2) (take next w₁) p) (half : (next - (place + 2)) / 2 ≤ free) where
     abbrev list : ℕ
     list = place + 2
 

@@ -1,12 +1,12 @@
 -- The last field of a name, of a node; and the tables that tell it of wide nodes: a list of places, one for 16 rows of the
 -- root and then of the library, and at a place the node's row, how many fields it has, and their rows sorted by name.
-use Rattle.std.specs.Prelude.{◌≡◌, List, ℕ, ◌+◌, ◌-◌, ◌≤◌, ◌<◌, ◌/◌, length, get_or, take, drop, leb}
+use Rattle.std.specs.Prelude.{Option as Maybe, Some, None, ◌≡◌, List, ℕ, ◌+◌, ◌-◌, ◌≤◌, ◌<◌, ◌/◌, length, get_or, take, drop, leb}
 use Rattle.ast.specs.Choice.{choose, map_o}
 use Rattle.sheet_rows.specs.declared.row.Row.{Row}
 use Rattle.sheet_rows.specs.Rows.{rows}
 use Rattle.sheet_rows.specs.Parse.{field_of, node_of}
 use Rattle.sheet_walks.specs.declared.walk.Found.{Found}
-use Rattle.sheet_walks.specs.declared.walk.Found.TheVariants.{At, Nothing}
+use Rattle.sheet_walks.specs.declared.walk.Found.TheVariants.{Nothing}
 use Rattle.sheet_walks.specs.Walk.{rows_at, Below}
 use Rattle.sheet_sorted.specs.Sorted.{key, sort_by, last_of}
 use Rattle.expansion_definition.specs.Input.{last_field}
@@ -48,11 +48,11 @@ pub record TablesListed (root library w : List ℕ) (at many hi : ℕ) : Type 0 
   pub table : (i : ℕ) → i < many → 0 < get_or w (at + i) 0 → NodeTabled (table_sheet root library i) w (at + many) hi (get_or w (at + i) 0)
 
 -- the rows of a node's fields have been written, from at up to a place
-abbrev pub FieldsUpto : List ℕ → ℕ → ℕ → ℕ → List ℕ → Found → Type 0
-FieldsUpto sheet n at end w (At p) = (at ≤ p) × (p ≤ end) × FieldRows sheet n (take (p - at) (drop at w))
-FieldsUpto sheet n at end w Nothing = Unit {0}
+abbrev pub FieldsUpto : List ℕ → ℕ → ℕ → ℕ → List ℕ → Maybe ℕ → Type 0
+FieldsUpto sheet n at end w (Some p) = (at ≤ p) × (p ≤ end) × FieldRows sheet n (take (p - at) (drop at w))
+FieldsUpto sheet n at end w None = Unit {0}
 
-pub record FieldsListed (sheet : List ℕ) (n at end : ℕ) (w₀ w : List ℕ) (x : Found) : Type 0 where
+pub record FieldsListed (sheet : List ℕ) (n at end : ℕ) (w₀ w : List ℕ) (x : Maybe ℕ) : Type 0 where
   pub stays : Outside at end w₀ w
   pub is : FieldsUpto sheet n at end w x
 

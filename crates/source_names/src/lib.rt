@@ -9,7 +9,8 @@ ghost use Rattle.source_names.specs.Names.{LastField, NameTable, table_sheet, Ta
 
 use sheet_lookup::rows;
 use sheet_rows::part::Part;
-use sheet_rows::{part, row};
+use sheet_rows::row;
+use sheet_sorted::Column;
 use sheet_walks::walk;
 use sheet_walks::walk::Found;
 use words_lent::wide;
@@ -23,16 +24,12 @@ pub fn walked(sheet: &[u32], node: usize, name: u32) -> Found
     ensures { LastField name (rows sheet.now) node result }
 {
     let mut best = Found::Nothing;
-    let mut at = node + 1;
-    loop {
-        let Found::At(q) = walk::seek(sheet, Part::Fields, at) else {
-            return best;
-        };
+    for q in walk::elements(sheet, Part::Fields, node + 1) {
         if row::row_at(sheet, q).a == name {
             best = Found::At(q);
         }
-        at = q + 1;
     }
+    best
 }
 
 // By the node's table, of so many fields, whose rows stand from a place on.
@@ -41,7 +38,11 @@ pub fn named(sheet: &[u32], work: &[u32], at: usize, count: usize, node: usize, 
     ensures { LastField name (rows sheet.now) node result }
 {
     let end = at + count;
-    sheet_sorted::last(sheet, NAME, &work[at..end], name)
+    let names = Column {
+        sheet,
+        number: NAME,
+    };
+    names.last(&work[at..end], name)
 }
 
 // The place in the list for a node of the document of a number.
@@ -60,38 +61,30 @@ pub fn place_of(root: &[u32], number: u32, node: usize) -> usize
 fn narrow(sheet: &[u32], node: usize) -> bool
     requires { node < length (rows sheet.now) }
 {
-    let kind = part::kind_of(Part::Fields);
-    let mut i = 1;
-    while i <= 16 {
+    let kind = Part::Fields.kind();
+    for i in 1..=16 {
         let k = row::row_at(sheet, node + i).kind;
-        if k != kind {
-            if !part::passes(Part::Fields, k) {
-                return true;
-            }
+        if k != kind && !Part::Fields.passes(k) {
+            return true;
         }
-        i += 1;
     }
     false
 }
 
-// Writes the rows of a node's fields to the words from a place on; the place after them, nothing where there is no room.
-fn fill(sheet: &[u32], node: usize, work: &mut [u32], at: usize, end: usize) -> Found
+// Writes the rows of a node's fields to the words from a place on; the place after them, none where there is no room.
+fn fill(sheet: &[u32], node: usize, work: &mut [u32], at: usize, end: usize) -> Option<usize>
     requires { (node < length (rows sheet.now)) × (length sheet.now ≤ 8 * 1048576) × (at ≤ end) × (end ≤ length work.old) }
     ensures { FieldsListed sheet.now node at end work.old work.new result }
 {
     let mut to = at;
-    let mut from = node + 1;
-    loop {
-        let Found::At(q) = walk::seek(sheet, Part::Fields, from) else {
-            return Found::At(to);
-        };
+    for q in walk::elements(sheet, Part::Fields, node + 1) {
         if end <= to {
-            return Found::Nothing;
+            return None;
         }
         work[to] = q as u32;
         to += 1;
-        from = q + 1;
     }
+    Some(to)
 }
 
 // Writes the table of a node of the document of a number to the words from place on, if it is an instance of many rows and
@@ -127,14 +120,18 @@ fn add<'a>(
         return place;
     }
     let list = place + 2;
-    let Found::At(next) = fill(sheet, node, work, list, end) else {
+    let Some(next) = fill(sheet, node, work, list, end) else {
         return place;
     };
     let count = next - list;
     if free < count / 2 {
         return place;
     }
-    sheet_sorted::sort(sheet, NAME, &mut work[..next], list);
+    let names = Column {
+        sheet,
+        number: NAME,
+    };
+    names.sort(&mut work[..next], list);
     work[place] = node as u32;
     work[place + 1] = count as u32;
     work[at + i] = place as u32;
@@ -160,12 +157,8 @@ pub fn build<'a>(
 {
     let sheet = rows::select(root, library, number);
     let mut next = place;
-    let mut from = row + 1;
-    loop {
-        let Found::At(node) = walk::seek(sheet, Part::Nodes, from) else {
-            return next;
-        };
+    for node in walk::elements(sheet, Part::Nodes, row + 1) {
         next = add(root, library, number, node, work, free, at, many, next, end);
-        from = node + 1;
     }
+    next
 }

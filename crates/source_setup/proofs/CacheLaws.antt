@@ -14,7 +14,7 @@ use Rattle.sheet_rows.specs.Parse.{document_of, files_of}
 use Rattle.pick_memo.specs.declared.Memo.{Memo}
 use Rattle.pick_definition.specs.Picks.{Prototype, Pick, pick_of}
 use Rattle.source_lookup.specs.declared.instance.Target.{Target}
-use Rattle.source_lookup.specs.declared.instance.Target.TheVariants.{Plain, Of}
+use Rattle.std.specs.Prelude.{Option as Maybe, Some, None}
 use Rattle.words_lent.specs.Words.{Outside}
 use Rattle.pick_memo.specs.Memo.{MemoSound}
 use Rattle.source_directory.specs.Directory.{size, base_count, picks_place, cache_of, from_of, end_of, number_of, group_of, Slot, Directory, HeldAt}
@@ -31,7 +31,7 @@ use Rattle.source_lookup.proofs.SourcedLaws.{cache_wide, cache_on, sourced_on}
 -- ---- a pick in two words
 
 module _ (w : List ℕ) (at : ℕ) (h : at + 1 < length w) where
-  pub kept_of : (s p m : ℕ) → Packs (Of s (record { 0 = p })) m → PickKept w (set (set w at (m * 65 + s)) (at + 1) p) at (Of s (record { 0 = p })) m
+  pub kept_of : (s p m : ℕ) → Packs (Some (record { slot = s; proto = record { 0 = p } })) m → PickKept w (set (set w at (m * 65 + s)) (at + 1) p) at (Some (record { slot = s; proto = record { 0 = p } })) m
   kept_of s p m k =
       let x = m * 65 + s in
       let w₁ = set w at x in
@@ -45,23 +45,23 @@ module _ (w : List ℕ) (at : ℕ) (h : at + 1 < length w) where
         stays = stays_on at (at + 2) (stays_set {a = at} {b = at + 1} w at x (omega arith) (omega arith)) (stays_set {a = at + 1} {b = at + 2} w₁ (at + 1) p (omega arith) (omega arith)) (omega arith) (omega arith) (omega arith) (omega arith);
       }
 
-  pub kept_plain : {m : ℕ} → m ≡ 0 → PickKept w (set w at 0) at Plain m
+  pub kept_plain : {m : ℕ} → m ≡ 0 → PickKept w (set w at 0) at None m
   kept_plain k =
       let a : get_or (set w at 0) at 0 ≡ 0 = get_or-set_same w at 0 0 (omega arith) in
       record { target = rw a; mark = rw (a, k); stays = stays_set w at 0 (omega arith) (omega arith) }
 
 -- a pick can be said so
-pub packs : {root library dir : List ℕ} {o : Option Pick} (x : Target) {m : ℕ} → Directory root library dir → m ≤ 1048576 → PickedAs dir o x m → Packs x m
-packs {o = none} Plain d h p = p.mark
-packs {o = some q} Plain d h p = let e = p.target.is in let z : ◌≡◌ {A = ℕ} 0 1 = cc in absurd (omega arith)
-packs {o = none} (Of s i) d h p = let e = p.target.is in let z : ◌≡◌ {A = ℕ} 0 1 = cc in absurd (omega arith)
-packs {o = some q} (Of s i) d h p = (omega (arith, p.mark), h, omega (arith, p.target.valid.upto, d.few))
+pub packs : {root library dir : List ℕ} {o : Option Pick} (x : Maybe Target) {m : ℕ} → Directory root library dir → m ≤ 1048576 → PickedAs dir o x m → Packs x m
+packs {o = none} None d h p = p.mark
+packs {o = some q} None d h p = let e = p.target.is in let z : ◌≡◌ {A = ℕ} 0 1 = cc in absurd (omega arith)
+packs {o = none} (Some t) d h p = let e = p.target.is in let z : ◌≡◌ {A = ℕ} 0 1 = cc in absurd (omega arith)
+packs {o = some q} (Some t) d h p = (omega (arith, p.mark), h, omega (arith, p.target.valid.upto, d.few))
 
 -- ---- a pick rests on the directory's first words alone
 
-targeted_on : {dir dir' : List ℕ} {p : Option Prototype} (x : Target) → ((k : ℕ) → k < 195 → get_or dir' k 0 ≡ get_or dir k 0) → base_count dir ≤ 64 → Targeted dir p x → Targeted dir' p x
-targeted_on Plain same few t = record { is = t.is; valid = tt }
-targeted_on (Of u p) same few t = record { is = rw (same u (omega (arith, t.valid.upto))) t.is; valid = slot_on same few t.valid }
+targeted_on : {dir dir' : List ℕ} {p : Option Prototype} (x : Maybe Target) → ((k : ℕ) → k < 195 → get_or dir' k 0 ≡ get_or dir k 0) → base_count dir ≤ 64 → Targeted dir p x → Targeted dir' p x
+targeted_on None same few t = record { is = t.is; valid = tt }
+targeted_on (Some x) same few t = record { is = rw (same x.slot (omega (arith, t.valid.upto))) t.is; valid = slot_on same few t.valid }
 
 pick_on : (root library w : List ℕ) {dir dir' : List ℕ} (u i p : ℕ) → u ≤ 64 → ((k : ℕ) → k < 195 → get_or dir' k 0 ≡ get_or dir k 0) → base_count dir ≤ 64 → PickAt root library dir w u i p → PickAt root library dir' w u i p
 pick_on root library w u i p h same few t =
@@ -115,7 +115,7 @@ module _ {root library dir w₀ : List ℕ} {m₀ : Memo} {s at : ℕ} (b : Cach
     pub lent_within : {lo : ℕ} → lo ≡ from_of dir → lo ≤ length w
     lent_within e = omega (arith, from_upto, b.upto, b.sourced.within, a.stays.long)
 
-    pub add_more : {x : Target} {mark lo hi : ℕ} {m' : Memo} (i : ℕ) (ys w₂ : List ℕ) → next ≡ at + 2 * i → next + 2 ≤ hi → hi ≡ end_of dir → lo ≡ from_of dir → length ys ≡ lo → MemoSound (rows library) ys m' → PickedAs dir (pick_of (document_of (rows root)) (files_of (rows library)) (number_of dir s) i) x mark → PickKept (ys ++ drop lo w) w₂ next x mark → SlotAdded root library dir w₀ w₂ m' s at (next + 2)
+    pub add_more : {x : Maybe Target} {mark lo hi : ℕ} {m' : Memo} (i : ℕ) (ys w₂ : List ℕ) → next ≡ at + 2 * i → next + 2 ≤ hi → hi ≡ end_of dir → lo ≡ from_of dir → length ys ≡ lo → MemoSound (rows library) ys m' → PickedAs dir (pick_of (document_of (rows root)) (files_of (rows library)) (number_of dir s) i) x mark → PickKept (ys ++ drop lo w) w₂ next x mark → SlotAdded root library dir w₀ w₂ m' s at (next + 2)
     add_more {x} {mark} {lo} i ys w₂ is_next h g f e n t k =
         let p = stays_front w ys lo (lent_within f) e in
         record {

@@ -1,5 +1,5 @@
 -- What preparing asks and gives.
-use Rattle.std.specs.Prelude.{◌≡◌, List, ℕ, ◌+◌, ◌*◌, ◌≤◌, ◌<◌, length, get_or, take}
+use Rattle.std.specs.Prelude.{Option as Maybe, ◌≡◌, List, ℕ, ◌+◌, ◌*◌, ◌≤◌, ◌<◌, length, get_or, take}
 use Rattle.sheet_rows.specs.Rows.{rows}
 use Rattle.words_lent.specs.Words.{Outside}
 use Rattle.pick_memo.specs.declared.Memo.{Memo}
@@ -24,7 +24,7 @@ pub record DirectoryWritten (root library w₀ w : List ℕ) (at len : ℕ) (dir
   pub stays : Outside 0 at w₀ w
 
 -- a pick stands at two words
-pub record PickKept (w₀ w : List ℕ) (at : ℕ) (x : Target) (m : ℕ) : Type 0 where
+pub record PickKept (w₀ w : List ℕ) (at : ℕ) (x : Maybe Target) (m : ℕ) : Type 0 where
   pub target : target_at w at ≡ x
   pub mark : mark_at w at ≡ m
   pub stays : Outside at (at + 2) w₀ w

@@ -51,10 +51,8 @@ fn of_all<'a>(
     words_lent::clear(work, at, at + many);
     let count = wide(dir[source_directory::COUNT]);
     let mut place = at + many;
-    let mut slot = 0;
-    while slot <= count {
+    for slot in 0..=count {
         place = of_slot(root, library, dir, slot, work, free, at, many, place, end);
-        slot += 1;
     }
     place
 }

@@ -1,9 +1,10 @@
 -- What is read, by the tests that led to each return.
-use Rattle.std.proofs.Common.{◌≡◌, ℕ, ◌+◌, ◌-◌, ◌*◌, ◌/◌, ◌%◌, ◌<◌, ◌≤◌, Bool, true, false, not, ◌||◌, eqb, ltb, List, ◌++◌, length, take, drop, ap, append-nil, arith, length-drop, take-append-drop, drop_of_length-le, length-take, take_all, take_at, drop_at}
+use Rattle.std.proofs.Common.{Result, Ok, Err, ◌≡◌, ℕ, ◌+◌, ◌-◌, ◌*◌, ◌/◌, ◌%◌, ◌<◌, ◌≤◌, Bool, true, false, not, ◌||◌, eqb, ltb, List, ◌++◌, length, take, drop, ap, append-nil, arith, length-drop, take-append-drop, drop_of_length-le, length-take, take_all, take_at, drop_at}
 use Rattle.ast.specs.Choice.{choose}
 use Rattle.text_lines.specs.Answer.{Answer, accepted, refused}
-use Rattle.text_lines.specs.declared.Read.{Read}
-use Rattle.text_lines.specs.declared.Read.TheVariants.{Rows, WrongLength, BadLine}
+use Rattle.text_lines.specs.declared.ReadError.{ReadError}
+use Rattle.text_lines.specs.declared.ReadError.TheVariants.{WrongLength, BadLine}
+use Rattle.test_cases.specs.declared.frame.FrameError.{FrameError}
 use Rattle.text_lines.specs.Read.{good_lines, words_of, read_lines, read_answer}
 use Rattle.test_cases.specs.Frame.{or_stay, Text, Lines, SheetRead}
 
@@ -45,19 +46,17 @@ module _ (l w v : List ℕ) where
   unfolding read_lines
   words p q h e = by_words (not (eqb (length l % 89) 0) || ltb (length w / 8) n) (ltb m n) n m p q w (words_of n l ++ drop (8 * n) w) v h e
 
-  module _ (r : Read) (e : read_lines l w ≡ (read_answer r, v)) where
-    pub all_good : (k : ℕ) → r ≡ Rows k → Text l w v
+  module _ (r : Result ℕ ReadError) (e : read_lines l w ≡ (read_answer r, v)) where
+    pub all_good : (k : ℕ) → r ≡ Ok k → Text l w v
     all_good k q = let f : read_lines l w ≡ (accepted k, v) = rw q at e in rw (count k f) at f
 
-    pub wrong_length_lem : r ≡ WrongLength → v ≡ w
-    wrong_length_lem q = words 12 0 (omega arith) (rw q at e)
+    pub not_read : (x : ReadError) → r ≡ Err x → v ≡ w
+    not_read WrongLength q = words 12 0 (omega arith) (rw q at e)
+    not_read (BadLine k) q = words 13 k (omega arith) (rw q at e)
 
-    pub bad_line : (k : ℕ) → r ≡ BadLine k → v ≡ w
-    bad_line k q = words 13 k (omega arith) (rw q at e)
-
-pub some_lines : (r : Bool) (k : ℕ) (l w v : List ℕ) → length l ≡ 89 * k → or_stay r (Text l) w v → or_stay r (Lines k) w v
-some_lines true k l w v e h = record { text = l; long = e; read = let q : length l / 89 ≡ k = omega arith in rw q at h }
-some_lines false k l w v e h = h
+pub some_lines : {T : Type 0} (r : Result T FrameError) (k : ℕ) (l w v : List ℕ) → length l ≡ 89 * k → or_stay r (Text l) w v → or_stay r (Lines k) w v
+some_lines (Ok x) k l w v e h = record { text = l; long = e; read = let q : length l / 89 ≡ k = omega arith in rw q at h }
+some_lines (Err x) k l w v e h = h
 
 module _ (kept k : ℕ) (w v : List ℕ) (h : kept ≤ (k + 7) / 8) (room : kept ≤ length w / 8) where
   abbrev a : ℕ
@@ -76,8 +75,8 @@ module _ (kept k : ℕ) (w v : List ℕ) (h : kept ≤ (k + 7) / 8) (room : kept
   front_length : length (take a w) ≡ a
   front_length = simp length-take (omega arith)
 
-  pub some_sheet : (r : Bool) → or_stay r (Lines ((k + 7) / 8 - kept)) (take z rest) v → or_stay r (SheetRead kept k) w (take a w ++ (v ++ drop z rest))
-  some_sheet true s =
+  pub some_sheet : {T : Type 0} (r : Result T FrameError) → or_stay r (Lines ((k + 7) / 8 - kept)) (take z rest) v → or_stay r (SheetRead kept k) w (take a w ++ (v ++ drop z rest))
+  some_sheet (Ok x) s =
       rw (drop_of_length-le rest whole, append-nil v)
       (record {
         within = h;
@@ -85,4 +84,4 @@ module _ (kept k : ℕ) (w v : List ℕ) (h : kept ≤ (k + 7) / 8) (room : kept
         front = take_at (take a w) v a front_length;
         others = rw (drop_at (take a w) v a front_length) (rw (take_all z rest whole) at s);
       })
-  some_sheet false s = rw (s, take-append-drop z rest, take-append-drop a w)
+  some_sheet (Err x) s = rw (s, take-append-drop z rest, take-append-drop a w)

@@ -1,12 +1,10 @@
 -- The numbers of a case's line.
 use Rattle.std.specs.Prelude.{ℕ, List, [], ◌∷◌}
-use Rattle.expander_run.specs.declared.Outcome.{Outcome}
-use Rattle.expander_run.specs.declared.Outcome.TheVariants.{Expanded, Refused}
+use Rattle.expander_run.specs.Calls.{Outcome, numbers_of}
 
 -- refusal, two place numbers, nodes, scopes, charges, rows of out, and the sum over what was lent
 abbrev pub answer_numbers : Outcome → ℕ → List ℕ
-answer_numbers (Expanded nodes scopes charges rows) s = 0 ∷ 0 ∷ 0 ∷ nodes ∷ scopes ∷ charges ∷ rows ∷ s ∷ []
-answer_numbers (Refused number first second) s = number ∷ first ∷ second ∷ 0 ∷ 0 ∷ 0 ∷ 0 ∷ s ∷ []
+answer_numbers o s = let n = numbers_of o in n.refusal ∷ n.first_place ∷ n.second_place ∷ n.nodes ∷ n.scopes ∷ n.charges ∷ n.rows ∷ s ∷ []
 
 -- 99, which is no refusal, and the number of a case that is malformed
 abbrev pub malformed_numbers : ℕ → List ℕ

@@ -1,8 +1,9 @@
--- What a case is read as. No contract can say what stands on standard input: a yes says that some good lines did.
-use Rattle.std.specs.Prelude.{◌≡◌, ℕ, ◌+◌, ◌-◌, ◌*◌, ◌/◌, ◌≤◌, Bool, true, false, List, length, take, drop, slice_index}
+-- What a case is read as. No contract can say what stands on standard input: an Ok says that some good lines did.
+use Rattle.std.specs.Prelude.{◌≡◌, ℕ, ◌+◌, ◌-◌, ◌*◌, ◌/◌, ◌≤◌, Result, Ok, Err, List, length, take, drop, slice_index}
 use Rattle.text_lines.specs.Answer.{accepted}
 use Rattle.text_lines.specs.Read.{read_lines}
 use Rattle.test_cases.specs.declared.frame.Call.{Call}
+use Rattle.test_cases.specs.declared.frame.FrameError.{FrameError}
 
 -- the numbers of a case's two lines: seven of the first, four of the second
 abbrev pub call_read : List ℕ → Call
@@ -21,10 +22,10 @@ call_read w =
       work = slice_index w 11;
     }
 
--- what a yes says of the words before and after; at a no they stay
-abbrev pub or_stay : Bool → (List ℕ → List ℕ → Type 0) → List ℕ → List ℕ → Type 0
-or_stay true P w v = P w v
-or_stay false P w v = v ≡ w
+-- what an Ok says of the words before and after; at an error they stay
+abbrev pub or_stay : {T : Type 0} → Result T FrameError → (List ℕ → List ℕ → Type 0) → List ℕ → List ℕ → Type 0
+or_stay (Ok x) P w v = P w v
+or_stay (Err e) P w v = v ≡ w
 
 -- the lines of a text, all good, by Read lines
 abbrev pub Text : List ℕ → List ℕ → List ℕ → Type 0

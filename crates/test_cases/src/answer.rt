@@ -3,32 +3,30 @@ ghost use Rattle.std.specs.Prelude.{◌≡◌};
 ghost use Rattle.text_lines.specs.Write.{line as line_bytes};
 ghost use Rattle.test_cases.specs.Answer.{answer_numbers, malformed_numbers};
 
-use expander_run::Outcome;
+use expander_run::{Expanded, Numbers, Refusal};
 
 // Refusal, two place numbers, nodes, scopes, charges, rows of out, and the sum.
-fn numbers(outcome: Outcome, sum: u32) -> [u32; 8]
-    ensures { result ≡ answer_numbers outcome sum }
+fn numbers(answer: Result<Expanded, Refusal>, sum: u32) -> [u32; 8]
+    ensures { result ≡ answer_numbers answer sum }
 {
-    match outcome {
-        Outcome::Expanded {
-            nodes,
-            scopes,
-            charges,
-            rows,
-        } => [0, 0, 0, nodes, scopes, charges, rows, sum],
-        Outcome::Refused {
-            number,
-            first,
-            second,
-        } => [number, first, second, 0, 0, 0, 0, sum],
-    }
+    let n = Numbers::of(answer);
+    [
+        n.refusal,
+        n.first_place,
+        n.second_place,
+        n.nodes,
+        n.scopes,
+        n.charges,
+        n.rows,
+        sum,
+    ]
 }
 
 // The line of a case.
-pub fn line(outcome: Outcome, sum: u32) -> [u8; 89]
-    ensures { result ≡ line_bytes (answer_numbers outcome sum) }
+pub fn line(answer: Result<Expanded, Refusal>, sum: u32) -> [u8; 89]
+    ensures { result ≡ line_bytes (answer_numbers answer sum) }
 {
-    let words = numbers(outcome, sum);
+    let words = numbers(answer, sum);
     text_lines::line_of(&words)
 }
 

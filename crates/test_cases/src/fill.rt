@@ -7,10 +7,8 @@ pub fn fill(words: &mut [u32], first: u32, step: u32)
     ensures { (k : ℕ) → k < length words.new → slice_index words.new k ≡ stepped first step k }
 {
     let mut n = first;
-    let mut i = 0;
-    while i < words.len() {
-        words[i] = n;
+    for word in words.iter_mut() {
+        *word = n;
         n = n.wrapping_add(step);
-        i += 1;
     }
 }

@@ -3,7 +3,27 @@ ghost use Rattle.std.specs.Prelude.{◌≡◌};
 ghost use Rattle.test_cases.specs.Frame.{call_read, or_stay, Text, Lines, SheetRead};
 
 use std::io;
-use text_lines::Read;
+use text_lines::{LINE, ReadError};
+
+// The words of a row.
+const WORDS: usize = 8;
+
+// Why a case is malformed.
+#[derive(Clone, Copy, Debug, PartialEq, Eq)]
+pub enum FrameError {
+    // The reader has fewer lines.
+    Ended,
+    // More lines, or rows, than there is room for, or fewer than are kept.
+    WrongLength,
+    // Read lines refuses them.
+    Lines(ReadError),
+}
+
+impl From<ReadError> for FrameError {
+    fn from(error: ReadError) -> FrameError {
+        FrameError::Lines(error)
+    }
+}
 
 // What Expand is called with: the limits, the words of both sheets and of what is lent, and the rows of each sheet that are
 // kept from the cases before.
@@ -40,44 +60,46 @@ pub fn read_head(head: &[u32; 16]) -> Call
     }
 }
 
-// Lines of a reader that fill the text, into the lent words: whether they are there, and all good.
-fn read<R: io::Read>(reader: &mut R, text: &mut [u8], words: &mut [u32]) -> bool
+// Lines of a reader that fill the text, into the lent words.
+fn read<R: io::Read>(reader: &mut R, text: &mut [u8], words: &mut [u32]) -> Result<(), FrameError>
     ensures { or_stay result (Text text.new) words.old words.new }
 {
     if reader.read_exact(text).is_err() {
-        return false;
+        return Err(FrameError::Ended);
     }
-    match text_lines::read_lines(text, words) {
-        Read::Rows(_) => true,
-        Read::WrongLength => false,
-        Read::BadLine(_) => false,
-    }
+    text_lines::read_lines(text, words)?;
+    Ok(())
 }
 
-// The next lines of a reader, into the lent words: whether there are so many, and all good.
-pub fn lines<R: io::Read>(reader: &mut R, count: usize, words: &mut [u32]) -> bool
+// The next lines of a reader, into the lent words.
+pub fn lines<R: io::Read>(reader: &mut R, count: usize, words: &mut [u32]) -> Result<(), FrameError>
     ensures { or_stay result (Lines count) words.old words.new }
 {
     let mut text = [0u8; 11125];
-    if text.len() / 89 < count {
-        return false;
+    if text.len() / LINE < count {
+        return Err(FrameError::WrongLength);
     }
-    let end = 89 * count;
+    let end = LINE * count;
     read(reader, &mut text[..end], words)
 }
 
 // A sheet of so many words: its first rows are kept from the cases before, the others are the next lines. The last one is
 // filled up where the words end within a row.
-pub fn sheet<R: io::Read>(reader: &mut R, kept: u32, length: u32, words: &mut [u32]) -> bool
+pub fn sheet<R: io::Read>(
+    reader: &mut R,
+    kept: u32,
+    length: u32,
+    words: &mut [u32],
+) -> Result<(), FrameError>
     ensures { or_stay result (SheetRead kept length) words.old words.new }
 {
     let from = kept as usize;
     let rows = (length as usize + 7) / 8;
     if rows < from {
-        return false;
+        return Err(FrameError::WrongLength);
     }
-    if words.len() / 8 < from {
-        return false;
+    if words.len() / WORDS < from {
+        return Err(FrameError::WrongLength);
     }
-    lines(reader, rows - from, &mut words[8 * from..])
+    lines(reader, rows - from, &mut words[WORDS * from..])
 }

@@ -1,20 +1,12 @@
--- A turn of the sum: one number less is left.
-use mathlib.Core.Path.{◌≡◌}
-use mathlib.Core.List.{List, []}
-use Prim.Native.Nat.{ℕ, suc, ◌+◌, ◌≤◌, ◌<◌}
-use native.Mathlib.Numerals.{add-one}
-use native.Mathlib.Omega.{arith}
-use lib.ListN.{length, drop, get_or}
-use lib.Seq.{drop-cons, drop-length}
+-- One number more.
+use mathlib.Core.Path.{◌≡◌, refl, sym, ap, ◌∙◌}
+use mathlib.Core.List.{List, [], ◌∷◌, ◌++◌}
+use Prim.Native.Nat.{ℕ}
 use Rattle.test_checksum.specs.Sum.{with, checksum_of}
 
-module _ (words : List ℕ) where
-  -- the sum of what is left
-  abbrev pub left : ℕ → ℕ → ℕ
-  left s i = checksum_of s (drop i words)
+sum_append : (s : ℕ) (a b : List ℕ) → checksum_of s (a ++ b) ≡ checksum_of (checksum_of s a) b
+sum_append s [] b = refl
+sum_append s (n ∷ a) b = sum_append (with s n) a b
 
-  pub turn : (s i : ℕ) → i < length words → left s i ≡ left (with s (get_or words i 0)) (i + 1)
-  turn s i h = rw (add-one i, drop-cons words i 0)
-
-  pub end : (s i : ℕ) → i ≤ length words → length words ≤ i → left s i ≡ s
-  end s i h k = let e : i ≡ length words = omega arith in rw (e, drop-length)
+pub sum_more : (before : ℕ) (l : List ℕ) (s t n : ℕ) → s ≡ checksum_of before l → t ≡ with s n → t ≡ checksum_of before (l ++ (n ∷ []))
+sum_more before l s t n p q = q ∙ ap (λ (k : ℕ). with k n) p ∙ sym (sum_append before l (n ∷ []))

@@ -6,36 +6,22 @@ ghost use Rattle.test_checksum.specs.Sum.{with, checksum_of};
 fn with(total: u32, n: u32) -> u32
     ensures { result ≡ with total n }
 {
-    ((65599 * (total as u64) + (n as u64) + 1) % 4294967291) as u32
-}
-
-fn wide(b: u8) -> u32
-    ensures { result ≡ b }
-{
-    b as u32
+    ((65599 * u64::from(total) + u64::from(n) + 1) % 4294967291) as u32
 }
 
 // The sum of some words after that of what came before them.
 pub fn of_words(before: u32, words: &[u32]) -> u32
     ensures { result ≡ checksum_of before words.now }
 {
-    let mut total = before;
-    let mut i = 0;
-    while i < words.len() {
-        total = with(total, words[i]);
-        i += 1;
-    }
-    total
+    words.iter().fold(before, |total, n| with(total, *n))
 }
 
+// The same of bytes.
+// Kept: a generic function would bound what an element's number is, and be no plainer than this second fold.
 pub fn of_bytes(before: u32, bytes: &[u8]) -> u32
     ensures { result ≡ checksum_of before bytes.now }
 {
-    let mut total = before;
-    let mut i = 0;
-    while i < bytes.len() {
-        total = with(total, wide(bytes[i]));
-        i += 1;
-    }
-    total
+    bytes
+        .iter()
+        .fold(before, |total, b| with(total, u32::from(*b)))
 }

@@ -4,11 +4,11 @@ ghost use Rattle.expander_run.specs.Calls.{numbers_of};
 ghost use Rattle.test_flights.specs.Flights.{accepted_numbers, refused_numbers};
 
 use super::run;
-use expander_run::Outcome;
+use expander_run::{Expanded, Refusal};
 use sheet_rows::row::NONE;
 
 // One instance mentioned twice: 1 body scope.
-pub fn one_instance_twice() -> Outcome
+pub fn one_instance_twice() -> Result<Expanded, Refusal>
     ensures { numbers_of result ≡ accepted_numbers 1 2 10 6 }
 {
     let root = [
@@ -20,7 +20,7 @@ pub fn one_instance_twice() -> Outcome
 }
 
 // Two instances of it: 2.
-pub fn two_instances() -> Outcome
+pub fn two_instances() -> Result<Expanded, Refusal>
     ensures { numbers_of result ≡ accepted_numbers 2 3 15 8 }
 {
     let root = [
@@ -32,7 +32,7 @@ pub fn two_instances() -> Outcome
 }
 
 // A body without Node: 7.
-pub fn body_without_node() -> Outcome
+pub fn body_without_node() -> Result<Expanded, Refusal>
     ensures { numbers_of result ≡ refused_numbers 7 }
 {
     let root = [

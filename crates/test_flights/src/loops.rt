@@ -4,11 +4,11 @@ ghost use Rattle.expander_run.specs.Calls.{numbers_of};
 ghost use Rattle.test_flights.specs.Flights.{accepted_numbers};
 
 use super::run;
-use expander_run::Outcome;
+use expander_run::{Expanded, Refusal};
 use sheet_rows::row::NONE;
 
 // Instance I, its body one plain node, whose given field holds plain P, whose child is I: from I 3 nodes, 2 body scopes.
-pub fn from_the_instance() -> Outcome
+pub fn from_the_instance() -> Result<Expanded, Refusal>
     ensures { numbers_of result ≡ accepted_numbers 3 3 22 10 }
 {
     let root = [
@@ -21,7 +21,7 @@ pub fn from_the_instance() -> Outcome
 }
 
 // From P 2 nodes, 1 body scope.
-pub fn from_the_plain_node() -> Outcome
+pub fn from_the_plain_node() -> Result<Expanded, Refusal>
     ensures { numbers_of result ≡ accepted_numbers 2 2 15 8 }
 {
     let root = [

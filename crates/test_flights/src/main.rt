@@ -9,29 +9,27 @@ ghost use Rattle.std.specs.Prelude.{◌≡◌};
 ghost use Rattle.expander_run.specs.Calls.{numbers_of};
 ghost use Rattle.test_flights.specs.Flights.{number_line};
 
-use expander_run::Outcome;
+use expander_run::{Expanded, Numbers, Refusal};
 
 // The numbers of an answer, and a 0.
-fn line(outcome: Outcome) -> [u32; 8]
-    ensures { result ≡ number_line (numbers_of outcome) }
+fn line(answer: Result<Expanded, Refusal>) -> [u32; 8]
+    ensures { result ≡ number_line (numbers_of answer) }
 {
-    match outcome {
-        Outcome::Expanded {
-            nodes,
-            scopes,
-            charges,
-            rows,
-        } => [0, 0, 0, nodes, scopes, charges, rows, 0],
-        Outcome::Refused {
-            number,
-            first,
-            second,
-        } => [number, first, second, 0, 0, 0, 0, 0],
-    }
+    let n = Numbers::of(answer);
+    [
+        n.refusal,
+        n.first_place,
+        n.second_place,
+        n.nodes,
+        n.scopes,
+        n.charges,
+        n.rows,
+        0,
+    ]
 }
 
-fn print(rt: &impl Print, outcome: Outcome) {
-    let row = line(outcome);
+fn print(rt: &impl Print, answer: Result<Expanded, Refusal>) {
+    let row = line(answer);
     let text = text_lines::line_of(&row);
     let _ = rt.write_all(&text);
 }

@@ -4,11 +4,11 @@ ghost use Rattle.expander_run.specs.Calls.{numbers_of};
 ghost use Rattle.test_flights.specs.Flights.{accepted_numbers, refused_numbers};
 
 use super::run;
-use expander_run::Outcome;
+use expander_run::{Expanded, Refusal};
 use sheet_rows::row::NONE;
 
 // No statements: 0 nodes, 1 scope.
-pub fn no_statements() -> Outcome
+pub fn no_statements() -> Result<Expanded, Refusal>
     ensures { numbers_of result ≡ accepted_numbers 0 1 3 2 }
 {
     let root = [1u32, 5, 0, 0, 0, 0, 0, 0, 11, 0, 0, 0, 0, 0, 0, 0];
@@ -16,7 +16,7 @@ pub fn no_statements() -> Outcome
 }
 
 // One plain node, N = 0: 8.
-pub fn one_node_of_none() -> Outcome
+pub fn one_node_of_none() -> Result<Expanded, Refusal>
     ensures { numbers_of result ≡ refused_numbers 8 }
 {
     let root = [
@@ -27,7 +27,7 @@ pub fn one_node_of_none() -> Outcome
 }
 
 // D = 0, N = 0: 9.
-pub fn one_node_no_depth() -> Outcome
+pub fn one_node_no_depth() -> Result<Expanded, Refusal>
     ensures { numbers_of result ≡ refused_numbers 9 }
 {
     let root = [
@@ -38,7 +38,7 @@ pub fn one_node_no_depth() -> Outcome
 }
 
 // Three nested, D = 2: 9.
-pub fn three_nested() -> Outcome
+pub fn three_nested() -> Result<Expanded, Refusal>
     ensures { numbers_of result ≡ refused_numbers 9 }
 {
     let root = [
@@ -50,7 +50,7 @@ pub fn three_nested() -> Outcome
 }
 
 // One node mentioned twice: 1 node.
-pub fn one_node_twice() -> Outcome
+pub fn one_node_twice() -> Result<Expanded, Refusal>
     ensures { numbers_of result ≡ accepted_numbers 1 1 7 5 }
 {
     let root = [

@@ -3,10 +3,10 @@ ghost use Rattle.std.specs.Prelude.{◌≡◌};
 ghost use Rattle.expander_run.specs.Calls.{numbers_of};
 ghost use Rattle.test_flights.specs.Flights.{flight_answer};
 
-use expander_run::Outcome;
+use expander_run::{Expanded, Refusal};
 
 // Expand on some rows, with no library and 400 charges.
-pub fn answer<'a>(root: &'a [u32], nodes: u32, depth: u32) -> Outcome
+pub fn answer<'a>(root: &'a [u32], nodes: u32, depth: u32) -> Result<Expanded, Refusal>
     ensures { numbers_of result ≡ flight_answer root.now nodes depth }
 {
     let library = [0u32; 0];

@@ -3,7 +3,7 @@
 // charges, rows, and a sum over out, ledger and scopes as they stand after the call. vectors/README.md says what a case is
 // made of.
 use std::io::Read;
-use test_cases::frame::Call;
+use test_cases::frame::{Call, FrameError};
 use test_cases::{answer, fill, frame};
 
 // A call on slices that hold patterns, and its line.
@@ -40,68 +40,56 @@ fn run<'a>(
     let _ = rt.write_all(&text);
 }
 
-// A call with lent slices of its lengths: whether the program's own are long enough.
-fn lend<'a>(rt: &impl Print, root: &'a [u32], library: &'a [u32], call: Call) -> bool {
+// A call with lent slices of its lengths, unless the program's own are shorter.
+fn lend<'a>(
+    rt: &impl Print,
+    root: &'a [u32],
+    library: &'a [u32],
+    call: Call,
+) -> Result<(), FrameError> {
     let mut out = [0u32; 3300];
     let mut ledger = [0u32; 1300];
     let mut scopes = [0u32; 2100];
     let mut work = [0u32; 40000];
-    let out_words = call.out as usize;
-    let ledger_words = call.ledger as usize;
-    let scopes_words = call.scopes as usize;
-    let work_words = call.work as usize;
-    if out.len() < out_words {
-        return false;
-    }
-    if ledger.len() < ledger_words {
-        return false;
-    }
-    if scopes.len() < scopes_words {
-        return false;
-    }
-    if work.len() < work_words {
-        return false;
-    }
     run(
         rt,
         root,
         library,
         call,
-        &mut out[..out_words],
-        &mut ledger[..ledger_words],
-        &mut scopes[..scopes_words],
-        &mut work[..work_words],
+        front(&mut out, call.out)?,
+        front(&mut ledger, call.ledger)?,
+        front(&mut scopes, call.scopes)?,
+        front(&mut work, call.work)?,
     );
-    true
+    Ok(())
 }
 
-// The next case, and its line: whether it is well formed.
+// The first words of some, unless there are fewer.
+fn front(words: &mut [u32], count: u32) -> Result<&mut [u32], FrameError> {
+    words
+        .get_mut(..count as usize)
+        .ok_or(FrameError::WrongLength)
+}
+
+// The next case, and its line, unless it is malformed.
 fn case<'a, R: Read>(
     rt: &impl Print,
     reader: &mut R,
     root: &'a mut [u32],
     library: &'a mut [u32],
-) -> bool {
+) -> Result<(), FrameError> {
     let mut head = [0u32; 16];
-    if !frame::lines(reader, 2, &mut head) {
-        return false;
-    }
+    frame::lines(reader, 2, &mut head)?;
     let call = frame::read_head(&head);
-    if !frame::sheet(reader, call.root_kept, call.root, root) {
-        return false;
-    }
-    if !frame::sheet(reader, call.library_kept, call.library, library) {
-        return false;
-    }
-    let n = call.root as usize;
-    let m = call.library as usize;
-    if root.len() < n {
-        return false;
-    }
-    if library.len() < m {
-        return false;
-    }
-    lend(rt, &root[..n], &library[..m], call)
+    frame::sheet(reader, call.root_kept, call.root, root)?;
+    frame::sheet(reader, call.library_kept, call.library, library)?;
+    let root = root
+        .get(..call.root as usize)
+        .ok_or(FrameError::WrongLength)?;
+    let library = library
+        .get(..call.library as usize)
+        .ok_or(FrameError::WrongLength)?;
+    lend(rt, root, library, call)
 }
 
 fn print_malformed(rt: &impl Print, number: u32) {
@@ -117,13 +105,10 @@ fn cases<'a, R: Read>(
     root: &'a mut [u32],
     library: &'a mut [u32],
 ) {
-    let mut i = 0;
-    while i < count {
-        if !case(rt, reader, root, library) {
-            print_malformed(rt, i);
-            return;
+    for i in 0..count {
+        if case(rt, reader, root, library).is_err() {
+            return print_malformed(rt, i);
         }
-        i += 1;
     }
 }
 
@@ -133,7 +118,7 @@ fn main(rt: HostRuntime) {
     let mut root = [0u32; 1000];
     let mut library = [0u32; 1000];
     let mut first = [0u32; 8];
-    if !frame::lines(&mut stdin, 1, &mut first) {
+    if frame::lines(&mut stdin, 1, &mut first).is_err() {
         print_malformed(&rt, 0);
     }
     cases(&rt, &mut stdin, first[0], &mut root, &mut library);

@@ -1,15 +1,14 @@
-// The cases, by their tag. Each prints its answer and hands back the place after its data, or 0 where it is malformed.
+// The cases, by their tag. Each prints its answer and hands back the place after its data, unless it is malformed.
 ghost use Rattle.std.specs.Prelude.{◌≡◌};
 ghost use Rattle.test_vectors.specs.Cases.{form_of, check_at, read_at, write_at, lookup_at};
 
 use super::frame;
 use ast::{ExternProtoId, NodeId, ProtoId};
-use sheet_check::Checked;
+use sheet_check::BadRow;
 use sheet_check::grammar::Form;
 use sheet_lookup::document;
 use sheet_rows::row::Row;
 use sheet_walks::walk::Found;
-use text_lines::{Read, Written};
 
 // Writes the line of a case.
 fn print(rt: &impl Print, tag: u32, a: u32, b: u32, c: u32, d: u32) {
@@ -18,22 +17,19 @@ fn print(rt: &impl Print, tag: u32, a: u32, b: u32, c: u32, d: u32) {
 }
 
 // 1 check: a form, b number of words, c number of rows kept; the other rows follow.
-pub fn check(rt: &impl Print, input: &[u8], at: usize, h: Row, words: &mut [u32]) -> usize
+pub fn check(rt: &impl Print, input: &[u8], at: usize, h: Row, words: &mut [u32]) -> Option<usize>
     ensures { check_at input.now at h words.old ≡ (result, words.new) }
 {
     let n = h.b as usize;
     if 2 < h.a {
-        return 0;
+        return None;
     }
-    let next = frame::rows(input, at, h.c, (n + 7) / 8, words);
-    if next == 0 {
-        return 0;
-    }
+    let next = frame::rows(input, at, h.c, n.div_ceil(8), words)?;
     if words.len() < n {
-        return 0;
+        return None;
     }
     print_check(rt, sheet_check::check(&words[..n], form_of(h.a)));
-    next
+    Some(next)
 }
 
 fn form_of(n: u32) -> Form
@@ -46,88 +42,67 @@ fn form_of(n: u32) -> Form
     }
 }
 
-fn print_check(rt: &impl Print, checked: Checked) {
+fn print_check(rt: &impl Print, checked: Result<(), BadRow>) {
     match checked {
-        Checked::Fits => print(rt, 1, 0, 0, 0, 0),
-        Checked::Bad(place) => print(rt, 1, 3, frame::word(place), 0, 0),
+        Ok(()) => print(rt, 1, 0, 0, 0, 0),
+        Err(BadRow(place)) => print(rt, 1, 3, frame::word(place), 0, 0),
     }
 }
 
 // 2 read lines: a number of bytes, b number of words lent; the bytes follow.
-pub fn read(rt: &impl Print, input: &[u8], at: usize, h: Row) -> usize
+pub fn read(rt: &impl Print, input: &[u8], at: usize, h: Row) -> Option<usize>
     ensures { result ≡ read_at input.now at h }
 {
     let n = h.a as usize;
     let lent = h.b as usize;
     let mut words = [3123456789u32; 1024];
     if input.len() < at {
-        return 0;
+        return None;
     }
     if input.len() - at < n {
-        return 0;
+        return None;
     }
     if words.len() < lent {
-        return 0;
+        return None;
     }
     let end = at + n;
     print_read(rt, &input[at..end], &mut words[..lent]);
-    end
+    Some(end)
 }
 
 fn print_read(rt: &impl Print, text: &[u8], words: &mut [u32]) {
-    match text_lines::read_lines(text, words) {
-        Read::Rows(n) => print(
-            rt,
-            2,
-            0,
-            0,
-            frame::word(n),
-            test_checksum::of_words(0, words),
-        ),
-        Read::WrongLength => print(rt, 2, 12, 0, 0, test_checksum::of_words(0, words)),
-        Read::BadLine(i) => print(
-            rt,
-            2,
-            13,
-            frame::word(i),
-            0,
-            test_checksum::of_words(0, words),
-        ),
+    let read = text_lines::read_lines(text, words);
+    let sum = test_checksum::of_words(0, words);
+    match read {
+        Ok(rows) => print(rt, 2, 0, 0, frame::word(rows), sum),
+        Err(error) => print(rt, 2, u32::from(error), frame::word(error.place()), 0, sum),
     }
 }
 
 // 3 write lines: a number of words, b number of bytes lent, c number of rows kept; the other rows follow.
-pub fn write(rt: &impl Print, input: &[u8], at: usize, h: Row, words: &mut [u32]) -> usize
+pub fn write(rt: &impl Print, input: &[u8], at: usize, h: Row, words: &mut [u32]) -> Option<usize>
     ensures { write_at input.now at h words.old ≡ (result, words.new) }
 {
     let n = h.a as usize;
     let lent = h.b as usize;
     let mut bytes = [165u8; 4096];
-    let next = frame::rows(input, at, h.c, (n + 7) / 8, words);
-    if next == 0 {
-        return 0;
-    }
+    let next = frame::rows(input, at, h.c, n.div_ceil(8), words)?;
     if words.len() < n {
-        return 0;
+        return None;
     }
     if bytes.len() < lent {
-        return 0;
+        return None;
     }
     print_write(rt, &words[..n], &mut bytes[..lent]);
-    next
+    Some(next)
 }
 
 fn print_write(rt: &impl Print, words: &[u32], bytes: &mut [u8]) {
-    match text_lines::write_lines(words, bytes) {
-        Written::Bytes(n) => print(
-            rt,
-            3,
-            0,
-            frame::word(n),
-            test_checksum::of_bytes(0, bytes),
-            0,
-        ),
-        Written::Refused => print(rt, 3, 14, 0, test_checksum::of_bytes(0, bytes), 0),
+    let written = text_lines::write_lines(words, bytes);
+    let sum = test_checksum::of_bytes(0, bytes);
+    match written {
+        Ok(n) => print(rt, 3, 0, frame::word(n), sum, 0),
+        Err(error) => print(rt, 3, u32::from(error), 0, sum, 0),
     }
 }
 
@@ -140,30 +115,24 @@ pub fn lookup<'a>(
     h: Row,
     root: &'a mut [u32],
     library: &'a mut [u32],
-) -> usize
+) -> Option<usize>
     ensures { lookup_at input.now at h root.old library.old ≡ (result, root.new, library.new) }
 {
     let n = h.a as usize;
     let m = h.b as usize;
     if 3 < h.d {
-        return 0;
+        return None;
     }
-    let after_root = frame::rows(input, at, h.f, n, root);
-    if after_root == 0 {
-        return 0;
-    }
-    let next = frame::rows(input, after_root, h.g, m, library);
-    if next == 0 {
-        return 0;
-    }
+    let after_root = frame::rows(input, at, h.f, n, root)?;
+    let next = frame::rows(input, after_root, h.g, m, library)?;
     if root.len() / 8 < n {
-        return 0;
+        return None;
     }
     if library.len() / 8 < m {
-        return 0;
+        return None;
     }
     print_lookup(rt, &root[..8 * n], &library[..8 * m], h);
-    next
+    Some(next)
 }
 
 fn print_lookup<'a>(rt: &impl Print, root: &'a [u32], library: &'a [u32], h: Row) {

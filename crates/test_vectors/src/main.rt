@@ -9,24 +9,23 @@ ghost use Rattle.std.specs.Prelude.{◌≤◌, length};
 use sheet_rows::row;
 use std::io::Read;
 
-// A case's answer, on a line of its own: the place after the case, or 0 where it is malformed.
+// A case's answer, on a line of its own: the place after the case, unless it is malformed.
 fn case<'a>(
     rt: &impl Print,
     input: &[u8],
     at: usize,
     root: &'a mut [u32],
     library: &'a mut [u32],
-) -> usize {
+) -> Option<usize> {
     let mut header = [0u32; 8];
-    let data = frame::lines(input, at, 1, &mut header);
+    let data = frame::lines(input, at, 1, &mut header)?;
     let h = row::row_at(&header, 0);
-    let tag = h.kind;
-    match tag {
+    match h.kind {
         1 => cases::check(rt, input, data, h, root),
         2 => cases::read(rt, input, data, h),
         3 => cases::write(rt, input, data, h, root),
         4 => cases::lookup(rt, input, data, h, root, library),
-        _ => 0,
+        _ => None,
     }
 }
 
@@ -39,15 +38,14 @@ fn print_malformed(rt: &impl Print, at: u32) {
 fn run<'a>(rt: &impl Print, input: &[u8], root: &'a mut [u32], library: &'a mut [u32]) {
     let mut at = 0;
     while at < input.len() {
-        let next = case(rt, input, at, root, library);
-        if next <= at {
-            print_malformed(rt, frame::word(at));
-            return;
+        match case(rt, input, at, root, library) {
+            Some(next) if at < next => at = next,
+            _ => return print_malformed(rt, frame::word(at)),
         }
-        at = next;
     }
 }
 
+// Kept: the loop reads into lent bytes; the library's reading to the end fills memory of its own, and there is no heap.
 // What a reader has, up to as many bytes as are lent: how many it gave. A read that fails counts as the end.
 fn read_full<R: Read>(reader: &mut R, bytes: &mut [u8]) -> usize
     ensures { result ≤ length bytes.old }

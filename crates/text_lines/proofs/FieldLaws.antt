@@ -17,10 +17,7 @@ use Rattle.ast.specs.Choice.{choose}
 use Rattle.text_lines.specs.Read.{with_digit, next, reads, column_read}
 use Rattle.text_decimal.specs.Decimal.{digit_left, before, justified}
 use Rattle.text_lines.specs.Write.{column}
-
-reads_append : (f : Field) (a b : List ℕ) → reads f (a ++ b) ≡ reads (reads f a) b
-reads_append f [] b = refl
-reads_append f (x ∷ a) b = reads_append (next f x) a b
+use Rattle.text_lines.proofs.ReadLaws.{reads_append}
 
 -- ---- what is written is read back
 

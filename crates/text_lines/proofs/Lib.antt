@@ -1,4 +1,5 @@
 pub mod ListLaws
+pub mod ChunkLaws
 pub mod ReadLaws
 pub mod WriteLaws
 pub mod FieldLaws

@@ -4,13 +4,14 @@ use mathlib.Core.List.{List, [], ◌∷◌, append_assoc, append-nil}
 use Prim.Native.Nat.{ℕ, zero, suc, ◌+◌, ◌*◌, ◌-◌, ◌/◌, ◌%◌, ◌≤◌, ◌<◌}
 use native.Mathlib.Omega.{arith}
 use lib.ListN.{length, take, drop, get_or, set, length-append, length-take, length-drop}
-use lib.Seq.{sets, take_all, drop-length}
+use lib.Seq.{sets, drop-length, drop-cons}
+use native.Mathlib.Numerals.{add-one}
 use borrow.Author.Tests.{eq-eqb, ne_eqb, lt-ltb, le-ltb}
 use Rattle.text_decimal.proofs.StoreLaws.{sets_append, sets_front}
 use Rattle.text_decimal.proofs.DecimalLaws.{justified_length}
 use Rattle.text_lines.specs.Answer.{accepted, refused}
 use Rattle.text_lines.specs.Write.{column, fields, line, lines_of, write_lines}
-use Rattle.text_lines.proofs.ListLaws.{turn, over, hop, part}
+use Rattle.text_lines.proofs.ListLaws.{turn, over, hop}
 
 -- ---- the bytes of a number
 
@@ -35,29 +36,22 @@ lines_length (suc n) w h =
     length-append (line (take 8 w)) _ ∙ omega arith
 
 module _ (w : List ℕ) where
-  abbrev pub line_left : ℕ → ℕ → ℕ → List ℕ → List ℕ
-  line_left from at i l = sets l (at + 11 * i) (line (take (8 - i) (drop (from + i) w)))
+  abbrev pub line_left : ℕ → List ℕ → List ℕ
+  line_left i l = sets l (11 * i) (line (drop i w))
 
-  pub line_start : (from at : ℕ) (l : List ℕ) → line_left from at 0 l ≡ sets l at (line (take 8 (drop from w)))
-  line_start from at l = let e : at + 11 * 0 ≡ at = omega arith in let f : from + 0 ≡ from = omega arith in rw (e, f)
+  -- a text as long as the line becomes it
+  pub line_start : (l : List ℕ) → length w ≡ 8 → length l ≡ 89 → line_left 0 l ≡ line w
+  line_start l h k = let n = line_length w h in rw (sets_front l (line w) 89 n (omega arith), ← k, drop-length l, append-nil (line w))
 
-  pub line_turn : (from at i : ℕ) (l : List ℕ) → i < 8 → from + i < length w → line_left from at (i + 1) (sets l (at + 11 * i) (column (get_or w (from + i) 0))) ≡ line_left from at i l
-  line_turn from at i l h k =
-      let e : from + (i + 1) ≡ from + i + 1 = omega arith in
-      let g = field_length (get_or w (from + i) 0) in
+  pub line_turn : (i : ℕ) (l : List ℕ) → i < length w → line_left (i + 1) (sets l (11 * i) (column (get_or w i 0))) ≡ line_left i l
+  line_turn i l h =
+      let g = field_length (get_or w i 0) in
       sym
-      (rw (turn 8 i h, part w (from + i) (8 - (i + 1)) 0 k, ← e, append_assoc (column (get_or w (from + i) 0)))
-      (sets_append l (at + 11 * i) (at + 11 * (i + 1)) (column (get_or w (from + i) 0)) (line (take (8 - (i + 1)) (drop (from + (i + 1)) w))) (omega arith)))
+      (rw (add-one, drop-cons w i 0, append_assoc (column (get_or w i 0)))
+      (sets_append l (11 * i) (11 * suc i) (column (get_or w i 0)) (line (drop (suc i) w)) (omega arith)))
 
-  pub line_end_lem : (from at i : ℕ) (l : List ℕ) → 8 ≤ i → i ≤ 8 → line_left from at i l ≡ set l (at + 88) 10
-  line_end_lem from at i l h k = let e : i ≡ 8 = omega arith in rw e
-
-  -- a row alone, in a text of its length
-  pub one_line : (l : List ℕ) → length w ≡ 8 → length l ≡ 89 → sets l 0 (line (take 8 (drop 0 w))) ≡ line w
-  one_line l h k =
-      let e : take 8 w ≡ w = take_all 8 w (omega arith) in
-      let n = line_length w h in
-      rw (e, sets_front l (line w) 89 n (omega arith), ← k, drop-length l, append-nil (line w))
+  pub line_end_lem : (l : List ℕ) → length w ≡ 8 → line_left 8 l ≡ set l 88 10
+  line_end_lem l h = let e : drop 8 w ≡ [] = rw (← h) (drop-length w) in rw e
 
   abbrev pub lines_left : ℕ → ℕ → List ℕ → List ℕ
   lines_left n i l = sets l (89 * i) (lines_of (n - i) (drop (8 * i) w))

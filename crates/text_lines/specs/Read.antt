@@ -1,9 +1,9 @@
 -- Lines of text, read back as rows of words (document 01, Read lines and Lines).
-use Rattle.std.specs.Prelude.{Bool, true, false, not, ◌&&◌, ◌||◌, List, [], ◌∷◌, ◌++◌, ℕ, zero, suc, ◌+◌, ◌*◌, ◌-◌, ◌/◌, ◌%◌, leb, ltb, eqb, length, take, drop, get_or}
+use Rattle.std.specs.Prelude.{Result, Ok, Err, Option, Some, None, Bool, true, false, not, ◌&&◌, ◌||◌, List, [], ◌∷◌, ◌++◌, ℕ, zero, suc, ◌+◌, ◌*◌, ◌-◌, ◌/◌, ◌%◌, leb, ltb, eqb, length, take, drop, get_or}
 use Rattle.text_lines.specs.declared.Field.{Field}
 use Rattle.text_lines.specs.declared.Field.TheVariants.{Spaces, Number, Bad}
-use Rattle.text_lines.specs.declared.Read.{Read}
-use Rattle.text_lines.specs.declared.Read.TheVariants.{Rows, WrongLength, BadLine}
+use Rattle.text_lines.specs.declared.ReadError.{ReadError}
+use Rattle.text_lines.specs.declared.ReadError.TheVariants.{WrongLength, BadLine}
 use Rattle.ast.specs.Choice.{choose}
 use Rattle.text_lines.specs.Answer.{Answer, accepted, refused}
 
@@ -34,6 +34,11 @@ abbrev pub is_number : Field → Bool
 is_number Spaces = false
 is_number (Number n) = true
 is_number Bad = false
+
+abbrev pub number_in : Field → Option ℕ
+number_in Spaces = None
+number_in (Number n) = Some n
+number_in Bad = None
 
 abbrev pub field_number : Field → ℕ
 field_number Spaces = 0
@@ -76,8 +81,15 @@ read_lines l w =
     (refused 12 0, w)
     (choose (ltb (good_lines n l) n) (refused 13 (good_lines n l), w) (accepted n, words_of n l ++ drop (8 * n) w))
 
--- document 01's numbers for each case
-abbrev pub read_answer : Read → Answer
-read_answer (Rows n) = accepted n
-read_answer WrongLength = refused 12 0
-read_answer (BadLine i) = refused 13 i
+-- document 01's number for each error, and the place that it tells
+abbrev pub read_number : ReadError → ℕ
+read_number WrongLength = 12
+read_number (BadLine i) = 13
+
+abbrev pub read_place : ReadError → ℕ
+read_place WrongLength = 0
+read_place (BadLine i) = i
+
+abbrev pub read_answer : Result ℕ ReadError → Answer
+read_answer (Ok n) = accepted n
+read_answer (Err e) = refused (read_number e) (read_place e)

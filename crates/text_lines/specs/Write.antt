@@ -1,7 +1,7 @@
 -- Rows of words, written as lines of text (document 01, Write lines and Lines).
-use Rattle.std.specs.Prelude.{not, ◌||◌, List, [], ◌∷◌, ◌++◌, ℕ, zero, suc, ◌*◌, ◌/◌, ◌%◌, ltb, eqb, length, take, drop}
-use Rattle.text_lines.specs.declared.Written.{Written}
-use Rattle.text_lines.specs.declared.Written.TheVariants.{Bytes, Refused}
+use Rattle.std.specs.Prelude.{Result, Ok, Err, not, ◌||◌, List, [], ◌∷◌, ◌++◌, ℕ, zero, suc, ◌*◌, ◌/◌, ◌%◌, ltb, eqb, length, take, drop}
+use Rattle.text_lines.specs.declared.WriteError.{WriteError}
+use Rattle.text_lines.specs.declared.WriteError.TheVariants.{WrongLength}
 use Rattle.ast.specs.Choice.{choose}
 use Rattle.text_decimal.specs.Decimal.{justified}
 use Rattle.text_lines.specs.Answer.{Answer, accepted, refused}
@@ -36,7 +36,10 @@ write_lines w l =
     (refused 14 0, l)
     (accepted (89 * n), lines_of n w ++ drop (89 * n) l)
 
--- document 01's numbers for each case
-abbrev pub write_answer : Written → Answer
-write_answer (Bytes n) = accepted n
-write_answer Refused = refused 14 0
+-- document 01's number for the error
+abbrev pub write_number : WriteError → ℕ
+write_number WrongLength = 14
+
+abbrev pub write_answer : Result ℕ WriteError → Answer
+write_answer (Ok n) = accepted n
+write_answer (Err e) = refused (write_number e) 0

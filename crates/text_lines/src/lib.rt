@@ -1,31 +1,108 @@
 #![tactic(auto)]
 // Rows of eight numbers as lines of text: the reader and the writer (document 01, Read lines, Write lines and Lines).
-ghost use Rattle.std.specs.Prelude.{◌≡◌, ◌+◌, ◌*◌, ◌≤◌, length, take, drop};
+ghost use Rattle.std.specs.Prelude.{◌≡◌, ◌+◌, ◌*◌, ◌/◌, ◌≤◌, ◌<◌, length, MatchOption};
 ghost use Rattle.std.proofs.lemmas.List.Edits.{sets};
-ghost use Rattle.text_lines.specs.Read.{with_digit, next, column_read, is_number, field_number, good_line, numbers, good_lines, words_of, read_answer, read_lines};
-ghost use Rattle.text_lines.specs.Write.{line, lines_of, write_answer, write_lines};
+ghost use Rattle.text_lines.specs.Read.{with_digit, next, column_read, number_in, good_line, numbers, good_lines, words_of, read_number, read_place, read_answer, read_lines};
+ghost use Rattle.text_lines.specs.Write.{line, lines_of, write_number, write_answer, write_lines};
+
+// The words of a row.
+const WORDS: usize = 8;
+
+// The bytes of a field, and of a line: eight fields and a line feed.
+const FIELD: usize = 11;
+
+pub const LINE: usize = 89;
 
 // What the bytes of a field come to: spaces alone, a number, or neither.
-#[derive(Clone, Copy)]
+// Kept: these are the three states of a parser; an option in an option is no plainer.
+#[derive(Clone, Copy, Debug, PartialEq, Eq)]
 enum Field {
     Spaces,
     Number(u32),
     Bad,
 }
 
-// What reading answers: the row count, or which refusal.
-#[derive(Clone, Copy)]
-pub enum Read {
-    Rows(usize),
-    WrongLength,
-    BadLine(usize),
+impl Field {
+    // What bytes come to, from left to right.
+    fn of(bytes: &[u8]) -> Field
+        ensures { result ≡ column_read bytes.now }
+    {
+        bytes.iter().fold(Field::Spaces, |field, b| field.next(*b))
+    }
+
+    // The field and one byte more.
+    fn next(self, b: u8) -> Field
+        ensures { result ≡ next self b }
+    {
+        match self {
+            Field::Spaces => if b == b' ' {
+                Field::Spaces
+            } else {
+                with_digit(0, b)
+            },
+            Field::Number(n) => if n == 0 { Field::Bad } else { with_digit(n, b) },
+            Field::Bad => Field::Bad,
+        }
+    }
+
+    // The number, if it is one.
+    fn number(self) -> Option<u32>
+        ensures { result ≡ number_in self }
+    {
+        match self {
+            Field::Number(n) => Some(n),
+            Field::Spaces | Field::Bad => None,
+        }
+    }
 }
 
-// What writing answers: the byte count, or its one refusal.
-#[derive(Clone, Copy)]
-pub enum Written {
-    Bytes(usize),
-    Refused,
+// Why lines are not read.
+#[derive(Clone, Copy, Debug, PartialEq, Eq)]
+pub enum ReadError {
+    // No whole number of lines, or more than the lent words hold.
+    WrongLength,
+    // The first bad line, by its number from 0.
+    BadLine { line: usize },
+}
+
+impl ReadError {
+    // The place that an answer names beside the refusal.
+    pub fn place(self) -> usize
+        ensures { result ≡ read_place self }
+    {
+        match self {
+            ReadError::WrongLength => 0,
+            ReadError::BadLine { line } => line,
+        }
+    }
+}
+
+impl From<ReadError> for u32 {
+    ghost from_gives = { λ error number. number ≡ read_number error };
+
+    fn from(error: ReadError) -> u32 {
+        match error {
+            ReadError::WrongLength => 12,
+            ReadError::BadLine { line: _ } => 13,
+        }
+    }
+}
+
+// Why rows are not written.
+#[derive(Clone, Copy, Debug, PartialEq, Eq)]
+pub enum WriteError {
+    // No whole number of rows, or more than the lent bytes hold.
+    WrongLength,
+}
+
+impl From<WriteError> for u32 {
+    ghost from_gives = { λ error number. number ≡ write_number error };
+
+    fn from(error: WriteError) -> u32 {
+        match error {
+            WriteError::WrongLength => 14,
+        }
+    }
 }
 
 // ---- reading
@@ -34,182 +111,95 @@ pub enum Written {
 fn with_digit(n: u32, b: u8) -> Field
     ensures { result ≡ with_digit n b }
 {
-    if b < b'0' {
+    if !b.is_ascii_digit() {
         return Field::Bad;
     }
-    if b'9' < b {
-        return Field::Bad;
-    }
-    let m = 10 * (n as u64) + ((b - b'0') as u64);
-    if m <= 4294967295 {
-        Field::Number(m as u32)
-    } else {
-        Field::Bad
+    let m = 10 * u64::from(n) + u64::from(b - b'0');
+    match u32::try_from(m) {
+        Ok(m) => Field::Number(m),
+        Err(_) => Field::Bad,
     }
 }
 
-// A field and one byte more.
-fn step(f: Field, b: u8) -> Field
-    ensures { result ≡ next f b }
+// Whether a line is eight numbers and a line feed.
+fn good_line(line: &[u8]) -> bool
+    requires { length line.now ≡ 89 }
+    ensures { result ≡ good_line line.now }
 {
-    match f {
-        Field::Spaces => if b == b' ' {
-            Field::Spaces
-        } else {
-            with_digit(0, b)
-        },
-        Field::Number(n) => if n == 0 { Field::Bad } else { with_digit(n, b) },
-        Field::Bad => Field::Bad,
-    }
+    line.chunks_exact(FIELD)
+        .all(|bytes| Field::of(bytes).number().is_some())
+        && line[LINE - 1] == b'\n'
 }
 
-// The field in the 11 bytes at a place.
-fn field_at(lines: &[u8], at: usize) -> Field
-    requires { at + 11 ≤ length lines.now }
-    ensures { result ≡ column_read (take 11 (drop at lines.now)) }
+// The first bad line, by its number from 0.
+fn first_bad(lines: &[u8]) -> Option<usize>
+    ensures { let n = length lines.now / 89 in MatchOption result (good_lines n lines.now ≡ n) (λ i. (good_lines n lines.now ≡ i) × (i < n)) }
 {
-    let mut f = Field::Spaces;
-    let mut i = 0;
-    while i < 11 {
-        f = step(f, lines[at + i]);
-        i += 1;
-    }
-    f
+    lines.chunks_exact(LINE).position(|line| !good_line(line))
 }
 
-fn is_number(f: Field) -> bool
-    ensures { result ≡ is_number f }
+// The eight numbers of a line, into a row.
+fn take_row(line: &[u8], row: &mut [u32])
+    requires long { length line.now ≡ 89 }
+    requires eight { length row.old ≡ 8 }
+    ensures { row.new ≡ numbers 8 line.now }
 {
-    match f {
-        Field::Number(_) => true,
-        Field::Spaces => false,
-        Field::Bad => false,
-    }
-}
-
-fn value_of(f: Field) -> u32
-    ensures { result ≡ field_number f }
-{
-    match f {
-        Field::Number(n) => n,
-        Field::Spaces => 0,
-        Field::Bad => 0,
-    }
-}
-
-// Whether the line at a place is eight numbers and byte 10.
-fn good_line(lines: &[u8], at: usize) -> bool
-    requires { at + 89 ≤ length lines.now }
-    ensures { result ≡ good_line (drop at lines.now) }
-{
-    let mut i = 0;
-    while i < 8 {
-        if !is_number(field_at(lines, at + 11 * i)) {
-            return false;
-        }
-        i += 1;
-    }
-    lines[at + 88] == 10
-}
-
-// How many of `n` lines are good up to the first bad one.
-fn good_lines(lines: &[u8], n: usize) -> usize
-    requires { 89 * n ≤ length lines.now }
-    ensures { result ≡ good_lines n lines.now }
-{
-    let mut i = 0;
-    while i < n {
-        if !good_line(lines, 89 * i) {
-            return i;
-        }
-        i += 1;
-    }
-    i
-}
-
-// The eight numbers of the line at `at`, into the words from `to` on.
-fn take_row(lines: &[u8], at: usize, words: &mut [u32], to: usize)
-    requires { (at + 89 ≤ length lines.now) × (to + 8 ≤ length words.old) }
-    ensures { words.new ≡ sets words.old to (numbers 8 (drop at lines.now)) }
-{
-    let mut i = 0;
-    while i < 8 {
-        words[to + i] = value_of(field_at(lines, at + 11 * i));
-        i += 1;
-    }
-}
-
-// The numbers of `n` lines, into the words.
-fn take_rows(lines: &[u8], words: &mut [u32], n: usize)
-    requires { (89 * n ≤ length lines.now) × (8 * n ≤ length words.old) }
-    ensures { words.new ≡ sets words.old 0 (words_of n lines.now) }
-{
-    let mut i = 0;
-    while i < n {
-        take_row(lines, 89 * i, words, 8 * i);
-        i += 1;
+    for (i, word) in row.iter_mut().enumerate() {
+        *word = Field::of(&line[FIELD * i..FIELD * (i + 1)])
+            .number()
+            .unwrap_or(0);
     }
 }
 
 // The rows of a text, into the lent words; they stay if a line is bad.
-pub fn read_lines(lines: &[u8], words: &mut [u32]) -> Read
+pub fn read_lines(lines: &[u8], words: &mut [u32]) -> Result<usize, ReadError>
     ensures { read_lines lines.now words.old ≡ (read_answer result, words.new) }
 {
-    let rows = lines.len() / 89;
-    if lines.len() % 89 != 0 {
-        return Read::WrongLength;
+    let rows = lines.len() / LINE;
+    if lines.len() % LINE != 0 || words.len() / WORDS < rows {
+        return Err(ReadError::WrongLength);
     }
-    if words.len() / 8 < rows {
-        return Read::WrongLength;
+    if let Some(line) = first_bad(lines) {
+        return Err(ReadError::BadLine { line });
     }
-    let good = good_lines(lines, rows);
-    if good < rows {
-        return Read::BadLine(good);
+    for i in 0..rows {
+        take_row(
+            &lines[LINE * i..LINE * (i + 1)],
+            &mut words[WORDS * i..WORDS * (i + 1)],
+        );
     }
-    take_rows(lines, words, rows);
-    Read::Rows(rows)
+    Ok(rows)
 }
 
 // ---- writing
 
-// The row of words at `from`, as the line at `at`.
-fn put_row(words: &[u32], from: usize, lines: &mut [u8], at: usize)
-    requires { (from + 8 ≤ length words.now) × (at + 89 ≤ length lines.old) }
-    ensures { lines.new ≡ sets lines.old at (line (take 8 (drop from words.now))) }
+// A row, as its line.
+fn put_row(row: &[u32], text: &mut [u8])
+    requires eight { length row.now ≡ 8 }
+    requires long { length text.old ≡ 89 }
+    ensures { text.new ≡ line row.now }
 {
-    let mut i = 0;
-    while i < 8 {
-        text_decimal::put_number(lines, at + 11 * i, 11, words[from + i]);
-        i += 1;
+    for (i, n) in row.iter().enumerate() {
+        text_decimal::put_number(text, FIELD * i, FIELD, *n);
     }
-    lines[at + 88] = 10;
-}
-
-// The first `n` rows of words, as lines.
-fn put_rows(words: &[u32], lines: &mut [u8], n: usize)
-    requires { (8 * n ≤ length words.now) × (89 * n ≤ length lines.old) }
-    ensures { lines.new ≡ sets lines.old 0 (lines_of n words.now) }
-{
-    let mut i = 0;
-    while i < n {
-        put_row(words, 8 * i, lines, 89 * i);
-        i += 1;
-    }
+    text[LINE - 1] = b'\n';
 }
 
 // Rows of words, as lines into the lent bytes.
-pub fn write_lines(words: &[u32], lines: &mut [u8]) -> Written
+pub fn write_lines(words: &[u32], lines: &mut [u8]) -> Result<usize, WriteError>
     ensures { write_lines words.now lines.old ≡ (write_answer result, lines.new) }
 {
-    let rows = words.len() / 8;
-    if words.len() % 8 != 0 {
-        return Written::Refused;
+    let rows = words.len() / WORDS;
+    if words.len() % WORDS != 0 || lines.len() / LINE < rows {
+        return Err(WriteError::WrongLength);
     }
-    if lines.len() / 89 < rows {
-        return Written::Refused;
+    for i in 0..rows {
+        put_row(
+            &words[WORDS * i..WORDS * (i + 1)],
+            &mut lines[LINE * i..LINE * (i + 1)],
+        );
     }
-    put_rows(words, lines, rows);
-    Written::Bytes(89 * rows)
+    Ok(LINE * rows)
 }
 
 // A row, as its line.
@@ -217,6 +207,6 @@ pub fn line_of(words: &[u32; 8]) -> [u8; 89]
     ensures { result ≡ line words.now }
 {
     let mut text = [0u8; 89];
-    put_row(words, 0, &mut text, 0);
+    put_row(words, &mut text);
     text
 }

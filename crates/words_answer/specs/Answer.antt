@@ -1,5 +1,5 @@
 -- The answer of a C export of document 02, and what stands after its call.
-use Rattle.std.specs.Prelude.{List, ◌∷◌, ℕ, zero, suc, length, replicate, ltb}
+use Rattle.std.specs.Prelude.{Result, Ok, Err, List, ◌∷◌, ℕ, zero, suc, length, replicate, ltb}
 use Rattle.ast.specs.Choice.{choose}
 use Rattle.words_lent.specs.Words.{over}
 
@@ -22,6 +22,15 @@ numbers_after (suc n) numbers = replicate (length numbers) 0
 -- "refusal, how much was listed or written, then what is named below"
 abbrev pub answer_words : ℕ → List ℕ → List ℕ
 answer_words refusal numbers = refusal ∷ numbers_after refusal numbers
+
+-- what the code hands on, numbers or a refusal: its refusal, and its words where n numbers follow
+abbrev pub refusal_of : Result (List ℕ) ℕ → ℕ
+refusal_of (Ok numbers) = 0
+refusal_of (Err refusal) = refusal
+
+abbrev pub words_of : ℕ → Result (List ℕ) ℕ → List ℕ
+words_of n (Ok numbers) = 0 ∷ numbers
+words_of n (Err refusal) = refusal ∷ replicate n 0
 
 -- the result, and every word of the two lent slices, after a call; of work nothing is said
 pub record AfterExport : Type 0 where

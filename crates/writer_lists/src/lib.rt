@@ -11,6 +11,7 @@ ghost use Rattle.writer_lists.specs.Writing.{most, RowsFit, Wrote};
 ghost use Rattle.writer_lists.specs.Lists.{clip, id_rows, record_rows, list_rows, ids_handle, HandleBelow, ListAt};
 
 use journal_records;
+use journal_records::words;
 use sheet_rows::row::Row;
 use words_lent::wide;
 
@@ -40,7 +41,7 @@ pub fn before(work: &[u32], r: usize) -> usize
     requires { r * 12 + 12 ≤ length work.now }
     ensures { HandleBelow (clip r (cell work.now r 8)) r result }
 {
-    below(journal_records::word(work, r, 8), r)
+    below(journal_records::word(work, r, words::BEFORE), r)
 }
 
 pub fn up_to(x: u32, top: u32) -> u32
@@ -78,7 +79,16 @@ fn ids(work: &[u32], h: usize, out: &mut [u32], end: usize) -> usize
         p = rows::back(
             out,
             p,
-            rows::line(9, journal_records::word(work, r, 1), 0, 0, 0, 0, 0, 0),
+            rows::line(
+                9,
+                journal_records::word(work, r, words::id::ID),
+                0,
+                0,
+                0,
+                0,
+                0,
+                0,
+            ),
         );
         cur = before(work, r);
     }
@@ -89,8 +99,8 @@ fn interface_ids(work: &[u32], r: usize) -> usize
     requires { r * 12 + 12 ≤ length work.now }
     ensures { HandleBelow (ids_handle Interfaces work.now r) r result }
 {
-    if journal_records::word(work, r, 6) == 2 {
-        return below(journal_records::word(work, r, 7), r);
+    if journal_records::word(work, r, words::value::CLASS) == 2 {
+        return below(journal_records::word(work, r, words::value::PAYLOAD), r);
     }
     0
 }
@@ -99,13 +109,14 @@ fn field_ids(work: &[u32], r: usize) -> usize
     requires { r * 12 + 12 ≤ length work.now }
     ensures { HandleBelow (ids_handle Fields work.now r) r result }
 {
-    if journal_records::word(work, r, 2) == 1 {
+    if journal_records::word(work, r, words::field::IS) == 1 {
         return 0;
     }
     interface_ids(work, r)
 }
 
 // The handle of the ids that a record of such a list has.
+#[tactic(auto, unfolding(crate::specs::Lists::ids_handle))]
 fn ids_of(work: &[u32], kind: Kind, r: usize) -> usize
     requires { r * 12 + 12 ≤ length work.now }
     ensures { HandleBelow (ids_handle kind work.now r) r result }
@@ -113,11 +124,7 @@ fn ids_of(work: &[u32], kind: Kind, r: usize) -> usize
     match kind {
         Kind::Fields => field_ids(work, r),
         Kind::Interfaces => interface_ids(work, r),
-        Kind::Statements => 0,
-        Kind::Order => 0,
-        Kind::Roots => 0,
-        Kind::Routes => 0,
-        Kind::Associations => 0,
+        Kind::Statements | Kind::Order | Kind::Roots | Kind::Routes | Kind::Associations => 0,
     }
 }
 
@@ -126,22 +133,22 @@ fn field(work: &[u32], r: usize, n: u32) -> Row
     requires n_value { n ≡ length (id_rows work.now (ids_handle Fields work.now r)) }
     ensures { result ≡ front (record_rows Fields work.now r) }
 {
-    let name = journal_records::word(work, r, 1);
-    let inferred = journal_records::word(work, r, 4);
-    if journal_records::word(work, r, 2) == 1 {
+    let name = journal_records::word(work, r, words::field::NAME);
+    let inferred = journal_records::word(work, r, words::field::INFERRED);
+    if journal_records::word(work, r, words::field::IS) == 1 {
         return rows::line(
             3,
             name,
             1,
-            journal_records::word(work, r, 3),
+            journal_records::word(work, r, words::field::TARGET),
             inferred,
             0,
             0,
             0,
         );
     }
-    let tag = journal_records::word(work, r, 5);
-    if journal_records::word(work, r, 6) == 2 {
+    let tag = journal_records::word(work, r, words::value::TYPE);
+    if journal_records::word(work, r, words::value::CLASS) == 2 {
         return rows::line(3, name, 0, 0, inferred, tag, 2, n);
     }
     rows::line(
@@ -152,7 +159,7 @@ fn field(work: &[u32], r: usize, n: u32) -> Row
         inferred,
         tag,
         1,
-        journal_records::word(work, r, 7),
+        journal_records::word(work, r, words::value::PAYLOAD),
     )
 }
 
@@ -161,12 +168,12 @@ fn interface(work: &[u32], r: usize, n: u32) -> Row
     requires n_value { n ≡ length (id_rows work.now (ids_handle Interfaces work.now r)) }
     ensures { result ≡ front (record_rows Interfaces work.now r) }
 {
-    let access = journal_records::word(work, r, 1);
-    let of = journal_records::word(work, r, 2);
-    let name = journal_records::word(work, r, 3);
-    let is = journal_records::word(work, r, 4);
-    let tag = journal_records::word(work, r, 5);
-    let class = journal_records::word(work, r, 6);
+    let access = journal_records::word(work, r, words::interface::ACCESS);
+    let of = journal_records::word(work, r, words::interface::DECLARED);
+    let name = journal_records::word(work, r, words::interface::NAME);
+    let is = journal_records::word(work, r, words::interface::TARGET);
+    let tag = journal_records::word(work, r, words::value::TYPE);
+    let class = journal_records::word(work, r, words::value::CLASS);
     if class == 0 {
         return rows::line(4, access, of, name, is, 0, 0, 0);
     }
@@ -181,7 +188,7 @@ fn interface(work: &[u32], r: usize, n: u32) -> Row
         is,
         tag,
         1,
-        journal_records::word(work, r, 7),
+        journal_records::word(work, r, words::value::PAYLOAD),
     )
 }
 
@@ -189,12 +196,12 @@ fn statement(work: &[u32], r: usize) -> Row
     requires { r * 12 + 12 ≤ length work.now }
     ensures { result ≡ front (record_rows Statements work.now r) }
 {
-    let a = journal_records::word(work, r, 1);
-    let b = journal_records::word(work, r, 2);
+    let a = journal_records::word(work, r, words::statement::KIND);
+    let b = journal_records::word(work, r, words::statement::ID);
     if a == 3 {
-        let c = journal_records::word(work, r, 3);
-        let d = journal_records::word(work, r, 4);
-        let e = journal_records::word(work, r, 5);
+        let c = journal_records::word(work, r, words::route::FROM_FIELD);
+        let d = journal_records::word(work, r, words::route::TO_NODE);
+        let e = journal_records::word(work, r, words::route::TO_FIELD);
         return rows::line(
             5,
             3,
@@ -202,8 +209,8 @@ fn statement(work: &[u32], r: usize) -> Row
             c,
             d,
             e,
-            journal_records::word(work, r, 6),
-            journal_records::word(work, r, 7),
+            journal_records::word(work, r, words::route::FROM),
+            journal_records::word(work, r, words::route::TO),
         );
     }
     rows::line(5, up_to(a, 4), b, 0, 0, 0, 0, 0)
@@ -213,10 +220,10 @@ fn route(work: &[u32], r: usize) -> Row
     requires { r * 12 + 12 ≤ length work.now }
     ensures { result ≡ front (record_rows Routes work.now r) }
 {
-    let b = journal_records::word(work, r, 2);
-    let c = journal_records::word(work, r, 3);
-    let d = journal_records::word(work, r, 4);
-    let e = journal_records::word(work, r, 5);
+    let b = journal_records::word(work, r, words::route::FROM_NODE);
+    let c = journal_records::word(work, r, words::route::FROM_FIELD);
+    let d = journal_records::word(work, r, words::route::TO_NODE);
+    let e = journal_records::word(work, r, words::route::TO_FIELD);
     rows::line(
         5,
         3,
@@ -224,8 +231,8 @@ fn route(work: &[u32], r: usize) -> Row
         c,
         d,
         e,
-        journal_records::word(work, r, 10),
-        journal_records::word(work, r, 11),
+        journal_records::word(work, r, words::route::REMAPPED_FROM),
+        journal_records::word(work, r, words::route::REMAPPED_TO),
     )
 }
 
@@ -233,9 +240,18 @@ fn association(work: &[u32], r: usize) -> Row
     requires { r * 12 + 12 ≤ length work.now }
     ensures { result ≡ front (record_rows Associations work.now r) }
 {
-    let a = journal_records::word(work, r, 2);
-    let b = journal_records::word(work, r, 3);
-    rows::line(14, a, b, journal_records::word(work, r, 4), 0, 0, 0, 0)
+    let a = journal_records::word(work, r, words::association::INTERFACE);
+    let b = journal_records::word(work, r, words::association::NODE);
+    rows::line(
+        14,
+        a,
+        b,
+        journal_records::word(work, r, words::association::FIELD),
+        0,
+        0,
+        0,
+        0,
+    )
 }
 
 // The first row of a record of such a list, which has `n` ids.
@@ -250,7 +266,7 @@ fn head(work: &[u32], kind: Kind, r: usize, n: u32) -> Row
         Kind::Statements => statement(work, r),
         Kind::Order => rows::line(
             6,
-            up_to(journal_records::word(work, r, 1), 2),
+            up_to(journal_records::word(work, r, words::order::MARK), 2),
             0,
             0,
             0,
@@ -258,7 +274,16 @@ fn head(work: &[u32], kind: Kind, r: usize, n: u32) -> Row
             0,
             0,
         ),
-        Kind::Roots => rows::line(9, journal_records::word(work, r, 2), 0, 0, 0, 0, 0, 0),
+        Kind::Roots => rows::line(
+            9,
+            journal_records::word(work, r, words::root::NODE),
+            0,
+            0,
+            0,
+            0,
+            0,
+            0,
+        ),
         Kind::Routes => route(work, r),
         Kind::Associations => association(work, r),
     }

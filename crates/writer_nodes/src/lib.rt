@@ -10,6 +10,7 @@ ghost use Rattle.writer_lists.specs.Writing.{most, RowsFit, Wrote};
 ghost use Rattle.writer_nodes.specs.Instances.{Legible, NodeIn, own_word, nested_rows};
 
 use journal_records;
+use journal_records::words;
 use sheet_rows::row::Row;
 use writer_lists;
 use writer_lists::{Kind, rows};
@@ -18,13 +19,8 @@ fn own_word(kind: Kind) -> usize
     ensures { result ≡ own_word kind }
 {
     match kind {
-        Kind::Fields => 4,
-        Kind::Interfaces => 4,
-        Kind::Statements => 4,
-        Kind::Order => 4,
-        Kind::Roots => 3,
-        Kind::Routes => 4,
-        Kind::Associations => 4,
+        Kind::Roots => words::instance::ROOTS,
+        _ => words::instance::ROUTES,
     }
 }
 
@@ -70,7 +66,12 @@ fn count_instance(work: &[u32], c: usize, h: usize) -> usize
     if h == 0 {
         return 0;
     }
-    let a = writer_lists::count_at(work, Kind::Associations, h - 1, 5);
+    let a = writer_lists::count_at(
+        work,
+        Kind::Associations,
+        h - 1,
+        words::instance::ASSOCIATIONS,
+    );
     let b = count_nested(work, c, Kind::Routes, h);
     1 + count_nested(work, c, Kind::Roots, h) + b + a
 }
@@ -86,10 +87,17 @@ fn instance(work: &[u32], c: usize, h: usize, out: &mut [u32], end: usize) -> us
         return end;
     }
     let r = h - 1;
-    let a = writer_lists::list_at(work, Kind::Associations, r, 5, out, end);
+    let a = writer_lists::list_at(
+        work,
+        Kind::Associations,
+        r,
+        words::instance::ASSOCIATIONS,
+        out,
+        end,
+    );
     let b = nested(work, c, Kind::Routes, h, out, a);
     let d = nested(work, c, Kind::Roots, h, out, b);
-    let name = journal_records::word(work, r, 2);
+    let name = journal_records::word(work, r, words::instance::NAME);
     let first = rows::line(
         13,
         name,
@@ -107,9 +115,9 @@ fn first(work: &[u32], r: usize) -> Row
     requires { r * 12 + 12 ≤ length work.now }
     ensures { result ≡ front (node_rows (node_rec work.now r)) }
 {
-    let of = journal_records::word(work, r, 3);
-    let name = journal_records::word(work, r, 4);
-    let origin = journal_records::word(work, r, 5);
+    let of = journal_records::word(work, r, words::node::TYPE);
+    let name = journal_records::word(work, r, words::node::DEF);
+    let origin = journal_records::word(work, r, words::node::ORIGIN);
     if origin == 0 {
         return rows::line(2, of, name, 0, 0, 0, 0, 0);
     }
@@ -119,7 +127,7 @@ fn first(work: &[u32], r: usize) -> Row
             of,
             name,
             origin,
-            journal_records::word(work, r, 6),
+            journal_records::word(work, r, words::node::ID),
             0,
             0,
             0,
@@ -134,11 +142,15 @@ pub fn count_node(work: &[u32], c: usize, r: usize) -> usize
     requires r_len_bound { length (node_rows (node_rec work.now r)) ≤ most }
     ensures { result ≡ length (node_rows (node_rec work.now r)) }
 {
-    let a = count_instance(work, c, writer_lists::handle(work, r, 11));
-    let b = writer_lists::count_at(work, Kind::Order, r, 10);
-    let d = writer_lists::count_at(work, Kind::Statements, r, 9);
-    let e = writer_lists::count_at(work, Kind::Interfaces, r, 8);
-    1 + writer_lists::count_at(work, Kind::Fields, r, 7) + e + d + b + a
+    let a = count_instance(
+        work,
+        c,
+        writer_lists::handle(work, r, words::node::INSTANCE),
+    );
+    let b = writer_lists::count_at(work, Kind::Order, r, words::node::ORDER);
+    let d = writer_lists::count_at(work, Kind::Statements, r, words::node::STATEMENTS);
+    let e = writer_lists::count_at(work, Kind::Interfaces, r, words::node::INTERFACES);
+    1 + writer_lists::count_at(work, Kind::Fields, r, words::node::FIELDS) + e + d + b + a
 }
 
 pub fn node(work: &[u32], c: usize, r: usize, out: &mut [u32], end: usize) -> usize
@@ -146,10 +158,16 @@ pub fn node(work: &[u32], c: usize, r: usize, out: &mut [u32], end: usize) -> us
     requires rows_fit { RowsFit (node_rows (node_rec work.now r)) out.old end }
     ensures { Wrote (node_rows (node_rec work.now r)) out.old out.new end result }
 {
-    let a = instance(work, c, writer_lists::handle(work, r, 11), out, end);
-    let b = writer_lists::list_at(work, Kind::Order, r, 10, out, a);
-    let d = writer_lists::list_at(work, Kind::Statements, r, 9, out, b);
-    let e = writer_lists::list_at(work, Kind::Interfaces, r, 8, out, d);
-    let f = writer_lists::list_at(work, Kind::Fields, r, 7, out, e);
+    let a = instance(
+        work,
+        c,
+        writer_lists::handle(work, r, words::node::INSTANCE),
+        out,
+        end,
+    );
+    let b = writer_lists::list_at(work, Kind::Order, r, words::node::ORDER, out, a);
+    let d = writer_lists::list_at(work, Kind::Statements, r, words::node::STATEMENTS, out, b);
+    let e = writer_lists::list_at(work, Kind::Interfaces, r, words::node::INTERFACES, out, d);
+    let f = writer_lists::list_at(work, Kind::Fields, r, words::node::FIELDS, out, e);
     rows::back(out, f, first(work, r))
 }

@@ -9,10 +9,11 @@ ghost use Rattle.writer_lists.specs.Writing.{RowsFit, Wrote};
 ghost use Rattle.writer_pass.specs.Externs.{declared_row, declared_rows, extern_rows_of};
 
 use journal_records;
+use journal_records::{TAG_EXTERN, words};
 use sheet_lookup::rows as sheets;
 use sheet_rows::part::Part;
+use sheet_rows::row;
 use sheet_rows::row::Row;
-use sheet_rows::{part, row};
 use sheet_walks::walk;
 use sheet_walks::walk::Found;
 use writer_lists;
@@ -28,7 +29,7 @@ fn mark_of(used: bool) -> u32
 fn declared(of: Part, used: bool, r: Row) -> Row
     ensures { result ≡ declared_row of used r }
 {
-    if part::kind_of(of) == 10 {
+    if of.kind() == 10 {
         return rows::line(10, r.a, r.b, mark_of(used), 0, 0, 0, 0);
     }
     rows::line(4, r.a, r.b, r.c, r.d, 0, 0, 0)
@@ -93,15 +94,16 @@ pub fn externs<'a>(
     if some == 0 {
         return start;
     }
-    let mut i = 0;
     let mut p = start;
-    while i < c {
-        let r = i;
-        i += 1;
-        if journal_records::word(work, r, 0) == 2 {
-            let sheet = sheets::select(root, library, journal_records::word(work, r, 1));
-            let at = words_lent::wide(journal_records::word(work, r, 4));
-            let taken = words_lent::wide(journal_records::word(work, r, 6));
+    for r in 0..c {
+        if journal_records::word(work, r, words::TAG) == TAG_EXTERN {
+            let sheet = sheets::select(
+                root,
+                library,
+                journal_records::word(work, r, words::extern_proto::DOCUMENT),
+            );
+            let at = words_lent::wide(journal_records::word(work, r, words::extern_proto::ROW));
+            let taken = words_lent::wide(journal_records::word(work, r, words::extern_proto::MARK));
             p = declaration(sheet, at, taken, out, p);
         }
     }

@@ -8,6 +8,7 @@ ghost use Rattle.writer_nodes.specs.Instances.{Legible};
 ghost use Rattle.writer_tables.specs.Tables.{scope_text, ledger_text, TablesRoom};
 
 use journal_records;
+use journal_records::{TAG_NODE, TAG_SCOPE, words};
 use writer_nodes;
 use writer_tables;
 
@@ -28,15 +29,12 @@ pub fn pass(
     ensures pasted { Pasted (ledger_text work.now c) ledger.old ledger.new 0 }
     ensures pasted_2 { Pasted (scope_text work.now c) scopes.old scopes.new 0 }
 {
-    let mut i = 0;
     let mut p = start;
     let mut l = 0;
     let mut s = 0;
-    while i < c {
-        let r = i;
-        i += 1;
-        let tag = journal_records::word(work, r, 0);
-        if tag == 3 {
+    for r in 0..c {
+        let tag = journal_records::word(work, r, words::TAG);
+        if tag == TAG_NODE {
             let end = p + writer_nodes::count_node(work, c, r);
             writer_nodes::node(work, c, r, out, end);
             p = end;
@@ -44,7 +42,7 @@ pub fn pass(
             l += 3;
             continue;
         }
-        if tag == 10 {
+        if tag == TAG_SCOPE {
             writer_tables::scope(work, r, scopes, s);
             s += 5;
         }

@@ -1,5 +1,5 @@
 -- The words of the scopes and of the ledger.
-use Rattle.std.specs.Prelude.{◌≡◌, List, [], ◌∷◌, ◌++◌, map, ℕ, ◌+◌, ◌*◌, ◌≤◌, length}
+use Rattle.std.specs.Prelude.{◌≡◌, List, ◌++◌, map, ℕ, ◌+◌, ◌*◌, ◌≤◌, length}
 use Rattle.ast.specs.Lists.{flat}
 use Rattle.expansion_definition.specs.Scopes.{scope_entry}
 use Rattle.expansion_definition.specs.Expand.{ledger_entry}

@@ -8,6 +8,7 @@ ghost use Rattle.writer_lists.specs.Writing.{Pasted};
 ghost use Rattle.writer_tables.specs.Tables.{entry_words, EntryRoom};
 
 use journal_records;
+use journal_records::words;
 use writer_lists;
 
 fn put_scope(scopes: &mut [u32], p: usize, a: u32, b: u32, c: u32, d: u32, e: u32)
@@ -27,14 +28,14 @@ pub fn scope(work: &[u32], r: usize, scopes: &mut [u32], p: usize)
     requires p_in_bounds { p + 5 ≤ length scopes.old }
     ensures { Pasted (scope_entry (scope_rec work.now r)) scopes.old scopes.new p }
 {
-    let kind = journal_records::word(work, r, 1);
+    let kind = journal_records::word(work, r, words::scope::KIND);
     if kind == 0 {
         put_scope(scopes, p, 0, 0, 0, 0, 0);
         return;
     }
-    let document = journal_records::word(work, r, 2);
-    let proto = journal_records::word(work, r, 3);
-    let opener = journal_records::word(work, r, 5);
+    let document = journal_records::word(work, r, words::scope::DOCUMENT);
+    let proto = journal_records::word(work, r, words::scope::PROTO);
+    let opener = journal_records::word(work, r, words::scope::OPENER);
     if kind == 1 {
         put_scope(scopes, p, 1, document, proto, 0, opener);
         return;
@@ -45,7 +46,7 @@ pub fn scope(work: &[u32], r: usize, scopes: &mut [u32], p: usize)
         2,
         document,
         proto,
-        journal_records::word(work, r, 4),
+        journal_records::word(work, r, words::scope::INDEX),
         opener,
     );
 }
@@ -64,13 +65,13 @@ pub fn entry(work: &[u32], c: usize, r: usize, scopes: &[u32], ledger: &mut [u32
     requires { EntryRoom work.now c r scopes.now ledger.old p }
     ensures { Pasted (entry_words work.now c r) ledger.old ledger.new p }
 {
-    let scope = journal_records::word(work, r, 1);
+    let scope = journal_records::word(work, r, words::node::SCOPE);
     let at = words_lent::wide(scope) * 5 + 1;
     put_entry(
         ledger,
         p,
         scope,
         scopes[at],
-        journal_records::word(work, r, 2),
+        journal_records::word(work, r, words::node::SOURCE),
     );
 }

@@ -1,23 +1,21 @@
-use mathlib.Core.Path.{refl, sym, ◌∙◌}
-use Rattle.count_documents.proofs.PlaceLaws.{remembers_start}
-use Rattle.count_documents.proofs.TallyLaws.{summing_start, summing_ready, summing_on, summing_end}
+use mathlib.Core.Path.{ap, ◌∙◌}
+use mathlib.Core.List.{List}
+use Prim.Native.Nat.{ℕ}
+use denote.Ref.{Bor}
+use Rattle.count_documents.proofs.TallyLaws.{summing_ready, summing_on, summing_end}
 use native.Mathlib.Omega.{arith}
 use Rattle.count_documents.proofs.count_all.Goals as goal
 
-pub loop-p-init : goal.loop-p-init
-loop-p-init c = (summing_start c.requires, refl, remembers_start c.args.names.now 0 c.place_of-places.result c.place_of-places.ensures)
-
-pub slice_bounds-count_document-end : goal.slice_bounds-count_document-end
-slice_bounds-count_document-end c = sym c.loop-p.invariant.2.keys_long
-
-pub slice_bounds-count_document-end-in-loop-p : goal.slice_bounds-count_document-end-in-loop-p
-slice_bounds-count_document-end-in-loop-p c = sym c.loop-p.invariant.2.places_long
-
 pub count_document-from-requires : goal.count_document-from-requires
-count_document-from-requires c = record { count_ready = summing_ready c.loop-p.invariant.0 c.loop-p-test.true c.requires c.loop-p.invariant.1; remembers = c.loop-p.invariant.2 }
+count_document-from-requires c =
+    let i = c.loop-protocol.invariant in
+    rw i.2 (summing_ready i.0 c.loop-protocol-test.true c.requires i.1)
 
-pub loop-p-preserved : goal.loop-p-preserved
-loop-p-preserved c = (summing_on c.loop-p.invariant.0 c.loop-p-test.true c.count_document-from.ensures.document_counted c.count_document-from.auto.totals, c.count_document-from.auto.work ∙ c.loop-p.invariant.1, c.count_document-from.ensures.remembers_2)
+pub loop-protocol-preserved : goal.loop-protocol-preserved
+loop-protocol-preserved c =
+    let i = c.loop-protocol.invariant in
+    let counted = rw i.2 at c.count_document-from.ensures.document_counted in
+    (summing_on i.0 c.loop-protocol-test.true counted c.count_document-from.auto.totals, c.count_document-from.auto.work ∙ i.1, ap (λ (x : Bor (List ℕ)). x.now) c.count_document-from.ensures.names ∙ i.2)
 
 pub returns : goal.returns
-returns c = summing_end c.loop-p.invariant.0 (omega arith)
+returns c = summing_end c.loop-protocol.invariant.0 (omega arith)

@@ -1,15 +1,16 @@
-use Rattle.count_documents.proofs.PlaceLaws.{place_start, place_hit, place_miss, place_end}
+use mathlib.Core.Path.{subst, sym}
+use Prim.Native.Nat.{◌+◌}
 use native.Mathlib.Omega.{arith}
+use Rattle.count_documents.specs.Steps.{PlaceUpTo}
+use Rattle.count_documents.proofs.PlaceLaws.{place_hit, place_miss}
+use Rattle.count_documents.proofs.place_of.Goals.{then-known-name, else-known-name}
 use Rattle.count_documents.proofs.place_of.Goals as goal
 
-pub loop-i-init : goal.loop-i-init
-loop-i-init c = (omega arith, place_start c.args.names.now c.args.name)
-
-pub loop-i-preserved-then-names-i : goal.loop-i-preserved-then-names-i
-loop-i-preserved-then-names-i c = (omega arith, place_hit c.args.names.now c.args.name c.loop-i.i c.if-names-i.true)
-
 pub loop-i-preserved : goal.loop-i-preserved
-loop-i-preserved c = (omega arith, place_miss c.loop-i.invariant.1 c.if-names-i.false)
-
-pub returns : goal.returns
-returns c = place_end c.loop-i.invariant.1 (omega arith)
+loop-i-preserved c =
+    let names = c.args.names.now in
+    let l = c.loop-i in
+    elim c.if-known-name.branch [
+      | then-known-name w ↦ subst (PlaceUpTo names c.args.name (l.i + 1)) (sym w.found-is) (place_hit names c.args.name l.i w.if-known-name.true)
+      | else-known-name w ↦ subst (PlaceUpTo names c.args.name (l.i + 1)) (sym w.found-is) (place_miss names c.args.name l.i l.found l.invariant w.if-known-name.false)
+    ]

@@ -1,3 +1,7 @@
+use Rattle.refine_records.proofs.Exits.{exit}
+use mathlib.Core.Logic.{⊎_elim}
+use mathlib.Core.Path.{ap, ◌∙◌}
+use Rattle.std.specs.declared.result.Result.TheVariants.{Ok}
 use Rattle.expander_bindings.proofs.Stored.{given_outside, given_without, storable, given_stored, given_full}
 use Rattle.expander_bindings.proofs.is_given.Goals as goal
 
@@ -5,16 +9,13 @@ pub target_value-requires : goal.target_value-requires
 target_value-requires c = record { standing = c.requires.standing; env_at = c.requires.env_at }
 
 pub store-requires : goal.store-requires
-store-requires c = record { standing = (storable _ _ _ _ c.args.target c.args.name c.args.h c.requires.standing c.requires.handle_at c.target_value.ensures c.in-With.is).0; storable = (storable _ _ _ _ c.args.target c.args.name c.args.h c.requires.standing c.requires.handle_at c.target_value.ensures c.in-With.is).1 }
+store-requires c = record { standing = (storable _ _ _ _ c.args.target c.args.name c.args.h c.requires.standing c.requires.handle_at c.target_value.ensures (c.in_ok-target_value.was ∙ ap Ok c.in-With.is)).0; storable = (storable _ _ _ _ c.args.target c.args.name c.args.h c.requires.standing c.requires.handle_at c.target_value.ensures (c.in_ok-target_value.was ∙ ap Ok c.in-With.is)).1 }
 
 pub returns-in-Outside : goal.returns-in-Outside
-returns-in-Outside c = given_outside _ _ _ _ c.args.target c.args.name c.args.h c.requires.standing c.requires.handle_at c.target_value.ensures c.in-Outside.is
-
-pub returns-in-Without : goal.returns-in-Without
-returns-in-Without c = given_without _ _ _ _ c.args.target c.args.name c.args.h c.requires.standing c.requires.handle_at c.target_value.ensures c.in-Without.is
+returns-in-Outside c = ⊎_elim (λ q. given_outside _ _ _ _ c.args.target c.args.name c.args.h c.requires.standing c.requires.handle_at c.target_value.ensures (c.in_ok-target_value.was ∙ ap Ok q)) (λ q. given_without _ _ _ _ c.args.target c.args.name c.args.h c.requires.standing c.requires.handle_at c.target_value.ensures (c.in_ok-target_value.was ∙ ap Ok q)) c.in-Outside.is
 
 pub returns-in-With : goal.returns-in-With
-returns-in-With c = given_stored _ _ _ _ c.args.target c.args.name c.args.h c.requires.standing c.requires.handle_at c.target_value.ensures c.in-With.is c.store.ensures
+returns-in-With c = given_stored _ _ _ _ c.args.target c.args.name c.args.h c.requires.standing c.requires.handle_at c.target_value.ensures (c.in_ok-target_value.was ∙ ap Ok c.in-With.is) c.store.ensures
 
-pub returns-in-Refused : goal.returns-in-Refused
-returns-in-Refused c = given_full _ _ _ _ c.args.target c.args.name c.args.h c.requires.standing c.requires.handle_at c.target_value.ensures c.in-Refused.is
+pub returns-in_err-target_value : goal.returns-in_err-target_value
+returns-in_err-target_value c = rw (exit c.from_residual.ensures.1) (given_full _ _ _ _ c.args.target c.args.name c.args.h c.requires.standing c.requires.handle_at c.target_value.ensures c.in_err-target_value.was)

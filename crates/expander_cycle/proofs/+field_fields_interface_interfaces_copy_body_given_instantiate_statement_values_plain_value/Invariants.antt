@@ -46,31 +46,31 @@ abbrev pub decreases-values::value : goal.decreases-values::value
 decreases-values::value l = l.depth * 16 + 1
 
 abbrev pub invariant-contents::fields-loop-q : goal.invariant-contents::fields-loop-q
-invariant-contents::fields-loop-q l = Fielding l.root l.library l.dir l.initial.work l.lim l.initial.cur l.env l.new.0 l.row l.depth l.work l.cur l.h l.at
+invariant-contents::fields-loop-q l = Fielding l.sources.root.now l.sources.library.now l.sources.dir.now l.initial.journal.work.now l.lim l.initial.journal.counts l.env l.new.0 l.row l.depth l.journal.work.now l.journal.counts l.h l.at
 
 abbrev pub decreases-contents::fields-loop-q : goal.decreases-contents::fields-loop-q
-decreases-contents::fields-loop-q l = length (rows_of l.root l.library l.dir l.env.slot) - l.at
+decreases-contents::fields-loop-q l = length (rows_of l.sources.root.now l.sources.library.now l.sources.dir.now l.env.slot) - l.at
 
 abbrev pub invariant-contents::interfaces-loop-q : goal.invariant-contents::interfaces-loop-q
-invariant-contents::interfaces-loop-q l = Interfacing l.root l.library l.dir l.initial.work l.lim l.initial.cur l.env l.new.0 l.row l.depth l.work l.cur l.h l.at
+invariant-contents::interfaces-loop-q l = Interfacing l.sources.root.now l.sources.library.now l.sources.dir.now l.initial.journal.work.now l.lim l.initial.journal.counts l.env l.new.0 l.row l.depth l.journal.work.now l.journal.counts l.h l.at
 
 abbrev pub decreases-contents::interfaces-loop-q : goal.decreases-contents::interfaces-loop-q
-decreases-contents::interfaces-loop-q l = length (rows_of l.root l.library l.dir l.env.slot) - l.at
+decreases-contents::interfaces-loop-q l = length (rows_of l.sources.root.now l.sources.library.now l.sources.dir.now l.env.slot) - l.at
 
 abbrev pub invariant-instances::body-loop-q : goal.invariant-instances::body-loop-q
-invariant-instances::body-loop-q l = Bodying l.root l.library l.dir l.initial.work l.lim l.initial.cur l.env l.id.0 l.inner (rows l.part) l.depth l.work l.cur l.out l.place l.at
+invariant-instances::body-loop-q l = Bodying l.sources.root.now l.sources.library.now l.sources.dir.now l.initial.journal.work.now l.lim l.initial.journal.counts l.env l.id.0 l.inner (rows l.part) l.depth l.journal.work.now l.journal.counts l.root.id.0 l.root.place l.at
 
 abbrev pub decreases-instances::body-loop-q : goal.decreases-instances::body-loop-q
 decreases-instances::body-loop-q l = length (rows l.part) - l.at
 
 abbrev pub invariant-instances::values-loop-q : goal.invariant-instances::values-loop-q
-invariant-instances::values-loop-q l = (l.at ≤ length (rows l.part)) × Storing l.root l.library l.dir l.initial.work l.lim l.initial.cur l.env l.row l.slot l.proto.0 l.decl l.depth l.work l.cur l.h (l.decl + l.at) l.k
+invariant-instances::values-loop-q l = (l.at ≤ length (rows l.part)) × Storing l.sources.root.now l.sources.library.now l.sources.dir.now l.initial.journal.work.now l.lim l.initial.journal.counts l.env l.row l.slot l.proto.0 l.decl l.depth l.journal.work.now l.journal.counts l.h (l.decl + l.at) l.k
 
 abbrev pub decreases-instances::values-loop-q : goal.decreases-instances::values-loop-q
 decreases-instances::values-loop-q l = length (rows l.part) - l.at
 
 abbrev pub invariant-values::value-loop-q : goal.invariant-values::value-loop-q
-invariant-values::value-loop-q l = Valuing l.root l.library l.dir l.initial.work l.lim l.initial.cur l.env l.row l.depth l.work l.cur l.h l.at
+invariant-values::value-loop-q l = Valuing l.sources.root.now l.sources.library.now l.sources.dir.now l.initial.journal.work.now l.lim l.initial.journal.counts l.env l.row l.depth l.journal.work.now l.journal.counts l.h l.at
 
 abbrev pub decreases-values::value-loop-q : goal.decreases-values::value-loop-q
-decreases-values::value-loop-q l = length (rows_of l.root l.library l.dir l.env.slot) - l.at
+decreases-values::value-loop-q l = length (rows_of l.sources.root.now l.sources.library.now l.sources.dir.now l.env.slot) - l.at

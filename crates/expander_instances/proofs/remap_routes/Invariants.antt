@@ -1,8 +1,9 @@
+use mathlib.Core.Path.{◌≡◌}
 use Rattle.expander_instances.proofs.Routes.{Remapping}
 use Rattle.expander_instances.proofs.remap_routes.Given as goal
 
 abbrev pub invariant-loop-cur : goal.invariant-loop-cur
-invariant-loop-cur l = Remapping l.lim l.initial.work l.st l.env.scope l.work l.cur
+invariant-loop-cur l = (l.journal.counts ≡ l.initial.journal.counts) × Remapping l.lim l.initial.journal.work.now l.initial.journal.counts l.env.scope l.journal.work.now l.cur
 
 abbrev pub decreases-loop-cur : goal.decreases-loop-cur
 decreases-loop-cur l = l.cur

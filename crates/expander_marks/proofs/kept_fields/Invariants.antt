@@ -7,7 +7,7 @@ use Rattle.expander_marks.proofs.Runs.{Running}
 use Rattle.expander_marks.proofs.kept_fields.Given as goal
 
 abbrev pub invariant-loop-q : goal.invariant-loop-q
-invariant-loop-q l = Running (kept_fields (env_of l.work l.env).is_values (rows l.sheet)) (length (rows l.sheet)) l.from l.count l.at
+invariant-loop-q l = Running (kept_fields (env_of l.journal.work.now l.env).is_values (rows l.sheet)) (length (rows l.sheet)) l.from l.count l.at
 
 abbrev pub decreases-loop-q : goal.decreases-loop-q
 decreases-loop-q l = length (rows l.sheet) - l.at

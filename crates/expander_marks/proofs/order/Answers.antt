@@ -1,3 +1,6 @@
+use Rattle.refine_records.specs.Does.{number_given}
+use mathlib.Core.Path.{ap}
+use Rattle.refine_records.proofs.Exits.{exit}
 use Rattle.sheet_rows.specs.declared.part.Part.TheVariants.{BodyOrder}
 use Rattle.sheet_rows.specs.Rows.{rows}
 use Rattle.sheet_rows.proofs.RowLaws.{rows_length}
@@ -28,17 +31,17 @@ overflow_add-at-in-loop-q c = omega (arith, rows_length c.args.sheet.now, (stand
 pub step-next-requires : goal.step-next-requires
 step-next-requires c = let s = stands BodyOrder (rows c.args.sheet.now) c.loop-q.at c.seek.ensures c.in-At.is in record { mark_at = mark_of s; at_mark = order_positions _ _ _ _ _ _ c.loop-q.invariant s }
 
-pub keep-a-requires : goal.keep-a-requires
-keep-a-requires c = record { standing = c.loop-q.invariant.standing; keepable = rw c.order.ensures (order_keepable _ _ _ _ c.loop-q.invariant.handle) }
+pub keep-requires : goal.keep-requires
+keep-requires c = record { standing = c.loop-q.invariant.standing; keepable = rw c.order.ensures (order_keepable _ _ _ _ c.loop-q.invariant.handle) }
 
-pub returns-in_default-a : goal.returns-in_default-a
-returns-in_default-a c = order_stop _ _ _ _ _ _ c.loop-q.invariant (stands BodyOrder (rows c.args.sheet.now) c.loop-q.at c.seek.ensures c.in-At.is) c.step-next.ensures c.take-x.ensures c.if-x.true c.row_at.ensures (rw c.order.ensures at c.keep-a.ensures) c.in_default-a.is
+pub returns-in_err-h : goal.returns-in_err-h
+returns-in_err-h c = rw (exit c.from_residual.ensures.1) (rw c.in_err-h.was at (order_stop _ _ _ _ _ _ c.loop-q.invariant (stands BodyOrder (rows c.args.sheet.now) c.loop-q.at c.seek.ensures c.in-At.is) c.step-next.ensures c.take-x.ensures c.if-x.true c.row_at.ensures (rw c.order.ensures at c.keep.ensures) (ap (number_given _) c.in_err-h.was)))
 
 pub loop-q-smaller-then-x : goal.loop-q-smaller-then-x
 loop-q-smaller-then-x c = let s = stands BodyOrder (rows c.args.sheet.now) c.loop-q.at c.seek.ensures c.in-At.is in omega (arith, s.from, s.below)
 
 pub loop-q-preserved-then-x : goal.loop-q-preserved-then-x
-loop-q-preserved-then-x c = order_more _ _ _ _ _ _ c.loop-q.invariant (stands BodyOrder (rows c.args.sheet.now) c.loop-q.at c.seek.ensures c.in-At.is) c.step-next.ensures c.take-x.ensures c.if-x.true c.row_at.ensures (rw c.order.ensures at c.keep-a.ensures) c.in-Done.is
+loop-q-preserved-then-x c = order_more _ _ _ _ _ _ c.loop-q.invariant (stands BodyOrder (rows c.args.sheet.now) c.loop-q.at c.seek.ensures c.in-At.is) c.step-next.ensures c.take-x.ensures c.if-x.true c.row_at.ensures (rw c.order.ensures at c.keep.ensures) (ap (number_given _) c.in_ok-h.was)
 
 pub loop-q-smaller : goal.loop-q-smaller
 loop-q-smaller c = let s = stands BodyOrder (rows c.args.sheet.now) c.loop-q.at c.seek.ensures c.in-At.is in omega (arith, s.from, s.below)

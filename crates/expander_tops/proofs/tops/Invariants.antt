@@ -5,7 +5,7 @@ use Rattle.expander_contracts.proofs.TopLaws.{Topping}
 use Rattle.expander_tops.proofs.tops.Given as goal
 
 abbrev pub invariant-loop-q : goal.invariant-loop-q
-invariant-loop-q l = Topping l.root l.library l.dir l.initial.work l.lim l.initial.cur l.env l.row l.depth l.work l.cur l.h l.at
+invariant-loop-q l = Topping l.sources.root.now l.sources.library.now l.sources.dir.now l.initial.journal.work.now l.lim l.initial.journal.counts l.env l.row l.depth l.journal.work.now l.journal.counts l.h l.at
 
 abbrev pub decreases-loop-q : goal.decreases-loop-q
-decreases-loop-q l = length (rows l.root) - l.at
+decreases-loop-q l = length (rows l.sources.root.now) - l.at

@@ -1,4 +1,3 @@
-use mathlib.Core.Path.{sym}
 use lib.ListN.{drop}
 use Rattle.sheet_rows.specs.Rows.{rows}
 use Rattle.sheet_rows.proofs.RowLaws.{rows_count}
@@ -9,22 +8,22 @@ use native.Mathlib.Omega.{arith}
 use Rattle.graph_walk.proofs.visit.Goals as goal
 
 pub loop-at-init : goal.loop-at-init
-loop-at-init c = (sym (rows_count c.args.sheet.now), scan_start c.args.nodes c.args.tail c.args.work.now (ids_from (drop c.args.from (rows c.args.sheet.now))))
+loop-at-init c = scan_start c.args.nodes c.args.tail c.args.work.now (ids_from (drop c.args.from (rows c.args.sheet.now)))
 
 pub mention-end-requires : goal.mention-end-requires
-mention-end-requires c = scan_ready c.loop-at.invariant.1 (ids_id (rows c.args.sheet.now) c.loop-at.at (omega arith) c.row_at-r.ensures c.if-r-eq9.true) c.requires
+mention-end-requires c = scan_ready c.loop-at.invariant (ids_id (rows c.args.sheet.now) c.loop-at.at (omega (arith, rows_count c.args.sheet.now)) c.row_at-r.ensures c.if-r-eq9.true) c.requires
 
 pub loop-at-preserved-then-r-eq9 : goal.loop-at-preserved-then-r-eq9
-loop-at-preserved-then-r-eq9 c = (c.loop-at.invariant.0, scan_more c.loop-at.invariant.1 (ids_id (rows c.args.sheet.now) c.loop-at.at (omega arith) c.row_at-r.ensures c.if-r-eq9.true) c.mention-end.ensures c.mention-end.auto.work)
+loop-at-preserved-then-r-eq9 c = (scan_more c.loop-at.invariant (ids_id (rows c.args.sheet.now) c.loop-at.at (omega (arith, rows_count c.args.sheet.now)) c.row_at-r.ensures c.if-r-eq9.true) c.mention-end.ensures c.mention-end.auto.work)
 
 pub returns-then-r-lt3 : goal.returns-then-r-lt3
-returns-then-r-lt3 c = scan_end c.loop-at.invariant.1 (ids_low (rows c.args.sheet.now) c.loop-at.at (omega arith) c.row_at-r.ensures c.if-r-eq9.false c.if-r-lt3.true)
+returns-then-r-lt3 c = scan_end c.loop-at.invariant (ids_low (rows c.args.sheet.now) c.loop-at.at (omega (arith, rows_count c.args.sheet.now)) c.row_at-r.ensures c.if-r-eq9.false c.if-r-lt3.true)
 
 pub returns-then-r-gt4 : goal.returns-then-r-gt4
-returns-then-r-gt4 c = scan_end c.loop-at.invariant.1 (ids_high (rows c.args.sheet.now) c.loop-at.at (omega arith) c.row_at-r.ensures c.if-r-eq9.false c.if-r-gt4.true)
+returns-then-r-gt4 c = scan_end c.loop-at.invariant (ids_high (rows c.args.sheet.now) c.loop-at.at (omega (arith, rows_count c.args.sheet.now)) c.row_at-r.ensures c.if-r-eq9.false c.if-r-gt4.true)
 
 pub loop-at-preserved : goal.loop-at-preserved
-loop-at-preserved c = (c.loop-at.invariant.0, scan_same c.loop-at.invariant.1 (ids_pass (rows c.args.sheet.now) c.loop-at.at (omega arith) c.row_at-r.ensures c.if-r-eq9.false (omega (arith, c.if-r-lt3.false)) (omega (arith, c.if-r-gt4.false))))
+loop-at-preserved c = (scan_same c.loop-at.invariant (ids_pass (rows c.args.sheet.now) c.loop-at.at (omega (arith, rows_count c.args.sheet.now)) c.row_at-r.ensures c.if-r-eq9.false (omega (arith, c.if-r-lt3.false)) (omega (arith, c.if-r-gt4.false))))
 
 pub returns : goal.returns
-returns c = scan_end c.loop-at.invariant.1 (ids_end (rows c.args.sheet.now) c.loop-at.at (omega arith))
+returns c = scan_end c.loop-at.invariant (ids_end (rows c.args.sheet.now) c.loop-at.at (omega (arith, rows_count c.args.sheet.now)))

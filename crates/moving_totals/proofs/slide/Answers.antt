@@ -1,7 +1,7 @@
 use Rattle.moving_definition.proofs.SlideLaws.{slide_start, slide_fits, slide_holds, slide_up, slide_on, slide_end}
 use native.Mathlib.Omega.{arith}
 use Rattle.moving_totals.proofs.slide.Goals as goal
-use Rattle.moving_totals.proofs.slide.Goals.{then-largest-total, else-largest-total}
+use Rattle.moving_totals.proofs.slide.Goals.{then-peak-total, else-peak-total}
 
 pub sum_first-rest-requires : goal.sum_first-rest-requires
 sum_first-rest-requires c = record { few = c.requires.few; upto = omega (arith, c.requires.all); small = c.requires.small }
@@ -41,7 +41,7 @@ returns c = slide_end c.loop-p.invariant c.loop-p-test.false
 
 pub loop-p-preserved : goal.loop-p-preserved
 loop-p-preserved c =
-    elim c.if-largest-total.branch [
-      | then-largest-total w ↦ rw (w.largest-is, w.place-is) (slide_up c.loop-p.invariant c.loop-p-test.true c.requires.fits w.if-largest-total.true)
-      | else-largest-total w ↦ rw (w.largest-is, w.place-is) (slide_on c.loop-p.invariant c.loop-p-test.true c.requires.fits w.if-largest-total.false)
+    elim c.if-peak-total.branch [
+      | then-peak-total w ↦ rw w.peak-is (slide_up c.loop-p.invariant c.loop-p-test.true c.requires.fits w.if-peak-total.true)
+      | else-peak-total w ↦ rw w.peak-is (slide_on c.loop-p.invariant c.loop-p-test.true c.requires.fits w.if-peak-total.false)
     ]

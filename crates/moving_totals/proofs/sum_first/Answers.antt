@@ -1,21 +1,17 @@
-use Rattle.moving_definition.proofs.SlideLaws.{summing_start, summing_fits, summing_again, summing_end}
-use native.Mathlib.Omega.{arith}
+use Rattle.std.proofs.Common.{rules, ◌≡◌, ◌∙◌, ◌<◌, sym, arith, take, sum}
+use Rattle.std.proofs.iter.runs.Made.{chains}
+use lib.Seq.{length-take-le}
+use Rattle.moving_definition.proofs.SumLaws.{sum_all}
+use Rattle.moving_definition.proofs.SlideLaws.{first_fits}
 use Rattle.moving_totals.proofs.sum_first.Goals as goal
 
-pub loop-i-init : goal.loop-i-init
-loop-i-init c = summing_start c.requires
+pub slice_bounds-iter-end : goal.slice_bounds-iter-end
+slice_bounds-iter-end c = sym (length-take-le c.args.n c.args.counts.now c.requires.upto)
 
-pub offset_bounds-counts-i : goal.offset_bounds-counts-i
-offset_bounds-counts-i c = omega (arith, c.requires.upto, c.loop-i.invariant.upto)
-
-pub bounds-counts-i : goal.bounds-counts-i
-bounds-counts-i c = omega (arith, c.requires.upto, c.loop-i.invariant.upto)
-
-pub overflow_add-total : goal.overflow_add-total
-overflow_add-total c = omega (arith, summing_fits c.requires c.loop-i.invariant c.loop-i-test.true)
-
-pub loop-i-preserved : goal.loop-i-preserved
-loop-i-preserved c = summing_again c.requires c.loop-i.invariant c.loop-i-test.true
+pub sum-requires-clause-fits : goal.sum-requires-clause-fits
+sum-requires-clause-fits c =
+    let fits : sum (take c.args.n c.args.counts.now) < 18446744073709551616 = omega (arith, sum_all (take c.args.n c.args.counts.now), first_fits c.requires) in
+    search (rules, chains)
 
 pub returns : goal.returns
-returns c = summing_end c.requires c.loop-i.invariant c.loop-i-test.false
+returns c = let e : c.sum.result ≡ sum (take c.args.n c.args.counts.now) = search (rules, chains) in e ∙ sum_all (take c.args.n c.args.counts.now)

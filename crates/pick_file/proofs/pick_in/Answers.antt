@@ -1,10 +1,10 @@
 use Prim.Native.Nat.{◌+◌}
-use Rattle.sheet_rows.specs.declared.part.Part.TheVariants.{Tops}
+use Rattle.sheet_rows.specs.declared.part.Part.TheVariants.{Protos, Tops}
 use Rattle.sheet_rows.specs.Rows.{rows}
 use Rattle.sheet_rows.specs.Parse.{optional}
 use Rattle.sheet_rows.proofs.RowLaws.{rows_count, rows_length}
 use Rattle.sheet_walks.proofs.WalkLaws.{stands, missing}
-use Rattle.pick_file.proofs.FileLaws.{top_none, top_at, pick_none, pick_past, pick_first, pick_named}
+use Rattle.pick_file.proofs.FileLaws.{few, top_none, top_at, pick_none, pick_past, pick_first, pick_named}
 use native.Mathlib.Omega.{arith}
 use Rattle.pick_file.proofs.pick_in.Goals as goal
 
@@ -23,5 +23,8 @@ returns-then-fragment-eq-NONE c = let R = rows c.args.sheet.now in pick_first R 
 pub overflow_add-top-2 : goal.overflow_add-top-2
 overflow_add-top-2 c = omega (arith, (stands Tops (rows c.args.sheet.now) _ c.seek.ensures c.in-At.is).below, rows_length c.args.sheet.now)
 
+pub stride-stride-requires : goal.stride-stride-requires
+stride-stride-requires c = omega (arith, c.count-count.ensures, few Protos (rows c.args.sheet.now) (c.args.document + 1), rows_length c.args.sheet.now, c.requires)
+
 pub returns : goal.returns
-returns c = let R = rows c.args.sheet.now in pick_named R c.args.document (c.in-At.top + 1) (top_at R c.args.document (stands Tops R (c.args.document + 1) c.seek.ensures c.in-At.is)) c.args.fragment c.first_named.result c.if-fragment-eq-NONE.false (rw c.index_protos-protos.ensures.0 at c.first_named.ensures)
+returns c = let R = rows c.args.sheet.now in pick_named R c.args.document (c.in-At.top + 1) (top_at R c.args.document (stands Tops R (c.args.document + 1) c.seek.ensures c.in-At.is)) c.args.fragment c.first_named.result c.if-fragment-eq-NONE.false c.first_named.ensures

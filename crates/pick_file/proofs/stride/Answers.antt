@@ -2,12 +2,6 @@ use native.Mathlib.Nat.{div-le_self, lt-div-mul-add}
 use native.Mathlib.Omega.{arith}
 use Rattle.pick_file.proofs.stride.Goals as goal
 
-pub returns-then-count-room : goal.returns-then-count-room
-returns-then-count-room c = λ h. omega arith
-
-pub returns-then-room-eq0 : goal.returns-then-room-eq0
-returns-then-room-eq0 c = λ h. absurd (omega arith)
-
 pub overflow_add-result : goal.overflow_add-result
 overflow_add-result c = omega (arith, div-le_self c.args.count c.args.room)
 

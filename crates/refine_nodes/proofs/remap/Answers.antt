@@ -9,7 +9,7 @@ pub returns-in_default : goal.returns-in_default
 returns-in_default c = end_nothing _ _ _ _ _ c.requires.standing c.if-id-eq-NONE.false _ c.look.ensures c.in_default.is
 
 pub word-requires : goal.word-requires
-word-requires c = (end_room _ _ _ _ _ c.requires.standing c.if-id-eq-NONE.false _ c.look.ensures _ c.in-At.is, omega arith)
+word-requires c = (end_room _ _ _ _ _ c.requires.standing c.if-id-eq-NONE.false _ c.look.ensures _ c.in-Some.is, omega arith)
 
 pub returns : goal.returns
-returns c = end_here _ _ _ _ _ c.requires.standing c.if-id-eq-NONE.false _ c.look.ensures _ c.in-At.is _ c.word.ensures
+returns c = end_here _ _ _ _ _ c.requires.standing c.if-id-eq-NONE.false _ c.look.ensures _ c.in-Some.is _ c.word.ensures

@@ -1,4 +1,4 @@
-use mathlib.Core.Path.{◌∙◌}
+use mathlib.Core.Path.{sym, ◌∙◌}
 use Rattle.refine_values.proofs.Walking.{search_start, search_none, search_room, search_here, search_next, search_findable, search_first, search_found, search_less, search_past}
 use native.Mathlib.Omega.{arith}
 use Rattle.refine_values.proofs.value_of.Goals as goal
@@ -33,8 +33,8 @@ overflow_mul-lim c = omega (arith, c.requires.standing.ready.rows)
 pub find_below-x-requires : goal.find_below-x-requires
 find_below-x-requires c = record { findable = search_findable c.requires.standing c.loop-cur.invariant c.loop-cur-test.true; top_le_c = c.loop-cur.invariant.handle.low }
 
-pub returns-in_default : goal.returns-in_default
-returns-in_default c = search_found c.requires.standing c.loop-cur.invariant c.loop-cur-test.true _ c.word-f.ensures _ c.find_below-x.ensures c.in_default.is
+pub returns-then-is_some : goal.returns-then-is_some
+returns-then-is_some c = search_found c.requires.standing c.loop-cur.invariant c.loop-cur-test.true _ c.word-f.ensures _ c.find_below-x.ensures (sym c.is_some.ensures ∙ c.if-is_some.true)
 
 pub word-requires-in-loop-cur : goal.word-requires-in-loop-cur
 word-requires-in-loop-cur c = (search_first c.requires.standing c.loop-cur.invariant c.loop-cur-test.true _ c.word-f.ensures _ c.wide.ensures.same, omega arith)
@@ -43,7 +43,7 @@ pub loop-cur-smaller : goal.loop-cur-smaller
 loop-cur-smaller c = search_less c.requires.standing c.loop-cur.invariant c.loop-cur-test.true _ c.word-f.ensures _ c.wide.ensures.same _ (c.wide-cur-in-loop-cur.ensures.same ∙ c.word-in-loop-cur.ensures)
 
 pub loop-cur-preserved : goal.loop-cur-preserved
-loop-cur-preserved c = search_past c.requires.standing c.loop-cur.invariant c.loop-cur-test.true _ c.word-f.ensures _ c.wide.ensures.same _ (c.wide-cur-in-loop-cur.ensures.same ∙ c.word-in-loop-cur.ensures) _ c.find_below-x.ensures c.in-Nothing.is
+loop-cur-preserved c = search_past c.requires.standing c.loop-cur.invariant c.loop-cur-test.true _ c.word-f.ensures _ c.wide.ensures.same _ (c.wide-cur-in-loop-cur.ensures.same ∙ c.word-in-loop-cur.ensures) _ c.find_below-x.ensures (sym c.is_some.ensures ∙ c.if-is_some.false)
 
 pub returns : goal.returns
 returns c = search_none c.requires.standing c.loop-cur.invariant c.loop-cur-test.false

@@ -1,5 +1,4 @@
 use mathlib.Core.Path.{◌≡◌}
-use Prim.Native.Nat.{◌≤◌, ◌-◌}
 use lib.ListN.{length, drop}
 use Rattle.sheet_rows.specs.Rows.{rows}
 use Rattle.sheet_check.specs.Grammar.{run, checked}
@@ -7,7 +6,4 @@ use Rattle.sheet_check.proofs.check.Given as goal
 
 abbrev pub invariant-loop-at : goal.invariant-loop-at
 invariant-loop-at l =
-    (l.count ≡ length (rows l.sheet)) × (l.at ≤ l.count) × (run l.form l.s l.at (drop l.at (rows l.sheet)) ≡ checked l.form (rows l.sheet))
-
-abbrev pub decreases-loop-at : goal.decreases-loop-at
-decreases-loop-at l = l.count - l.at
+    (l.count ≡ length (rows l.sheet)) × (run l.form l.s l.at (drop l.at (rows l.sheet)) ≡ checked l.form (rows l.sheet))

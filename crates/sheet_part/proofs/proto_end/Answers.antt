@@ -1,18 +1,18 @@
 use mathlib.Core.Path.{sym, ◌∙◌}
+use native.Mathlib.Omega.{arith}
 use Rattle.sheet_rows.specs.Rows.{rows}
 use Rattle.sheet_rows.proofs.RowLaws.{rows_count}
 use Rattle.sheet_part.proofs.PartLaws.{cut_at, cut_end}
-use native.Mathlib.Omega.{arith}
 use Rattle.sheet_part.proofs.proto_end.Goals as goal
 
-pub loop-at-init : goal.loop-at-init
-loop-at-init c = (sym (rows_count c.args.sheet.now), omega arith, λ h. h)
-
 pub returns-then-not-passes : goal.returns-then-not-passes
-returns-then-not-passes c = record { after = c.loop-at.invariant.1; within = c.loop-at.invariant.2; cut = cut_at (rows c.args.sheet.now) c.loop-at.at (omega arith) c.row_at-kind.ensures c.if-kind-ne5.true (sym c.passes.ensures ∙ c.if-not-passes.true) }
-
-pub loop-at-preserved : goal.loop-at-preserved
-loop-at-preserved c = (c.loop-at.invariant.0, omega arith, λ h. omega arith)
+returns-then-not-passes c =
+    let s = c.args.sheet.now in
+    let n = rows_count s in
+    record { after = c.loop-at.auto.at; within = λ h. omega arith; cut = cut_at (rows s) c.loop-at.at (omega arith) c.row_at-kind.ensures (λ e. c.if-kind.true (e ∙ sym c.kind.ensures)) (sym c.passes.ensures ∙ c.if-not-passes.true) }
 
 pub returns : goal.returns
-returns c = record { after = c.loop-at.invariant.1; within = c.loop-at.invariant.2; cut = cut_end (rows c.args.sheet.now) c.loop-at.at (omega arith) }
+returns c =
+    let s = c.args.sheet.now in
+    let n = rows_count s in
+    record { after = omega arith; within = λ h. omega arith; cut = cut_end (rows s) _ (omega arith) }

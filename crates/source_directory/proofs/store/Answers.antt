@@ -16,4 +16,4 @@ pub bounds-dir-j : goal.bounds-dir-j
 bounds-dir-j c = simp length-set (omega arith)
 
 pub returns : goal.returns
-returns c = let z : c.loop-j.j ≡ 64 = omega (arith, c.loop-j-test.false, c.loop-j.invariant.2) in (simp length-set at c.loop-j.invariant.1, rw z at c.loop-j.invariant.3)
+returns c = let z : c.loop-j.j ≡ 64 = omega (arith, c.loop-j-test.false, c.loop-j.auto.j-end) in (simp length-set at c.loop-j.invariant.1, rw z at c.loop-j.invariant.2)

@@ -6,7 +6,4 @@ use Rattle.source_directory.specs.Directory.{size, TableStored}
 use Rattle.source_directory.proofs.store.Given as goal
 
 abbrev pub invariant-loop-j : goal.invariant-loop-j
-invariant-loop-j l = (size ≤ length l.dir) × (length l.dir ≡ length l.initial.dir) × (l.j ≤ 64) × TableStored (rows l.library) l.table l.dir l.j
-
-abbrev pub decreases-loop-j : goal.decreases-loop-j
-decreases-loop-j l = 64 - l.j
+invariant-loop-j l = (size ≤ length l.dir) × (length l.dir ≡ length l.initial.dir) × TableStored (rows l.library) l.table l.dir l.j

@@ -1,11 +1,9 @@
-use Prim.Native.Nat.{◌-◌}
-use lib.ListN.{length}
+use Rattle.sheet_rows.specs.declared.part.Part.TheVariants.{Nodes}
 use Rattle.sheet_rows.specs.Rows.{rows}
+use Rattle.sheet_lookup.specs.Lookup.{sheet_of}
+use Rattle.sheet_walks.proofs.OverLaws.{Over}
 use Rattle.source_names.specs.Names.{TablesGrown}
 use Rattle.source_names.proofs.build.Given as goal
 
 abbrev pub invariant-loop-node : goal.invariant-loop-node
-invariant-loop-node l = TablesGrown l.root l.library l.free l.at l.many l.place l.end l.next l.initial.work l.work
-
-abbrev pub decreases-loop-node : goal.decreases-loop-node
-decreases-loop-node l = length (rows l.sheet) - l.from
+invariant-loop-node l = Over Nodes (rows (sheet_of l.root l.library l.number)) l.node-iterator × TablesGrown l.root l.library l.free l.at l.many l.place l.end l.next l.initial.work l.work

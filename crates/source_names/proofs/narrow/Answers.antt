@@ -4,9 +4,3 @@ use Rattle.source_names.proofs.narrow.Goals as goal
 
 pub overflow_add-node : goal.overflow_add-node
 overflow_add-node c = omega (arith, c.requires, rows_length c.args.sheet.now)
-
-pub returns-then-not-passes : goal.returns-then-not-passes
-returns-then-not-passes c = tt
-
-pub returns : goal.returns
-returns c = tt

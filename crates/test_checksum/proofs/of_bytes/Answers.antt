@@ -1,15 +1,12 @@
-use Prim.Native.Nat.{◌≤◌, ◌<◌}
-use mathlib.Core.Path.{◌∙◌, refl, sym}
-use lib.ListN.{length}
-use Rattle.test_checksum.proofs.SumLaws.{turn, end}
-use native.Mathlib.Omega.{arith}
+use Rattle.std.proofs.Common.{rules, ◌≡◌, refl}
+use Rattle.std.proofs.lemmas.Fn.{fold_over, fronts}
+use Rattle.std.proofs.lemmas.Iterator.{YieldsList-from_slice}
+use Rattle.test_checksum.specs.Sum.{with, checksum_of}
+use Rattle.test_checksum.proofs.SumLaws.{sum_more}
 use Rattle.test_checksum.proofs.of_bytes.Goals as goal
 
-pub loop-i-init : goal.loop-i-init
-loop-i-init c = (omega arith, refl)
-
-pub loop-i-preserved : goal.loop-i-preserved
-loop-i-preserved c = let h : c.loop-i.i < length c.args.bytes.now = omega arith in (omega arith, rw (c.with-total.ensures, c.wide.ensures) (sym (turn _ _ _ h) ∙ c.loop-i.invariant.1))
-
 pub returns : goal.returns
-returns c = let h : length c.args.bytes.now ≤ c.loop-i.i = omega arith in sym (end _ _ _ c.loop-i.invariant.0 h) ∙ c.loop-i.invariant.1
+returns c =
+    fold_over fronts (λ y. y.now) _ (λ l s. s ≡ checksum_of c.args.before l) _
+    (λ l s x t q j k. let e : t ≡ with s x.now = search rules in (sum_more c.args.before l s t x.now j e, search rules))
+    c.iter.result c.args.bytes.now c.args.before c.fold.result (YieldsList-from_slice {s = c.iter.result} c.args.bytes.now c.iter.ensures.rest).runs refl c.fold.ensures.ran

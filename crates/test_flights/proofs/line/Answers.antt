@@ -1,7 +1,6 @@
+use mathlib.Core.Path.{ap}
+use Rattle.test_flights.specs.Flights.{number_line}
 use Rattle.test_flights.proofs.line.Goals as goal
 
-pub returns-in-Expanded : goal.returns-in-Expanded
-returns-in-Expanded c = rw c.in-Expanded.is
-
-pub returns-in-Refused : goal.returns-in-Refused
-returns-in-Refused c = rw c.in-Refused.is
+pub returns : goal.returns
+returns c = ap number_line c.of-n.ensures

@@ -7,16 +7,16 @@ use native.Mathlib.Omega.{arith}
 use Rattle.text_export.proofs.write_lines.Goals as goal
 
 pub returns-then-answer-lt3 : goal.returns-then-answer-lt3
-returns-then-answer-lt3 c = lines_short 14 c.args.lines.now c.args.answer.now (write_counted c.args.words.now c.args.lines.now) c.if-answer-lt3.true
+returns-then-answer-lt3 c = rw c.from-uncounted.ensures (lines_short 14 c.args.lines.now c.args.answer.now (write_counted c.args.words.now c.args.lines.now) c.if-answer-lt3.true)
 
-pub returns-then-words-gt48258059 : goal.returns-then-words-gt48258059
-returns-then-words-gt48258059 c = lines_told 14 c.args.lines.now c.args.answer.now (write_counted c.args.words.now c.args.lines.now) c.if-answer-lt3.false (refused 14 0) (write_many c.args.words.now c.args.lines.now c.if-words-gt48258059.true) c.put_words.ensures
+pub returns-then-words-gt-MOST_ROWS : goal.returns-then-words-gt-MOST_ROWS
+returns-then-words-gt-MOST_ROWS c = lines_told 14 c.args.lines.now c.args.answer.now (write_counted c.args.words.now c.args.lines.now) c.if-answer-lt3.false (refused 14 0) (write_many c.args.words.now c.args.lines.now c.if-words-gt-MOST_ROWS.true) (rw c.from-uncounted.ensures at c.put_words.ensures)
 
 pub overflow_cast-bytes : goal.overflow_cast-bytes
-overflow_cast-bytes c = omega (arith, rw c.in-Bytes.is at (write_low c.args.words.now c.args.lines.now c.write_lines.ensures).count, c.if-words-gt48258059.false)
+overflow_cast-bytes c = omega (arith, rw c.in-Ok.is at (write_low c.args.words.now c.args.lines.now c.write_lines.ensures).count, c.if-words-gt-MOST_ROWS.false)
 
-pub returns-in-Bytes : goal.returns-in-Bytes
-returns-in-Bytes c = lines_told 14 c.args.lines.now c.args.answer.now (write_counted c.args.words.now c.args.lines.now) c.if-answer-lt3.false (write_answer c.write_lines.result) (write_counted_lem c.args.words.now c.args.lines.now c.if-words-gt48258059.false ∙ c.write_lines.ensures) (rw c.in-Bytes.is c.put_words-in-Bytes.ensures)
+pub returns-in-Ok : goal.returns-in-Ok
+returns-in-Ok c = lines_told 14 c.args.lines.now c.args.answer.now (write_counted c.args.words.now c.args.lines.now) c.if-answer-lt3.false (write_answer c.write_lines.result) (write_counted_lem c.args.words.now c.args.lines.now c.if-words-gt-MOST_ROWS.false ∙ c.write_lines.ensures) (rw c.in-Ok.is c.put_words-in-Ok.ensures)
 
-pub returns-in-Refused : goal.returns-in-Refused
-returns-in-Refused c = lines_told 14 c.args.lines.now c.args.answer.now (write_counted c.args.words.now c.args.lines.now) c.if-answer-lt3.false (write_answer c.write_lines.result) (write_counted_lem c.args.words.now c.args.lines.now c.if-words-gt48258059.false ∙ c.write_lines.ensures) (rw c.in-Refused.is c.put_words-in-Refused.ensures)
+pub returns-in-Err : goal.returns-in-Err
+returns-in-Err c = lines_told 14 c.args.lines.now c.args.answer.now (write_counted c.args.words.now c.args.lines.now) c.if-answer-lt3.false (write_answer c.write_lines.result) (write_counted_lem c.args.words.now c.args.lines.now c.if-words-gt-MOST_ROWS.false ∙ c.write_lines.ensures) (rw c.in-Err.is (rw c.from.ensures at c.put_words-in-Err.ensures))

@@ -1,19 +1,20 @@
+use Rattle.std.proofs.Common.{◌≡◌, ◌+◌, ◌*◌, ◌-◌, sym, ap, ◌∙◌, arith}
 use borrow.Author.Tests.{le-leb, lt-leb}
+use Rattle.text_lines.specs.declared.Field.TheVariants.{Number}
 use Rattle.text_lines.specs.Read.{with_digit}
 use Rattle.text_lines.proofs.with_digit.Goals as goal
 
-pub returns-then-b-lt48 : goal.returns-then-b-lt48
+pub returns-then-not-is_ascii_digit : goal.returns-then-not-is_ascii_digit
 unfolding with_digit
-returns-then-b-lt48 c = rw (lt-leb 48 c.args.b c.if-b-lt48.true)
+returns-then-not-is_ascii_digit c = rw (sym c.is_ascii_digit.ensures.value ∙ c.if-not-is_ascii_digit.true)
 
-pub returns-then-b-gt57 : goal.returns-then-b-gt57
+pub returns-in-Ok : goal.returns-in-Ok
 unfolding with_digit
-returns-then-b-gt57 c = rw (le-leb 48 c.args.b c.if-b-lt48.false, lt-leb c.args.b 57 c.if-b-gt57.true)
+returns-in-Ok c =
+    let e : c.in-Ok.m ≡ 10 * c.args.n + (c.args.b - 48) = omega (arith, c.in-Ok.ensures) in
+    rw (sym c.is_ascii_digit.ensures.value ∙ c.if-not-is_ascii_digit.false, le-leb (10 * c.args.n + (c.args.b - 48)) 4294967295 (omega (arith, c.in-Ok.ensures))) (ap Number e)
 
-pub returns-then-m-le4294967295 : goal.returns-then-m-le4294967295
+pub returns-in-Err : goal.returns-in-Err
 unfolding with_digit
-returns-then-m-le4294967295 c = rw (le-leb 48 c.args.b c.if-b-lt48.false, le-leb c.args.b 57 c.if-b-gt57.false, le-leb _ _ c.if-m-le4294967295.true)
-
-pub returns-else-m-le4294967295 : goal.returns-else-m-le4294967295
-unfolding with_digit
-returns-else-m-le4294967295 c = rw (le-leb 48 c.args.b c.if-b-lt48.false, le-leb c.args.b 57 c.if-b-gt57.false, lt-leb _ _ c.if-m-le4294967295.false)
+returns-in-Err c =
+    rw (sym c.is_ascii_digit.ensures.value ∙ c.if-not-is_ascii_digit.false, lt-leb (10 * c.args.n + (c.args.b - 48)) 4294967295 (omega (arith, c.in-Err.ensures)))

@@ -1,15 +1,8 @@
 use native.Mathlib.Omega.{arith}
 use Rattle.writer_lists.specs.Lists.{list_rows}
-use Rattle.writer_lists.proofs.Walks.{sum_begin}
 use Rattle.writer_lists.proofs.Chains.{count_room, count_again, count_stop}
 use Rattle.writer_lists.proofs.Records.{record_count, record_few}
 use Rattle.writer_lists.proofs.count_list.Goals as goal
-
-pub loop-cur-init : goal.loop-cur-init
-loop-cur-init c = sum_begin _
-
-pub ids_of-requires : goal.ids_of-requires
-ids_of-requires c = omega (arith, c.loop-cur.invariant.low, c.requires.h_in_bounds)
 
 pub count_ids-requires : goal.count_ids-requires
 unfolding list_rows
@@ -22,12 +15,6 @@ overflow_add-n c = omega (arith, record_count _ _ c.args.kind c.ids_of.ensures c
 pub overflow_add-n-in-loop-cur : goal.overflow_add-n-in-loop-cur
 unfolding list_rows
 overflow_add-n-in-loop-cur c = omega (arith, record_count _ _ c.args.kind c.ids_of.ensures c.count_ids.ensures, count_room _ _ c.loop-cur.invariant c.loop-cur-test.true, c.requires.h_len_bound)
-
-pub before-cur-requires : goal.before-cur-requires
-before-cur-requires c = omega (arith, c.loop-cur.invariant.low, c.requires.h_in_bounds)
-
-pub loop-cur-smaller : goal.loop-cur-smaller
-loop-cur-smaller c = omega (arith, c.before-cur.ensures.low)
 
 pub loop-cur-preserved : goal.loop-cur-preserved
 loop-cur-preserved c = count_again _ _ c.loop-cur.invariant c.loop-cur-test.true c.before-cur.ensures (record_count _ _ c.args.kind c.ids_of.ensures c.count_ids.ensures)

@@ -1,11 +1,5 @@
-use Rattle.writer_lists.proofs.Records.{field_is, field_nodes, field_payload}
+use Rattle.writer_lists.proofs.Records.{field_nodes}
 use Rattle.writer_lists.proofs.field.Goals as goal
-
-pub returns-then-word-eq1 : goal.returns-then-word-eq1
-returns-then-word-eq1 c = rw (c.line.ensures, c.word-name.ensures, c.word-then-word-eq1.ensures, c.word-inferred.ensures) (field_is _ _ (rw c.word.ensures at c.if-word-eq1.true))
 
 pub returns-then-word-eq2 : goal.returns-then-word-eq2
 returns-then-word-eq2 c = rw (c.line-then-word-eq2.ensures, c.word-name.ensures, c.word-inferred.ensures, c.word-tag.ensures) (field_nodes _ _ (rw c.word.ensures at c.if-word-eq1.false) (rw c.word-2.ensures at c.if-word-eq2.true) c.requires.n_value)
-
-pub returns : goal.returns
-returns c = rw (c.line-2.ensures, c.word-name.ensures, c.word-inferred.ensures, c.word-tag.ensures, c.word-3.ensures) (field_payload _ _ (rw c.word.ensures at c.if-word-eq1.false) (rw c.word-2.ensures at c.if-word-eq2.false))

@@ -6,17 +6,8 @@ use Rattle.writer_lists.proofs.ids.Goals as goal
 pub loop-cur-init : goal.loop-cur-init
 loop-cur-init c = walk_begin _ c.requires.rows_fit
 
-pub word-requires : goal.word-requires
-word-requires c = (omega (arith, c.loop-cur.invariant.low, c.requires.h_in_bounds), omega arith)
-
 pub back-p-requires : goal.back-p-requires
 back-p-requires c = rw (c.line.ensures, c.word.ensures) (chain_room _ _ c.loop-cur.invariant c.loop-cur-test.true)
-
-pub before-cur-requires : goal.before-cur-requires
-before-cur-requires c = omega (arith, c.loop-cur.invariant.low, c.requires.h_in_bounds)
-
-pub loop-cur-smaller : goal.loop-cur-smaller
-loop-cur-smaller c = omega (arith, c.before-cur.ensures.low)
 
 pub loop-cur-preserved : goal.loop-cur-preserved
 loop-cur-preserved c = chain_again _ _ c.loop-cur.invariant c.loop-cur-test.true c.before-cur.ensures (rw (c.line.ensures, c.word.ensures) at c.back-p.ensures)

@@ -11,12 +11,6 @@ loop-cur-init c = walk_begin _ c.requires.rows_fit
 pub item-p-requires : goal.item-p-requires
 item-p-requires c = record { r_in_bounds = omega (arith, c.loop-cur.invariant.low, c.requires.h_in_bounds); rows_fit = chain_room _ _ c.loop-cur.invariant c.loop-cur-test.true }
 
-pub before-cur-requires : goal.before-cur-requires
-before-cur-requires c = omega (arith, c.loop-cur.invariant.low, c.requires.h_in_bounds)
-
-pub loop-cur-smaller : goal.loop-cur-smaller
-loop-cur-smaller c = omega (arith, c.before-cur.ensures.low)
-
 pub loop-cur-preserved : goal.loop-cur-preserved
 loop-cur-preserved c = chain_again _ _ c.loop-cur.invariant c.loop-cur-test.true c.before-cur.ensures c.item-p.ensures
 

@@ -6,12 +6,6 @@ use Rattle.writer_nodes.proofs.+nested.Goals as goal
 pub returns-then-h-eq0 : goal.returns-then-h-eq0
 returns-then-h-eq0 t c = wrote_none (nested_end _ _ (omega (arith, c.if-h-eq0.true)))
 
-pub overflow_sub-r : goal.overflow_sub-r
-overflow_sub-r t c = omega (arith, c.if-h-eq0.false)
-
-pub before-requires : goal.before-requires
-before-requires t c = omega (arith, c.if-h-eq0.false, c.requires.legible.records, c.requires.handle_at.low)
-
 pub nested-p-requires : goal.nested-p-requires
 nested-p-requires t c = (omega (arith, c.decreases, c.if-h-eq0.false, c.before-2.ensures.low), (c.requires.legible, (instance_next c.requires.legible c.requires.handle_at (omega (arith, c.if-h-eq0.false)) c.before-2.ensures, room_of (nested_stage c.args.kind _ (omega (arith, c.if-h-eq0.false)) c.before-2.ensures c.requires.rows_fit))))
 

@@ -3,9 +3,6 @@ use Rattle.writer_nodes.proofs.Instances.{list_of}
 use Rattle.writer_nodes.proofs.NodeRows.{node_closed, node_length}
 use Rattle.writer_nodes.proofs.count_node.Goals as goal
 
-pub handle-requires : goal.handle-requires
-handle-requires c = (omega (arith, c.requires.node_in.legible.records, c.requires.node_in.below), omega arith)
-
 pub count_instance-a-requires : goal.count_instance-a-requires
 count_instance-a-requires c = rw c.handle.ensures (record { legible = c.requires.node_in.legible; handle_at = (node_closed c.requires.node_in).instance; h_len_bound = omega (arith, node_length c.requires.node_in, c.requires.r_len_bound) })
 

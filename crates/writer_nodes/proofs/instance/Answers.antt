@@ -15,32 +15,8 @@ nested-b-requires c = record { legible = c.requires.legible; handle_at = c.requi
 pub nested-d-requires : goal.nested-d-requires
 nested-d-requires c = record { legible = c.requires.legible; handle_at = c.requires.handle_at; rows_fit = room_of (next (next (instance_stage c.requires.legible c.requires.handle_at (omega (arith, c.if-h-eq0.false)) c.requires.rows_fit) c.list_at-a.ensures) c.nested-b.ensures) }
 
-pub word-name-requires : goal.word-name-requires
-word-name-requires c = (omega (arith, c.if-h-eq0.false, c.requires.legible.records, c.requires.handle_at.low), omega arith)
-
-pub overflow_sub-b : goal.overflow_sub-b
-overflow_sub-b c = omega (arith, c.list_at-a.ensures.sum, c.nested-b.ensures.sum, c.nested-d.ensures.sum, c.requires.rows_fit.few)
-
-pub overflow_cast-b : goal.overflow_cast-b
-overflow_cast-b c = omega (arith, c.list_at-a.ensures.sum, c.nested-b.ensures.sum, c.nested-d.ensures.sum, c.requires.rows_fit.few)
-
-pub overflow_sub-a : goal.overflow_sub-a
-overflow_sub-a c = omega (arith, c.list_at-a.ensures.sum, c.nested-b.ensures.sum, c.nested-d.ensures.sum, c.requires.rows_fit.few)
-
-pub overflow_cast-a : goal.overflow_cast-a
-overflow_cast-a c = omega (arith, c.list_at-a.ensures.sum, c.nested-b.ensures.sum, c.nested-d.ensures.sum, c.requires.rows_fit.few)
-
-pub overflow_sub-end : goal.overflow_sub-end
-overflow_sub-end c = omega (arith, c.list_at-a.ensures.sum, c.nested-b.ensures.sum, c.nested-d.ensures.sum, c.requires.rows_fit.few)
-
-pub overflow_cast-end : goal.overflow_cast-end
-overflow_cast-end c = omega (arith, c.list_at-a.ensures.sum, c.nested-b.ensures.sum, c.nested-d.ensures.sum, c.requires.rows_fit.few)
-
 pub back-requires : goal.back-requires
 back-requires c = rw (instance_first _ c.args.h c.list_at-a.ensures c.nested-b.ensures c.nested-d.ensures c.word-name.ensures c.line-first.ensures) (room_of (next (next (next (instance_stage c.requires.legible c.requires.handle_at (omega (arith, c.if-h-eq0.false)) c.requires.rows_fit) c.list_at-a.ensures) c.nested-b.ensures) c.nested-d.ensures))
-
-pub shape_of-out : goal.shape_of-out
-shape_of-out c = (finish (next (next (next (next (instance_stage c.requires.legible c.requires.handle_at (omega (arith, c.if-h-eq0.false)) c.requires.rows_fit) c.list_at-a.ensures) c.nested-b.ensures) c.nested-d.ensures) (rw (instance_first _ c.args.h c.list_at-a.ensures c.nested-b.ensures c.nested-d.ensures c.word-name.ensures c.line-first.ensures) at c.back.ensures))).pasted.long
 
 pub returns : goal.returns
 returns c = finish (next (next (next (next (instance_stage c.requires.legible c.requires.handle_at (omega (arith, c.if-h-eq0.false)) c.requires.rows_fit) c.list_at-a.ensures) c.nested-b.ensures) c.nested-d.ensures) (rw (instance_first _ c.args.h c.list_at-a.ensures c.nested-b.ensures c.nested-d.ensures c.word-name.ensures c.line-first.ensures) at c.back.ensures))

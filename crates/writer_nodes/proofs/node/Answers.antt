@@ -4,9 +4,6 @@ use Rattle.writer_nodes.proofs.Instances.{list_of}
 use Rattle.writer_nodes.proofs.NodeRows.{node_closed, node_stage}
 use Rattle.writer_nodes.proofs.node.Goals as goal
 
-pub handle-requires : goal.handle-requires
-handle-requires c = (omega (arith, c.requires.node_in.legible.records, c.requires.node_in.below), omega arith)
-
 pub instance-a-requires : goal.instance-a-requires
 instance-a-requires c = rw c.handle.ensures (record { legible = c.requires.node_in.legible; handle_at = (node_closed c.requires.node_in).instance; rows_fit = room_of (node_stage c.requires.node_in c.requires.rows_fit) })
 
@@ -22,14 +19,8 @@ list_at-e-requires c = record { list_at = list_of c.requires.node_in.legible c.r
 pub list_at-f-requires : goal.list_at-f-requires
 list_at-f-requires c = record { list_at = list_of c.requires.node_in.legible c.requires.node_in.below 7 (omega arith) (node_closed c.requires.node_in).fields.low; rows_fit = room_of (next (next (next (next (node_stage c.requires.node_in c.requires.rows_fit) (rw c.handle.ensures at c.instance-a.ensures)) c.list_at-b.ensures) c.list_at-d.ensures) c.list_at-e.ensures) }
 
-pub first-requires : goal.first-requires
-first-requires c = omega (arith, c.requires.node_in.legible.records, c.requires.node_in.below)
-
 pub back-requires : goal.back-requires
 back-requires c = rw c.first.ensures (room_of (next (next (next (next (next (node_stage c.requires.node_in c.requires.rows_fit) (rw c.handle.ensures at c.instance-a.ensures)) c.list_at-b.ensures) c.list_at-d.ensures) c.list_at-e.ensures) c.list_at-f.ensures))
-
-pub shape_of-out : goal.shape_of-out
-shape_of-out c = (finish (next (next (next (next (next (next (node_stage c.requires.node_in c.requires.rows_fit) (rw c.handle.ensures at c.instance-a.ensures)) c.list_at-b.ensures) c.list_at-d.ensures) c.list_at-e.ensures) c.list_at-f.ensures) (rw c.first.ensures at c.back.ensures))).pasted.long
 
 pub returns : goal.returns
 returns c = finish (next (next (next (next (next (next (node_stage c.requires.node_in c.requires.rows_fit) (rw c.handle.ensures at c.instance-a.ensures)) c.list_at-b.ensures) c.list_at-d.ensures) c.list_at-e.ensures) c.list_at-f.ensures) (rw c.first.ensures at c.back.ensures))

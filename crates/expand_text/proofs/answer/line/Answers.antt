@@ -1,7 +1,6 @@
+use mathlib.Core.Path.{ap}
+use Rattle.expand_text.specs.Answer.{line_of}
 use Rattle.expand_text.proofs.answer.line.Goals as goal
 
-pub returns-in-Expanded : goal.returns-in-Expanded
-returns-in-Expanded c = rw c.in-Expanded.is
-
-pub returns-in-Refused : goal.returns-in-Refused
-returns-in-Refused c = rw c.in-Refused.is
+pub returns : goal.returns
+returns c = ap line_of c.numbers-n.ensures

@@ -1,3 +1,5 @@
+use Rattle.std.specs.declared.result.Result.TheVariants.{Ok}
+use Rattle.refine_records.proofs.Exits.{exit}
 use Rattle.expander_run.proofs.Runs.{fits, blank, run_refused, writable, run_written}
 use native.Mathlib.Omega.{arith}
 use Rattle.expander_run.proofs.run.run.Goals as goal
@@ -42,10 +44,10 @@ pub top-requires : goal.top-requires
 top-requires c = blank _ _ _ _ _ _ _ _ _ c.requires c.prepare.ensures
 
 pub write-requires : goal.write-requires
-write-requires c = writable _ _ _ _ _ _ _ _ _ c.requires c.prepare.ensures (rw c.in-Done.is at c.top.ensures)
+write-requires c = writable _ _ _ _ _ _ _ _ _ c.requires c.prepare.ensures (rw c.in_ok-tops.was at c.top.ensures)
 
-pub returns-in-Done : goal.returns-in-Done
-returns-in-Done c = run_written _ _ _ _ _ _ _ _ _ c.requires c.prepare.ensures (rw c.in-Done.is at c.top.ensures) c.write.result c.write.ensures
+pub returns : goal.returns
+returns c = run_written _ _ _ _ _ _ _ _ _ c.requires c.prepare.ensures (rw c.in_ok-tops.was at c.top.ensures) (Ok c.write.result) c.write.ensures
 
-pub returns-in-Refused : goal.returns-in-Refused
-returns-in-Refused c = run_refused _ _ _ _ _ _ _ _ _ c.requires c.prepare.ensures (rw c.in-Refused.is at c.top.ensures)
+pub returns-in_err-tops : goal.returns-in_err-tops
+returns-in_err-tops c = rw (exit c.from_residual.ensures.1) (run_refused _ _ _ _ _ _ _ _ _ c.requires c.prepare.ensures (rw c.in_err-tops.was at c.top.ensures))

@@ -1,3 +1,4 @@
+use Rattle.std.proofs.Common.{◌≡◌, ◌+◌, ◌-◌}
 use Rattle.sheet_rows.specs.Rows.{rows}
 use Rattle.sheet_rows.proofs.RowLaws.{rows_length}
 use Rattle.pick_table.proofs.ListedLaws.{search_start, search_none, search_here, search_next}
@@ -29,7 +30,7 @@ pub overflow_add-result : goal.overflow_add-result
 overflow_add-result c = omega (arith, c.wide-q.ensures.small)
 
 pub returns-then-row_at-base : goal.returns-then-row_at-base
-returns-then-row_at-base c = search_here (rows c.args.library.now) c.args.slots.now c.args.base c.requires.1 (omega (arith, c.if-count-eq0.false)) c.loop-j.invariant c.loop-j-test.true c.wide-q.ensures.same c.row_at.ensures c.if-row_at-base.true
+returns-then-row_at-base c = let z : c.loop-j.j - 1 + 1 ≡ c.loop-j.j = omega arith in rw z (search_here (rows c.args.library.now) c.args.slots.now c.args.base c.requires.1 (omega (arith, c.if-count-eq0.false)) c.loop-j.invariant c.loop-j-test.true c.wide-q.ensures.same c.row_at.ensures c.if-row_at-base.true)
 
 pub loop-j-preserved : goal.loop-j-preserved
 loop-j-preserved c = search_next (rows c.args.library.now) c.args.slots.now c.args.base c.requires.1 (omega (arith, c.if-count-eq0.false)) c.loop-j.invariant c.loop-j-test.true c.wide-q.ensures.same c.row_at.ensures c.if-row_at-base.false

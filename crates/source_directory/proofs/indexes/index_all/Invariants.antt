@@ -5,7 +5,4 @@ use Rattle.source_directory.specs.Grouped.{Indexing}
 use Rattle.source_directory.proofs.indexes.index_all.Given as goal
 
 abbrev pub invariant-loop-k : goal.invariant-loop-k
-invariant-loop-k l = (l.place ≤ l.end) × (l.k ≤ l.count) × Outside 200 size l.initial.dir l.dir × Outside l.at l.end l.initial.work l.work × Indexing l.root l.library l.dir l.work l.at l.place l.k
-
-abbrev pub decreases-loop-k : goal.decreases-loop-k
-decreases-loop-k l = l.count - l.k
+invariant-loop-k l = (l.place ≤ l.end) × Outside 200 size l.initial.dir l.dir × Outside l.at l.end l.initial.work l.work × Indexing l.root l.library l.dir l.work l.at l.place l.k

@@ -32,32 +32,33 @@ loop-slot-init c =
     let w = c.args.work.now in
     let h : c.wide-from.result ≤ length w = omega (arith, c.wide-from.ensures.same, c.requires.sourced.cache.from, c.requires.sourced.cache.upto, c.requires.sourced.within) in
     let e = c.fresh-memo.auto.slots ∙ length-take-le c.wide-from.result w h in
-    (omega arith, record { before = before_first c.fresh-memo.new.slots c.requires (c.fresh-memo.ensures (rows c.args.library.now)) e c.wide-from.ensures.same c.wide-at.ensures.same; dir_stays = stays _; work_stays = stays _ })
+    record { before = before_first c.fresh-memo.new.slots c.requires (c.fresh-memo.ensures (rows c.args.library.now)) e c.wide-from.ensures.same c.wide-at.ensures.same; dir_stays = stays _; work_stays = stays _ }
 
-pub of_slot-added-requires : goal.of_slot-added-requires
-of_slot-added-requires c = (c.loop-slot.invariant.1.before, slot_upto c.loop-slot.invariant.1 c.loop-slot-test.true)
-
-pub overflow_add-slot : goal.overflow_add-slot
-overflow_add-slot c = omega (arith, c.loop-slot-test.true, c.requires.sourced.directory.few)
+pub of_slot-at-requires : goal.of_slot-at-requires
+of_slot-at-requires c = (c.loop-slot.invariant.before, slot_upto c.loop-slot.invariant c.loop-slot-test.true)
 
 pub overflow_add-dir : goal.overflow_add-dir
-overflow_add-dir c = omega (arith, c.wide.ensures.same, c.loop-slot-test.true, c.requires.sourced.directory.few, c.requires.sourced.directory.long, c.loop-slot.invariant.1.dir_stays.long)
+overflow_add-dir c = omega (arith, c.wide.ensures.same, c.loop-slot-test.true, c.requires.sourced.directory.few, c.requires.sourced.directory.long, c.loop-slot.invariant.dir_stays.long)
 
 pub offset_bounds-dir-wide : goal.offset_bounds-dir-wide
-offset_bounds-dir-wide c = omega (arith, c.wide.ensures.same, c.loop-slot-test.true, c.requires.sourced.directory.few, c.requires.sourced.directory.long, c.loop-slot.invariant.1.dir_stays.long)
+offset_bounds-dir-wide c = omega (arith, c.wide.ensures.same, c.loop-slot-test.true, c.requires.sourced.directory.few, c.requires.sourced.directory.long, c.loop-slot.invariant.dir_stays.long)
 
 pub bounds-dir-wide : goal.bounds-dir-wide
-bounds-dir-wide c = omega (arith, c.wide.ensures.same, c.loop-slot-test.true, c.requires.sourced.directory.few, c.requires.sourced.directory.long, c.loop-slot.invariant.1.dir_stays.long)
-
-pub loop-slot-smaller : goal.loop-slot-smaller
-loop-slot-smaller c = omega (arith, c.loop-slot-test.true, c.requires.sourced.directory.few)
+bounds-dir-wide c = omega (arith, c.wide.ensures.same, c.loop-slot-test.true, c.requires.sourced.directory.few, c.requires.sourced.directory.long, c.loop-slot.invariant.dir_stays.long)
 
 pub loop-slot-preserved : goal.loop-slot-preserved
-loop-slot-preserved c = (omega (arith, c.loop-slot-test.true), rw c.wide.ensures.same (remember_more c.loop-slot.invariant.1 c.of_slot-added.ensures c.loop-slot-test.true))
+loop-slot-preserved c = rw c.wide.ensures.same (remember_more c.loop-slot.invariant c.of_slot-at.ensures c.loop-slot-test.true)
 
 pub returns : goal.returns
 returns c =
     let w = c.args.work.now in
     let h : c.wide-from.result ≤ length w = omega (arith, c.wide-from.ensures.same, c.requires.sourced.cache.from, c.requires.sourced.cache.upto, c.requires.sourced.within) in
     let e = c.fresh-memo.auto.slots ∙ length-take-le c.wide-from.result w h in
-    remembered c.loop-slot.invariant.1 (stays_front w c.fresh-memo.new.slots c.wide-from.result h e) c.wide-from.ensures.same
+    remembered c.loop-slot.invariant (stays_front w c.fresh-memo.new.slots c.wide-from.result h e) c.wide-from.ensures.same
+
+pub returns-2 : goal.returns-2
+returns-2 c =
+    let w = c.args.work.now in
+    let h : c.wide-from.result ≤ length w = omega (arith, c.wide-from.ensures.same, c.requires.sourced.cache.from, c.requires.sourced.cache.upto, c.requires.sourced.within) in
+    let e = c.fresh-memo.auto.slots ∙ length-take-le c.wide-from.result w h in
+    rw c.wide.ensures.same (remembered (remember_more c.loop-slot.invariant c.of_slot-at.ensures c.loop-slot-test.true) (stays_front w c.fresh-memo.new.slots c.wide-from.result h e) c.wide-from.ensures.same)

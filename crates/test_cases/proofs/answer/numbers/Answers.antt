@@ -1,7 +1,4 @@
 use Rattle.test_cases.proofs.answer.numbers.Goals as goal
 
-pub returns-in-Expanded : goal.returns-in-Expanded
-returns-in-Expanded c = rw c.in-Expanded.is
-
-pub returns-in-Refused : goal.returns-in-Refused
-returns-in-Refused c = rw c.in-Refused.is
+pub returns : goal.returns
+returns c = rw (← c.of-n.ensures)

@@ -1,11 +1,9 @@
-use Rattle.test_cases.proofs.FrameLaws.{all_good, wrong_length_lem, bad_line}
+use Rattle.std.proofs.lemmas.Result.{err_from_is_err_and}
+use Rattle.test_cases.proofs.FrameLaws.{all_good, not_read}
 use Rattle.test_cases.proofs.frame.read.Goals as goal
 
-pub returns-in-BadLine : goal.returns-in-BadLine
-returns-in-BadLine g c = bad_line _ c.args.words.now _ _ c.read_lines.ensures _ c.in-BadLine.is
+pub returns : goal.returns
+returns g c = all_good _ c.args.words.now _ _ c.read_lines.ensures _ c.in_ok-read_lines.was
 
-pub returns-in-Rows : goal.returns-in-Rows
-returns-in-Rows g c = all_good _ c.args.words.now _ _ c.read_lines.ensures _ c.in-Rows.is
-
-pub returns-in-WrongLength : goal.returns-in-WrongLength
-returns-in-WrongLength g c = wrong_length_lem _ c.args.words.now _ _ c.read_lines.ensures c.in-WrongLength.is
+pub returns-in_err-read_lines : goal.returns-in_err-read_lines
+returns-in_err-read_lines g c = let p = err_from_is_err_and c.from_residual.result c.from_residual.ensures.1 in rw p.1 (not_read _ c.args.words.now _ _ c.read_lines.ensures _ c.in_err-read_lines.was)

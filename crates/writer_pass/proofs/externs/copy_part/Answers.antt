@@ -12,23 +12,11 @@ loop-q-init c = copy_begin c.args.of c.args.taken (rows c.args.sheet.now)
 pub returns-in_default : goal.returns-in_default
 returns-in_default c = copy_stop c.args.of c.args.taken (rows c.args.sheet.now) c.requires c.loop-q.invariant (missing c.args.of (rows c.args.sheet.now) c.loop-q.at c.seek.ensures c.in_default.is)
 
-pub overflow_sub-n : goal.overflow_sub-n
-overflow_sub-n c = omega (arith, c.loop-q.invariant.on, (copy_room c.args.of c.args.taken (rows c.args.sheet.now) c.requires c.loop-q.invariant (stands c.args.of (rows c.args.sheet.now) c.loop-q.at c.seek.ensures c.in-At.is)).1)
-
-pub overflow_add-n : goal.overflow_add-n
-overflow_add-n c = omega (arith, c.loop-q.invariant.on, (copy_room c.args.of c.args.taken (rows c.args.sheet.now) c.requires c.loop-q.invariant (stands c.args.of (rows c.args.sheet.now) c.loop-q.at c.seek.ensures c.in-At.is)).1)
-
 pub put-requires : goal.put-requires
 put-requires c = (copy_room c.args.of c.args.taken (rows c.args.sheet.now) c.requires c.loop-q.invariant (stands c.args.of (rows c.args.sheet.now) c.loop-q.at c.seek.ensures c.in-At.is)).0
 
-pub overflow_add-p : goal.overflow_add-p
-overflow_add-p c = omega (arith, (copy_room c.args.of c.args.taken (rows c.args.sheet.now) c.requires c.loop-q.invariant (stands c.args.of (rows c.args.sheet.now) c.loop-q.at c.seek.ensures c.in-At.is)).1)
-
 pub overflow_add-at : goal.overflow_add-at
 overflow_add-at c = omega (arith, (stands c.args.of (rows c.args.sheet.now) c.loop-q.at c.seek.ensures c.in-At.is).below, rows_length c.args.sheet.now, c.well_formed)
-
-pub loop-q-smaller : goal.loop-q-smaller
-loop-q-smaller c = omega (arith, (stands c.args.of (rows c.args.sheet.now) c.loop-q.at c.seek.ensures c.in-At.is).below, (stands c.args.of (rows c.args.sheet.now) c.loop-q.at c.seek.ensures c.in-At.is).from)
 
 pub loop-q-preserved : goal.loop-q-preserved
 loop-q-preserved c = copy_again c.args.of c.args.taken (rows c.args.sheet.now) c.requires c.loop-q.invariant (stands c.args.of (rows c.args.sheet.now) c.loop-q.at c.seek.ensures c.in-At.is) refl (rw c.row_at.ensures at c.declared.ensures) c.put.ensures

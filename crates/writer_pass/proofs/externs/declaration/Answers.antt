@@ -1,14 +1,7 @@
-use native.Mathlib.Omega.{arith}
 use Rattle.sheet_rows.specs.Rows.{rows}
 use Rattle.writer_lists.proofs.Writing.{room_on, go_on, arrive}
 use Rattle.writer_pass.proofs.ExternRows.{extern_coming}
 use Rattle.writer_pass.proofs.externs.declaration.Goals as goal
-
-pub put-requires : goal.put-requires
-put-requires c = omega (arith, (room_on (extern_coming (rows c.args.sheet.now) c.args.at c.args.taken c.requires.rows_fit)).inside)
-
-pub overflow_add-p : goal.overflow_add-p
-overflow_add-p c = omega (arith, (room_on (extern_coming (rows c.args.sheet.now) c.args.at c.args.taken c.requires.rows_fit)).few)
 
 pub copy_part-a-requires : goal.copy_part-a-requires
 copy_part-a-requires c = room_on (go_on (extern_coming (rows c.args.sheet.now) c.args.at c.args.taken c.requires.rows_fit) (rw (c.line.ensures, c.row_at.ensures) at c.put.ensures))

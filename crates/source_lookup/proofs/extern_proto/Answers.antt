@@ -1,9 +1,0 @@
-use Rattle.source_directory.proofs.GroupLaws.{extern_at}
-use native.Mathlib.Omega.{arith}
-use Rattle.source_lookup.proofs.extern_proto.Goals as goal
-
-pub locate-requires : goal.locate-requires
-locate-requires c = (c.requires.0, c.requires.1, omega arith)
-
-pub returns : goal.returns
-returns c = extern_at c.args.root.now c.args.library.now _ _ (c.requires.0.directory.begins c.args.slot c.requires.1) c.locate.ensures
