@@ -1,11 +1,11 @@
 -- What is promised of every count.
 use mathlib.Core.Path.{◌≡◌, refl, sym, ap, ◌∙◌}
 use mathlib.Core.Bool.{Bool, true, false}
-use mathlib.Core.Logic.{◌⊎◌, inl, inr, ◌↔◌}
+use mathlib.Core.Logic.{◌⊎◌, inl, inr}
 use mathlib.Core.List.Memᴰ
 use mathlib.Core.List.{List, [], ◌∷◌, ◌++◌, Memᴰ}
 use mathlib.Core.Option.{Option, none, some}
-use Prim.Native.Nat.{ℕ, zero, suc, ◌+◌, ◌≤◌, ◌<◌}
+use Prim.Native.Nat.{ℕ, ◌+◌, ◌≤◌}
 use native.Mathlib.Omega.{arith}
 use lib.ListN.{length, get_elem?, length-append}
 use lib.Dec.{eqb}
@@ -16,7 +16,7 @@ use Rattle.ast.specs.Lists.{flat}
 use Rattle.sheet_rows.specs.Print.{document_rows}
 use Rattle.expansion_steps.specs.Lists.{Nodup, one_if, count_if}
 use Rattle.expansion_steps.specs.Sums.{Count}
-use Rattle.graph_definition.specs.Graph.{Reached, top_node_ids, nexts, node_count, reached, mentions}
+use Rattle.graph_definition.specs.Graph.{Reached, top_node_ids, nexts, reached, mentions}
 use Rattle.graph_definition.proofs.Exact.{reached_once, reached_exact}
 use Rattle.count_documents.specs.Count.{is_of_type, named, count, total_of}
 use Rattle.count_documents.specs.Promises.{LeadsTo, Mentioned, OfDocument, Promises}

@@ -1,7 +1,7 @@
 -- Computed examples of counts.
 use Rattle.std.specs.Prelude.{◌≡◌, refl, List, [], ◌∷◌, map, ℕ}
 use Rattle.std.proofs.Math.Option.{none}
-use Rattle.ast.specs.Ast.{FieldData, FieldBinding, Field, Statement, NodeOrigin, Node, Document}
+use Rattle.ast.specs.Ast.{FieldData, FieldBinding, Statement, NodeOrigin, Node, Document}
 use Rattle.graph_definition.specs.Graph.{node_ids, nexts, top_node_ids, among, noted, noted_all, walked, reached, mentions}
 use Rattle.count_documents.specs.Count.{named, count, total_of}
 

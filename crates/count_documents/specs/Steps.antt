@@ -6,6 +6,7 @@ use Rattle.ast.specs.Lists.{flat}
 use Rattle.sheet_rows.specs.declared.row.Row.{Row}
 use Rattle.sheet_rows.specs.Print.{document_rows}
 use Rattle.graph_walk.specs.Steps.{most_nodes, NodeStands, WalkReady}
+use Rattle.count_documents.specs.declared.Looked.{Looked}
 use Rattle.count_documents.specs.Count.{count, total_of}
 
 -- which of the first n names a name is: r is its place, or none
@@ -20,11 +21,14 @@ Place names name r = PlaceUpTo names name (length names) r
 abbrev pub slots : ℕ
 slots = 128
 
+-- what a slot past the last would have
+abbrev pub unlooked : Looked
+unlooked = record { name = 0; place = None }
+
 -- names that were looked for, each with its place
-pub record Remembers (names keys : List ℕ) (places : List (Option ℕ)) : Type 0 where
-  pub keys_long : length keys ≡ slots
-  pub places_long : length places ≡ slots
-  pub each : (s : ℕ) → s < slots → Place names (get_or keys s 0) (get_or places s None)
+pub record Remembers (names : List ℕ) (looked : List Looked) : Type 0 where
+  pub long : length looked ≡ slots
+  pub each : (s : ℕ) → s < slots → Place names (get_or looked s unlooked).name (get_or looked s unlooked).place
 
 -- no name twice
 abbrev pub Apart : List ℕ → Type 0

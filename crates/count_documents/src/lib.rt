@@ -1,11 +1,19 @@
 #![tactic(auto)]
 // The counts of documents one after another, added to a total for each type name (document 02, wish 5).
+// Kept: the lent words, with the row that a document begins at beside the sheet. All is lent by the caller (no heap), and a
+// struct of it would be taken apart again at `graph_walk::reach`.
 ghost use Rattle.std.specs.Prelude.{◌≡◌};
 ghost use Rattle.std.proofs.Props.{props};
 ghost use Rattle.sheet_rows.specs.Rows.{rows};
 ghost use Rattle.count_documents.specs.Steps.{Place, Remembers, weighed, added, Addable, CountReady, DocumentCounted, AllReady, AllCounted};
 
+use graph_walk::{NODE_WORDS, TIMES};
 use sheet_rows::row;
+
+// The protocols: every mention counts, or each node that is mentioned counts once.
+pub const MENTIONS: u32 = 1;
+
+pub const NODES: u32 = 2;
 
 // How many of the names looked for are remembered.
 const SLOTS: usize = 128;
@@ -23,14 +31,20 @@ fn place_of(names: &[u32], name: u32) -> Option<usize>
     found
 }
 
+// A name that was looked for, and its place among those that are counted.
+#[derive(Clone, Copy, Debug, PartialEq, Eq)]
+pub struct Looked {
+    pub name: u32,
+    pub place: Option<usize>,
+}
+
 // The names that are counted, and what is remembered of those that were looked for: a slot has the name that was looked for
-// last of those that fall on it, and its place.
+// last of those that fall on it.
 #[derive(Drop)]
 pub struct Names<'a> {
     pub names: &'a [u32],
-    pub keys: [u32; SLOTS],
-    pub places: [Option<usize>; SLOTS],
-    ghost remembers: { Remembers names.now keys places } by { Prim.hlevel props },
+    pub looked: [Looked; SLOTS],
+    ghost remembers: { Remembers names.now looked } by { Prim.hlevel props },
 }
 
 impl<'a> Names<'a> {
@@ -39,8 +53,10 @@ impl<'a> Names<'a> {
     {
         Names {
             names,
-            keys: [0; SLOTS],
-            places: [place_of(names, 0); SLOTS],
+            looked: [Looked {
+                name: 0,
+                place: place_of(names, 0),
+            }; SLOTS],
         }
     }
 
@@ -48,13 +64,13 @@ impl<'a> Names<'a> {
         ensures place { Place self.old.names.now name result }
         ensures names { self.new.names ≡ self.old.names }
     {
-        let slot = words_lent::wide(name) % SLOTS;
-        if self.keys[slot] == name {
-            return self.places[slot];
+        let slot = name as usize % SLOTS;
+        let looked = self.looked[slot];
+        if looked.name == name {
+            return looked.place;
         }
         let place = place_of(self.names, name);
-        self.keys[slot] = name;
-        self.places[slot] = place;
+        self.looked[slot] = Looked { name, place };
         place
     }
 }
@@ -64,13 +80,11 @@ impl<'a> Names<'a> {
 fn weight(times: usize, protocol: u32) -> usize
     ensures { result ≡ weighed protocol times }
 {
-    if protocol == 1 {
-        return times;
+    if protocol == MENTIONS {
+        times
+    } else {
+        times.min(1)
     }
-    if times == 0 {
-        return 0;
-    }
-    1
 }
 
 fn add(totals: &mut [u64], place: Option<usize>, by: usize)
@@ -78,7 +92,7 @@ fn add(totals: &mut [u64], place: Option<usize>, by: usize)
     ensures { totals.new ≡ added totals.old place by }
 {
     if let Some(j) = place {
-        totals[j] = totals[j] + by as u64;
+        totals[j] += by as u64;
     }
 }
 
@@ -97,11 +111,11 @@ pub fn count_document(
 {
     let walk = graph_walk::reach(sheet, from, work);
     for id in 0..walk.nodes {
-        let by = weight(graph_walk::pair_at(work, 5 * id + 2), protocol);
+        let by = weight(graph_walk::pair_at(work, NODE_WORDS * id + TIMES), protocol);
         if by == 0 {
             continue;
         }
-        let place = graph_walk::pair_at(work, 5 * id);
+        let place = graph_walk::pair_at(work, NODE_WORDS * id);
         let name = row::row_at(sheet, place).a;
         add(totals, names.find(name), by);
     }

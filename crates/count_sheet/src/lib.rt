@@ -1,10 +1,12 @@
 #![tactic(auto)]
 // Count sheet under both protocols (document 02, wish 5).
+// Kept: the parameters are those of the C function, and are handed on as they came.
 ghost use Rattle.std.specs.Prelude.{◌≡◌, ◌≤◌, length};
 ghost use Rattle.count_sheet.specs.Sheet.{are_protocols, repeats, number_of, answer_of, counted_sheet};
 ghost use Rattle.count_sheet.specs.Steps.{Zeroed};
 ghost use Rattle.count_sheet.specs.Promises.{Promises};
 
+use count_documents::{MENTIONS, NODES};
 use sheet_check::grammar::Form;
 use sheet_rows::part::Part;
 use sheet_walks::walk;
@@ -28,11 +30,11 @@ impl From<CountError> for u32 {
     }
 }
 
-// Whether each is 1 or 2.
+// Whether each is a protocol.
 fn are_protocols(protocols: &[u32]) -> bool
     ensures { result ≡ are_protocols protocols.now }
 {
-    protocols.iter().all(|p| *p == 1 || *p == 2)
+    protocols.iter().all(|p| *p == MENTIONS || *p == NODES)
 }
 
 // Whether a name stands twice.
@@ -48,6 +50,7 @@ fn repeat(names: &[u32]) -> bool
 }
 
 // Sets the first totals to 0.
+// Kept: a function of this line alone: with the line in `count` the proof of what is zeroed was tried and did not close.
 fn clear(totals: &mut [u64], n: usize)
     requires { n ≤ length totals.old }
     ensures { Zeroed n n totals.old totals.new }

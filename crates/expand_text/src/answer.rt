@@ -1,12 +1,16 @@
 // What the program writes of an answer: the first line, and how many rows of out come after it.
 ghost use Rattle.std.specs.Prelude.{◌≡◌};
+ghost use Rattle.text_lines.specs.Read.{read_number};
 ghost use Rattle.expander_run.specs.Calls.{told};
 ghost use Rattle.expand_text.specs.Answer.{refused_numbers, scene_numbers, first_line, answer_rows, Few};
 ghost use Rattle.expand_text.specs.declared.answer.SceneError.TheVariants.{Expand};
 
 use expander_run::{Expanded, Numbers, Refusal};
+use text_lines::ReadError;
 
 // Why there is no expansion: what was read is no lines of rows, or Expand says no.
+// Kept: the two errors of Read lines are variants here, with the line as a word. In a ReadError it is a usize, and that it fits
+// into a word is known only where the text is read, not at the writing.
 #[derive(Clone, Copy, Debug, PartialEq, Eq)]
 pub enum SceneError {
     WrongLength,
@@ -22,12 +26,12 @@ impl From<Refusal> for SceneError {
     }
 }
 
-// A refusal of the program's own.
-fn refused(number: u32, place: u32) -> Numbers
-    ensures { told result ≡ refused_numbers number place }
+// A refusal of Read lines, which the program answers itself.
+fn refused(error: ReadError, place: u32) -> Numbers
+    ensures { told result ≡ refused_numbers (read_number error) place }
 {
     Numbers {
-        refusal: number,
+        refusal: u32::from(error),
         first_place: place,
         second_place: 0,
         nodes: 0,
@@ -44,8 +48,15 @@ fn numbers(answer: Result<Expanded, SceneError>) -> Numbers
     match answer {
         Ok(expanded) => Numbers::of(Ok(expanded)),
         Err(SceneError::Expand(refusal)) => Numbers::of(Err(refusal)),
-        Err(SceneError::WrongLength) => refused(12, 0),
-        Err(SceneError::BadLine { line }) => refused(13, line),
+        Err(SceneError::WrongLength) => refused(ReadError::WrongLength, 0),
+        Err(SceneError::BadLine { line }) => {
+            refused(
+                ReadError::BadLine {
+                    line: line as usize,
+                },
+                line,
+            )
+        }
     }
 }
 

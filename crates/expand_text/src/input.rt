@@ -1,6 +1,7 @@
 // A reader, to its end.
-ghost use Rattle.std.specs.Prelude.{◌≤◌, length};
+ghost use Rattle.std.specs.Prelude.{◌≡◌, ◌≤◌, length};
 ghost use Rattle.expand_text.specs.Input.{EndsWithin};
+ghost use Rattle.expand_text.specs.declared.input.InputError.TheVariants.{Failed};
 
 use std::io;
 use std::io::Read;
@@ -13,13 +14,15 @@ pub enum InputError {
 }
 
 impl From<io::Error> for InputError {
+    ghost from_gives = { λ e i. i ≡ Failed };
+
     fn from(_error: io::Error) -> InputError {
         InputError::Failed
     }
 }
 
-// Kept: the loop reads into lent bytes; the library's reading to the end fills memory of its own, and there is no heap.
 // All that a reader has, into the lent bytes: how many there are. A read that a signal interrupts counts as an error.
+// Kept: the loop reads into lent bytes; the library's reading to the end fills memory of its own, and there is no heap.
 pub fn read<R: Read>(reader: &mut R, bytes: &mut [u8]) -> Result<usize, InputError>
     ensures { EndsWithin result (length bytes.old) }
 {

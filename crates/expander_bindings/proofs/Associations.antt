@@ -18,9 +18,6 @@ use Rattle.refine_records.proofs.Later.{later_standing, later_env, env_later}
 use Rattle.expander_bindings.specs.Contract.{Associated}
 use Rattle.expander_bindings.proofs.Steps.{any_source, done_later}
 
-pub owns : (w : List ℕ) (c : ℕ) (e : code.Env) (i n f : ℕ) → EnvAt w c e → Ownership w c e (association_record e.scope i n f)
-owns w c e i n f env = record { env = env; tag = record { low = omega arith; high = omega arith }; scope = refl }
-
 pub associated : {L : Limits} {w : List ℕ} {t : Counts} {e : code.Env} {i n f : ℕ} {w' : List ℕ} {a : Answer} → RecordOwned L w t e (association_record e.scope i n f) w' a → Associated L w t e i n f w' a
 associated o = record { does = λ S young. o.association refl S young }
 

@@ -3,7 +3,6 @@ use mathlib.Core.Path.{◌≡◌, refl, sym, ap, ◌∙◌}
 use mathlib.Core.List.{List, ◌∷◌}
 use mathlib.Core.Option.{Option, none, some}
 use Prim.Native.Nat.{ℕ}
-use native.Mathlib.Omega.{arith}
 use Rattle.ast.specs.Ast.{FieldValue}
 use Rattle.ast.specs.Choice.{and_then, map_o}
 use Rattle.expansion_definition.specs.State.{Comp, bind_r, ◌>>=◌, ret}

@@ -1,25 +1,24 @@
 -- The value that an IS target has: in a body the stored value of its name, read from its record.
 use mathlib.Core.Path.{◌≡◌, refl, sym, ap, ◌∙◌}
-use mathlib.Core.Bool.{Bool, true, false, not}
+use mathlib.Core.Bool.{Bool, true, false}
 use mathlib.Core.List.{List}
-use mathlib.Core.Option.{Option, none, some}
-use Prim.Native.Nat.{ℕ, ◌+◌, ◌*◌, ◌≤◌, ◌<◌}
+use mathlib.Core.Option.{none, some}
+use Prim.Native.Nat.{ℕ, ◌<◌}
 use native.Mathlib.Omega.{arith}
-use lib.ListN.{length}
 use lib.Dec.{eqb}
-use borrow.Author.Tests.{eqb-true, ne_eqb, not-true, not-false}
+use borrow.Author.Tests.{eqb-true}
 use Rattle.ast.specs.Ast.{FieldData, FieldValue}
-use Rattle.ast.specs.Choice.{choose, and_then, map_o}
+use Rattle.ast.specs.Choice.{choose, map_o}
 use Rattle.expansion_definition.specs.State.{ok}
-use Rattle.expansion_definition.specs.Values.{Values, value_named, clone}
+use Rattle.expansion_definition.specs.Values.{value_named, clone}
 use Rattle.expansion_definition.specs.PlainCopy.{is_value}
 use Rattle.expansion_definition.specs.Reached.{is_given}
-use Rattle.journal_index.specs.Index.{Newest}
+use Rattle.journal_index.specs.Index.{Newest, found_of}
 use Rattle.std.specs.Option.{is_some}
 use Rattle.std.specs.declared.option.Option.TheVariants.{None, Some}
 use Rattle.journal_records.specs.Records.{tag_id, tag_stored, cell}
 use Rattle.journal_records.proofs.Lists.{scan_low}
-use Rattle.journal_reading.specs.Reading.{fixed_word, ids_in, ids_at, value_at, value_rec}
+use Rattle.journal_reading.specs.Reading.{fixed_word, ids_in, ids_at, value_at, value_rec, values_at}
 use Rattle.journal_reading.specs.WellFormed.{HandleAt, RecordWellFormed}
 use Rattle.journal_reading.proofs.Words.{kept_is}
 use Rattle.journal_reading.proofs.Chains.{value_fixed}
@@ -33,16 +32,9 @@ use Rattle.refine_records.specs.declared.Env as code
 use Rattle.refine_records.specs.Sound.{Source, input_of, Standing, EnvAt, env_of}
 use Rattle.refine_records.specs.Does.{Answer, did, at, Does}
 use Rattle.refine_records.specs.Contract.{ValueFound, Cloned}
-use Rattle.refine_records.proofs.Later.{later_handle}
+use Rattle.refine_records.proofs.Later.{env_values, later_handle}
 use Rattle.expander_bindings.specs.Contract.{ClassRead, NotGiven, GivenValue, GivenRefused, HasValue}
 use Rattle.expander_bindings.proofs.Steps.{any_source, done_later}
-
--- the class of a value
-pub class_two : (x : ℕ) → x ≡ 2 → ClassRead x 2
-class_two x e = record { same = rw e; some = λ z. omega arith }
-
-pub class_one : (x : ℕ) → (x ≡ 2 → ⊥) → ClassRead x 1
-class_one x ne = record { same = sym (ne_eqb x 2 ne); some = λ z. omega arith }
 
 -- a record of a stored value, with its class as 1 or 2
 pub stored_value : (w : List ℕ) (c r ty x g class : ℕ) → cell w r 0 ≡ tag_stored → RecordWellFormed w c r → ty ≡ cell w r 5 → x ≡ cell w r 6 → g ≡ cell w r 7 → eqb class 2 ≡ eqb x 2 → value_rec w r ≡ value_at w ty class g
@@ -65,48 +57,29 @@ stored_value w c r ty x g class e f e5 e6 e7 s =
     by false q = refl
 
 module _ (L : Limits) (w : List ℕ) (t : Counts) (e : code.Env) (target : ℕ) where
-  -- whether there is one, from what it is
-  has_from : (x : Option (Option FieldValue)) → is_value (env_of w e) target ≡ x → HasValue w e target (is_given (and_then x (λ y. y)))
-  has_from x q = record { same = ap is_given (by (env_of w e).is_values ∙ ap (λ (o : Option (Option FieldValue)). and_then o (λ y. y)) q) }
-    where
-      by : (o : Option Values) → and_then o (value_named target) ≡ and_then (map_o (value_named target) o) (λ y. y)
-      by none = refl
-      by (some vs) = refl
+  -- in a body
+  module _ {h : ℕ} (body : e.values ≡ Some h) {f : Newest} (v : ValueFound w h target f) where
+    -- no value
+    pub without : f ≡ None → NotGiven w t e target (some none) w t
+    without n = record { words = refl; counts = refl; value = rw body (ap some (v.same ∙ rw n)) }
 
-  pub has_outside : not e.body ≡ true → HasValue w e target false
-  has_outside n = has_from none (rw (not-true e.body n))
-
-  -- outside a body
-  pub outside : not e.body ≡ true → NotGiven w t e target none w t
-  outside n = record { words = refl; counts = refl; value = rw (not-true e.body n) }
+    -- whether there is one
+    pub has_searched : HasValue w e target (is_some f)
+    has_searched = record { same = rw body (by f v.same) }
+      where
+        by : (g : Newest) → value_named target (values_at w h) ≡ map_o (value_rec w) (found_of g) → is_given (value_named target (values_at w h)) ≡ is_some g
+        by None q = ap is_given q
+        by (Some r) q = ap is_given q
 
   module _ (st : Standing L w t) (env : EnvAt w t.charges e) where
-    module _ (left : not e.body ≡ false) (f : Newest) (v : ValueFound w e.values target f) where
-      body : e.body ≡ true
-      body = not-false e.body left
-
-      -- in a body: no value
-      pub without : f ≡ None → NotGiven w t e target (some none) w t
-      without n = record { words = refl; counts = refl; value = rw body (ap some (v.same ∙ rw n)) }
-
-      -- whether there is one
-      pub has_searched : HasValue w e target (is_some f)
-      has_searched = by f refl
-        where
-          by : (g : Newest) → f ≡ g → HasValue w e target (is_some g)
-          by None q = has_from (some none) (without q).value
-          by (Some r) q = has_from (some (some (value_rec w r))) (rw body (ap some (v.same ∙ rw q)))
-
+    module _ {h : ℕ} (body : e.values ≡ Some h) (f : Newest) (v : ValueFound w h target f) where
       -- a value
       module _ (r : ℕ) (here : f ≡ Some r) where
         below : r < t.charges
-        below = omega (arith, v.low r here, env.values.low, env.place)
+        below = omega (arith, v.low r here, (env_values env body).low)
 
         fair : RecordWellFormed w t.charges r
         fair = st.sound.fair.each r below
-
-        pub in_room : r * 12 + 12 ≤ length w
-        in_room = omega (arith, below, st.sound.charges, st.ready.room)
 
         module _ (ty x g class : ℕ) (e5 : ty ≡ cell w r 5) (e6 : x ≡ cell w r 6) (k : ClassRead x class) (e7 : g ≡ cell w r 7) where
           pub payload : class ≡ 2 → HandleAt w t.charges tag_id g

@@ -1,5 +1,7 @@
 #![tactic(auto)]
-// The steps of an expansion about IS bindings, and the record of an instance: they copy no node.
+// The steps of an expansion about IS bindings: they copy no node.
+// Kept: the journal, the limits and the Env are parameters of their own. One journal goes with the Envs of two scopes in a body,
+// and the limits stay: behind the journal's `&mut` each contract would have to say so.
 ghost use Rattle.journal_records.specs.Records.{tag_stored};
 ghost use Rattle.journal_reading.specs.WellFormed.{HandleAt};
 ghost use Rattle.refine_records.specs.Does.{done_given, number_given};
@@ -11,6 +13,7 @@ use journal_records;
 use journal_records::{Record, words};
 use refine_records;
 use refine_records::{Env, Journal, Limits, Refusal};
+use sheet_rows::codes;
 
 // An IS adds an association to its scope.
 pub fn associate(
@@ -33,15 +36,21 @@ pub fn associate(
     )
 }
 
-// The class of a value: 1 or 2.
+// The class of a value; what is not nodes is a payload.
 fn class_of(x: u32) -> u32
     ensures { ClassRead x result }
 {
-    if x == 2 { 2 } else { 1 }
+    if x == codes::class::NODES {
+        codes::class::NODES
+    } else {
+        codes::class::PAYLOAD
+    }
 }
 
 // What an IS target has in a scope: nothing outside a body; in a body no value, or one, cloned: its charges are made.
-#[derive(Clone, Copy)]
+// Kept: three outcomes, and what becomes of an IS is another in each (it stays, it goes, the value comes in its place); in an
+// Option in an Option two of them would both be called None.
+#[derive(Clone, Copy, Debug, PartialEq, Eq)]
 pub enum Given {
     Outside,
     Without,
@@ -58,10 +67,10 @@ pub fn target_value(
     requires env_at { EnvAt journal.old.work.now journal.old.counts.charges env }
     ensures { TargetValueGiven lim journal.old.work.now journal.old.counts env target journal.new.work.now journal.new.counts result }
 {
-    if !env.body {
+    let Some(values) = env.values else {
         return Ok(Given::Outside);
-    }
-    let Some(v) = refine_values::value_of(journal, lim, env.values, target) else {
+    };
+    let Some(v) = refine_values::value_of(journal, lim, values, target) else {
         return Ok(Given::Without);
     };
     let ty = journal.word(v, words::value::TYPE);
@@ -77,10 +86,10 @@ pub fn has_value(journal: &Journal<'_>, lim: Limits, env: Env, target: u32) -> b
     requires env_at { EnvAt journal.now.work.now journal.now.counts.charges env }
     ensures { HasValue journal.now.work.now env target result }
 {
-    if !env.body {
+    let Some(values) = env.values else {
         return false;
-    }
-    refine_values::value_of(journal, lim, env.values, target).is_some()
+    };
+    refine_values::value_of(journal, lim, values, target).is_some()
 }
 
 // The value that an IS target has in the instance's scope, stored under an interface's name.

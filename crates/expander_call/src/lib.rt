@@ -1,5 +1,6 @@
 #![tactic(auto)]
 // Expand whole (document 01): what is refused before the first step, then the run.
+// Kept: the parameters are those of document 01, one by one and in its order, as C passes them.
 ghost use Rattle.std.specs.Prelude.{◌≡◌};
 ghost use Rattle.expansion_operation.specs.Operation.{wrong_length};
 ghost use Rattle.expander_run.specs.Calls.{limits_of, call_of, lacks_room, AsDefined, Demand1, Demand3};
@@ -7,6 +8,11 @@ ghost use Rattle.expander_run.specs.Calls.{limits_of, call_of, lacks_room, AsDef
 use expander_run::{Expanded, Refusal, run};
 use sheet_check::BadRow;
 use sheet_check::grammar::Form;
+
+// The numbers of the sheets in refusal 3.
+const ROOT: u32 = 0;
+
+const LIBRARY: u32 = 1;
 
 // Refusal 1: a limit over its cap, or a slice too short for the limits.
 fn lacks_room(
@@ -86,13 +92,13 @@ pub fn expand<'a>(
     }
     if let Err(BadRow(row)) = sheet_check::check(root, Form::Root) {
         return Err(Refusal::Malformed {
-            sheet: 0,
+            sheet: ROOT,
             row: row as u32,
         });
     }
     if let Err(BadRow(row)) = sheet_check::check(library, Form::Library) {
         return Err(Refusal::Malformed {
-            sheet: 1,
+            sheet: LIBRARY,
             row: row as u32,
         });
     }

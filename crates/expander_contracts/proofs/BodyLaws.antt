@@ -1,7 +1,7 @@
 -- `statement` and `body`: what the body of a scope gives, one statement after the other.
 use mathlib.Core.Path.{◌≡◌, refl, sym, ap, subst, ◌∙◌}
-use mathlib.Core.Bool.{Bool, true, false, ◌||◌}
-use mathlib.Core.List.{List, [], ◌∷◌, ◌++◌, map}
+use mathlib.Core.Bool.{Bool, true, false, not, ◌||◌}
+use mathlib.Core.List.{List, [], ◌∷◌, ◌++◌}
 use mathlib.Core.Option.{some}
 use Prim.Native.Nat.{ℕ, zero, suc, ◌+◌, ◌≤◌, ◌<◌}
 use native.Mathlib.Omega.{arith}
@@ -10,7 +10,7 @@ use native.Mathlib.Decide.{ℕ_discrete}
 use lib.ListN.{length, drop, get_or}
 use lib.Dec.{eqb, leb, ltb}
 use borrow.Author.Tests.{eq-eqb, ne_eqb, ltb-true, ltb-false}
-use Rattle.ast.specs.Ast.{Route, Statement}
+use Rattle.ast.specs.Ast.{Statement}
 use Rattle.sheet_rows.specs.declared.row.Row.{Row}
 use Rattle.sheet_rows.specs.declared.part.Part.TheVariants.{Statements}
 use Rattle.sheet_rows.specs.Rows.{blank, front, rest}
@@ -35,7 +35,9 @@ use Rattle.journal_reading.specs.WellFormed.{NodeAt}
 use Rattle.journal_reading.specs.RecordsStay.{Unrecorded}
 use Rattle.refine_records.specs.declared.Limits.{Limits}
 use Rattle.std.specs.declared.result.Result.TheVariants.{Ok, Err}
+use Rattle.std.specs.Prelude.{Option as Maybe, Some, None, is_some}
 use Rattle.refine_records.specs.declared.Refusal.{Refusal}
+use Rattle.refine_records.specs.declared.NodeCopy.{NodeCopy}
 use Rattle.refine_records.specs.declared.Counts.{Counts}
 use Rattle.refine_records.specs.declared.Env as code
 use Rattle.refine_records.specs.Sound.{input_of, JournalSound, Later, env_of}
@@ -44,11 +46,21 @@ use Rattle.refine_records.specs.Contract.{Ownership, OwnedAt, RecordOwned, Mappe
 use Rattle.refine_records.proofs.Later.{later_env, env_later, later_node, body_later, unrecorded_later}
 use Rattle.refine_records.proofs.Owning.{own_root, own_route}
 use Rattle.expander_parts.specs.Contract.{source_of, Declared}
-use Rattle.expander_contracts.specs.Contract.{Yields, Placed, BodySoFar, InBody, Copied, BodyCopied, BodyStatementCopied, kept_of}
+use Rattle.expander_contracts.specs.Contract.{Yields, Placed, BodySoFar, InBody, Copied, BodyCopied, BodyStatementCopied, root_place, Rooted, kept_of}
+use Rattle.sheet_part.proofs.PartLaws.{true_false}
 use Rattle.source_skips.specs.declared.Aim.TheVariants as aim
 use Rattle.source_skips.specs.Skips.{passable, Passed}
 use Rattle.expander_contracts.proofs.PassLaws.{pass_on, not_kind, or_first_lem}
 use Rattle.expander_contracts.proofs.Run.{Run, begin, turn, end, go, halt, went, gave, leaf, yields_young, since, here_later}
+
+-- ---- the root: none is at place 0, and a root at no place 0
+pub none_at : (r : Maybe NodeCopy) {b : Bool} → is_some r ≡ not b → b ≡ true → root_place r ≡ 0
+none_at None e q = refl
+none_at (Some x) e q = absurd (true_false (e ∙ ap not q))
+
+pub some_at : (r : Maybe NodeCopy) {b : Bool} → Rooted r → is_some r ≡ not b → b ≡ false → root_place r ≡ 0 → ⊥
+some_at None l e q z = true_false (sym (e ∙ ap not q))
+some_at (Some x) l e q z = omega (arith, l, z)
 
 -- ---- what stays true of a body
 

@@ -1,11 +1,11 @@
 -- `copy`: a mapped id answers its copy; else 5; else 9 where no depth is left; else a plain copy or an instance.
 use mathlib.Core.Path.{◌≡◌, refl, sym, ap, ◌∙◌}
-use mathlib.Core.List.{List, [], ◌∷◌}
+use mathlib.Core.List.{List}
 use mathlib.Core.Option.{none, some}
 use Prim.Native.Nat.{ℕ, zero, suc, ◌-◌}
 use native.Mathlib.Omega.{arith}
 use lib.ListN.{get_or}
-use Rattle.ast.specs.Ast.{NodeOrigin, Node}
+use Rattle.ast.specs.Ast.{Node}
 use Rattle.ast.specs.Choice.{map_o}
 use Rattle.ast.specs.Lookups.{node_at}
 use Rattle.sheet_rows.specs.declared.row.Row.{Row}
@@ -23,7 +23,7 @@ use Rattle.std.specs.Prelude.{Option as Maybe, Some, None}
 use Rattle.source_lookup.specs.Instance.{origin_from, target_of, Targeted}
 use Rattle.expansion_definition.specs.Input.{Input, docs, proto_of_origin}
 use Rattle.expansion_definition.specs.State.{Comp, refusal, ok, ret, fail, lookup}
-use Rattle.expansion_definition.specs.Values.{Env, src}
+use Rattle.expansion_definition.specs.Values.{src}
 use Rattle.expansion_definition.specs.Copy.{copy_node, mapped_or, copy}
 use Rattle.journal_index.specs.Index.{Newest}
 use Rattle.std.specs.declared.option.Option.TheVariants.{None, Some}

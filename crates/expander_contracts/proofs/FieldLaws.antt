@@ -1,6 +1,5 @@
 -- `fields` and `field`.
 use mathlib.Core.Path.{◌≡◌, refl, sym, ap, subst, ◌∙◌}
-use mathlib.Core.Bool.{true, false}
 use mathlib.Core.List.{List, [], ◌∷◌, ◌++◌}
 use mathlib.Core.Option.{Option, none, some}
 use Prim.Native.Nat.{ℕ, ◌+◌}
@@ -15,7 +14,7 @@ use Rattle.sheet_rows.specs.Parse.{elements, value_of, field_of, fields_of, node
 use Rattle.sheet_walks.specs.Walk.{Stands}
 use Rattle.sheet_walks.proofs.WalkLaws.{front_drop}
 use Rattle.expansion_definition.specs.Input.{Input}
-use Rattle.expansion_definition.specs.State.{Comp, ◌>>=◌, ◌>>◌, ret, map_m}
+use Rattle.expansion_definition.specs.State.{Comp, ret, map_m}
 use Rattle.expansion_definition.specs.Values.{Env, value}
 use Rattle.expansion_definition.specs.PlainCopy.{is_value, copy_field, copy_binding, somes}
 use Rattle.expansion_definition.specs.Copy.{copy}
@@ -37,7 +36,7 @@ use Rattle.refine_records.proofs.Keeping.{kept_handle, kept_fields_lem}
 use Rattle.expander_parts.specs.Contract.{source_of, rows_of, node_at_row}
 use Rattle.expander_parts.proofs.Said.{somes_more}
 use Rattle.expander_bindings.specs.Contract.{is_field_of, bound_field, FieldsAfter, FieldDone}
-use Rattle.expander_contracts.specs.Contract.{Here, Yields, Value, list, AddsField, FieldAdded, FieldsCopied, ValueCopied}
+use Rattle.expander_contracts.specs.Contract.{Here, Yields, list, AddsField, FieldAdded, FieldsCopied, ValueCopied}
 use Rattle.expander_contracts.proofs.Run.{begin, last, end, went, gave, leaf, yields_as, since, here_later}
 use Rattle.expander_contracts.proofs.Keeps.{charged, paid_then, keeping, keeping_stop}
 use Rattle.expander_contracts.proofs.Walks.{Mapping, loop_start, loop_again, loop_stop, loop_end}

@@ -21,7 +21,7 @@ use Rattle.source_directory.specs.Directory.{number_of, Slot}
 use Rattle.source_names.specs.Names.{LastField}
 use Rattle.expansion_definition.specs.Input.{Input}
 use Rattle.expansion_definition.specs.Scopes.{Scope}
-use Rattle.expansion_definition.specs.State.{State, Result, refusal, ok, Comp, bind_r, ◌>>=◌, ◌>>◌, ret}
+use Rattle.expansion_definition.specs.State.{State, Result, refusal, ok, Comp, bind_r, ◌>>=◌, ret}
 use Rattle.expansion_definition.specs.Charges.{charge, paid}
 use Rattle.expansion_definition.specs.Values as values
 use Rattle.expansion_definition.specs.Values.{Values, Env, value, src}
@@ -33,6 +33,7 @@ use Rattle.journal_reading.specs.Reading.{values_at}
 use Rattle.journal_reading.specs.WellFormed.{HandleAt}
 use Rattle.journal_reading.proofs.Chains.{values_fixed}
 use Rattle.refine_records.specs.declared.Limits.{Limits}
+use Rattle.std.specs.declared.option.Option.TheVariants.{None}
 use Rattle.std.specs.declared.result.Result.TheVariants.{Ok, Err}
 use Rattle.refine_records.specs.declared.Refusal.{Refusal}
 use Rattle.refine_records.specs.declared.Counts.{Counts}
@@ -45,7 +46,7 @@ use Rattle.refine_records.proofs.Opening.{open_env, env_open}
 use Rattle.expander_parts.specs.Contract.{source_of, rows_of, node_at_row}
 use Rattle.expander_parts.proofs.Lending.{lent_later}
 use Rattle.expander_bindings.specs.Contract.{HasValue, GivenDone}
-use Rattle.expander_contracts.specs.Contract.{Here, AtRow, Yields, Is, Value, StoredValues, prototype_at, given_by, ValueStored, ValueCopied}
+use Rattle.expander_contracts.specs.Contract.{Here, AtRow, Yields, Is, StoredValues, prototype_at, given_by, ValueStored, ValueCopied}
 use Rattle.expander_contracts.proofs.Run.{Run, begin, turn, end, go, halt, through, went, gave, leaf, yields_young, yields_as}
 use Rattle.expander_contracts.proofs.Keeps.{charged, stored_yields, charging, keeping_stop}
 
@@ -102,7 +103,7 @@ module _ {w : List ℕ} {e : code.Env} {target : ℕ} where
 -- ---- `given`
 -- the Env of a default's scope
 abbrev pub default_env : ℕ → ℕ → ℕ → code.Env
-default_env n place slot = record { scope = n; place = place; slot = slot; body = false; values = 0 }
+default_env n place slot = record { scope = n; place = place; slot = slot; values = None }
 
 module _ (root library dir w : List ℕ) (L : Limits) (t : Counts) (e : code.Env) (row slot proto q k h depth : ℕ) (here : Here root library dir w L t e) (d : Row) (is : d ≡ get_or (rows_of root library dir slot) q blank) {x : Found} (lf : LastField d.c (rows_of root library dir e.slot) row x) where
   abbrev F : List Row
@@ -224,17 +225,14 @@ module _ (root library dir w : List ℕ) (L : Limits) (t : Counts) (e : code.Env
         oa : OpenedAt w t 2 (number_of dir slot) proto k e.scope w₁ t₁ n p
         oa = rw (ed, ok) at o.done
 
-        none_stored : HandleAt w t.charges tag_stored 0
-        none_stored = record { low = omega arith; tag = λ l. absurd (omega arith) }
-
         is_env : env_of w₁ inner ≡ record { scope = n; entry = scope; is_values = none }
-        is_env = env_open oa here.standing.sound y inner refl ep none_stored
+        is_env = env_open oa here.standing.sound y inner refl ep tt
 
         pub default_here : Here root library dir w₁ L t₁ inner
         default_here = record {
           standing = later_standing y here.standing;
           lent = lent_later y here.lent;
-          env = open_env oa here.standing.sound y inner refl ep none_stored;
+          env = open_env oa here.standing.sound y inner refl ep tt;
           slot = sl;
           number = sym (ap (λ (E : Env). src E) is_env);
         }

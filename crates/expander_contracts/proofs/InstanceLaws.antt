@@ -1,6 +1,5 @@
 -- `instantiate`: the PROTO, the values of its interfaces, its body in a scope of its own, and the record of the instance.
 use mathlib.Core.Path.{◌≡◌, refl, sym, ap, subst, ◌∙◌}
-use mathlib.Core.Bool.{true}
 use mathlib.Core.List.{List, []}
 use mathlib.Core.Option.{none, some}
 use Prim.Native.Nat.{ℕ, ◌≤◌}
@@ -30,6 +29,7 @@ use Rattle.expansion_definition.specs.Copy.{copy}
 use Rattle.journal_reading.specs.Reading.{values_at, body_of}
 use Rattle.journal_reading.specs.WellFormed.{NodeAt}
 use Rattle.refine_records.specs.declared.Limits.{Limits}
+use Rattle.std.specs.declared.option.Option.TheVariants.{Some}
 use Rattle.std.specs.declared.result.Result.TheVariants.{Ok, Err}
 use Rattle.refine_records.specs.declared.Refusal.{Refusal}
 use Rattle.refine_records.specs.declared.Refusal.TheVariants.{NoRoot, DanglingProto}
@@ -110,7 +110,7 @@ module _ (root library dir w : List ℕ) (L : Limits) (t : Counts) (e : code.Env
 
           module _ {s₂ : Counts} {n p₂ : ℕ} (z₂ : a₂ ≡ did s₂ n p₂) (place₂ : ℕ) (ep : place₂ ≡ p₂) where
             abbrev inner : code.Env
-            inner = record { scope = n; place = place₂; slot = slot; body = true; values = vs }
+            inner = record { scope = n; place = place₂; slot = slot; values = Some vs }
 
             new : OpenedAt w₁ s 1 d proto 0 e.scope w₂ s₂ n p₂
             new = rw z₂ at y₂.done

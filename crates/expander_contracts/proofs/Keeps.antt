@@ -1,6 +1,6 @@
 -- A step, then a charge with a record: as `paid` asks, and what is given is made of what the step gave.
 use mathlib.Core.Path.{◌≡◌, refl}
-use mathlib.Core.List.{List, [], ◌∷◌}
+use mathlib.Core.List.{List}
 use Prim.Native.Nat.{ℕ}
 use Rattle.expansion_definition.specs.Input.{Input}
 use Rattle.expansion_definition.specs.State.{State, Result, refusal, ok, Comp, bind_r, ◌>>=◌, ◌>>◌, ret}

@@ -2,7 +2,6 @@
 use mathlib.Core.Path.{◌≡◌, refl, sym, ◌∙◌}
 use mathlib.Core.List.{List, [], ◌∷◌}
 use Prim.Native.Nat.{ℕ, zero, suc}
-use native.Mathlib.Omega.{arith}
 use lib.ListN.{drop, get_or}
 use Rattle.ast.specs.Ast.{NodeOrigin}
 use Rattle.sheet_rows.specs.declared.row.Row.{Row}
@@ -13,7 +12,6 @@ use Rattle.sheet_walks.proofs.WalkLaws.{front_drop}
 use Rattle.source_directory.specs.Directory.{number_of}
 use Rattle.expansion_definition.specs.Input.{Input}
 use Rattle.expansion_definition.specs.State.{State, ok, Comp, ◌>>=◌, ret}
-use Rattle.expansion_definition.specs.Values.{Env}
 use Rattle.expansion_definition.specs.Externs.{extern_proto}
 use Rattle.expansion_definition.specs.PlainCopy.{copy_origin}
 use Rattle.refine_records.specs.declared.Limits.{Limits}

@@ -5,20 +5,19 @@ use mathlib.Core.List.{List, [], ◌∷◌}
 use Prim.Native.Nat.{ℕ, zero, suc, ◌+◌, ◌-◌, ◌≤◌, ◌<◌}
 use native.Mathlib.Omega.{arith}
 use native.Mathlib.Numerals.{add-one}
-use native.Mathlib.Decide.{ℕ_discrete}
 use lib.ListN.{length, get_or, take, drop, length-drop}
 use lib.Seq.{get_or-drop}
-use lib.Dec.{eqb, ltb}
-use borrow.Author.Tests.{ltb-true, ltb-false, eqb-true, eq-eqb, ne_eqb}
+use lib.Dec.{eqb}
+use borrow.Author.Tests.{eq-eqb, ne_eqb}
 use Rattle.sheet_rows.specs.declared.row.Row.{Row}
 use Rattle.sheet_rows.specs.declared.part.Part.{Part}
-use Rattle.sheet_rows.specs.declared.part.Part.TheVariants.{Interfaces, Statements, BodyOrder}
-use Rattle.sheet_rows.specs.Rows.{blank, rows}
+use Rattle.sheet_rows.specs.declared.part.Part.TheVariants.{Interfaces}
+use Rattle.sheet_rows.specs.Rows.{blank}
 use Rattle.sheet_rows.specs.Parse.{elements, kind_of, passes}
 use Rattle.sheet_walks.specs.Walk.{Stands}
 use Rattle.sheet_walks.proofs.WalkLaws.{elements_take, elements_pass, elements_stop}
 use Rattle.source_skips.specs.declared.Aim.{Aim}
-use Rattle.source_skips.specs.declared.Aim.TheVariants.{Body, Default, Interface}
+use Rattle.source_skips.specs.declared.Aim.TheVariants.{Interface}
 use Rattle.source_skips.specs.Skips.{passable, Passed, interfaces_in, interfaces_from}
 
 -- ---- one row after the other

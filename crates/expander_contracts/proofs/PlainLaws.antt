@@ -29,7 +29,7 @@ use Rattle.refine_records.specs.declared.Refusal.{Refusal}
 use Rattle.refine_records.specs.declared.Counts.{Counts}
 use Rattle.refine_records.specs.declared.Env as code
 use Rattle.refine_records.specs.Sound.{input_of, Later, env_of}
-use Rattle.refine_records.specs.Does.{Answer, did, Decode, number, at, Does}
+use Rattle.refine_records.specs.Does.{Answer, did, Decode, at, Does}
 use Rattle.refine_records.specs.Contract.{Reserved, ReservedAt, contents_of, Fillable}
 use Rattle.refine_records.proofs.Later.{later_trans, later_handle, later_node, env_later}
 use Rattle.refine_nodes.proofs.Filling.{fill_later, fill_does}

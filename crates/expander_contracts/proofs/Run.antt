@@ -1,9 +1,9 @@
 -- How a part is shown to yield what its piece of the definition gives: the steps of the calculus, for every D at once.
 use mathlib.Core.Path.{◌≡◌, refl, sym, ap, ◌∙◌}
-use mathlib.Core.List.{List, [], ◌∷◌}
+use mathlib.Core.List.{List}
 use Prim.Native.Nat.{ℕ, ◌≤◌}
 use Rattle.expansion_definition.specs.Input.{Input}
-use Rattle.expansion_definition.specs.State.{Comp, ◌>>=◌, ◌>>◌, ret, fail}
+use Rattle.expansion_definition.specs.State.{Comp, ◌>>=◌, ret, fail}
 use Rattle.expansion_definition.specs.Values.{Env, src}
 use Rattle.refine_records.specs.declared.Limits.{Limits}
 use Rattle.std.specs.declared.result.Result.TheVariants.{Ok, Err}

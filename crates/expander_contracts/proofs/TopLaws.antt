@@ -23,19 +23,20 @@ use Rattle.expansion_definition.specs.PlainCopy.{somes}
 use Rattle.expansion_definition.specs.Instances.{open_scope}
 use Rattle.expansion_definition.specs.Copy.{copy}
 use Rattle.expansion_definition.specs.Expand.{statement, statements, root_env}
-use Rattle.journal_records.specs.Records.{tag_statement, tag_stored, Paid}
+use Rattle.journal_records.specs.Records.{tag_statement, Paid}
 use Rattle.journal_records.specs.Made.{statement_record}
 use Rattle.journal_reading.specs.Reading.{statements_at}
 use Rattle.journal_reading.specs.WellFormed.{HandleAt}
 use Rattle.journal_reading.proofs.Fair.{handle_none}
 use Rattle.journal_reading.proofs.Chains.{statements_none, statements_fixed}
 use Rattle.refine_records.specs.declared.Limits.{Limits}
+use Rattle.std.specs.declared.option.Option.TheVariants.{None}
 use Rattle.std.specs.declared.result.Result.TheVariants.{Ok, Err}
 use Rattle.refine_records.specs.declared.Refusal.{Refusal}
 use Rattle.refine_records.specs.declared.Refusal.TheVariants.{TooManyRows}
 use Rattle.refine_records.specs.declared.Counts.{Counts}
 use Rattle.refine_records.specs.declared.Env as code
-use Rattle.refine_records.specs.Sound.{Source, input_of, nothing_yet, Standing, Later, env_of}
+use Rattle.refine_records.specs.Sound.{Source, input_of, nothing_yet, Standing, Later, ValuesBelow, env_of}
 use Rattle.refine_records.specs.Does.{Answer, did, at, IfDone, Does, Doing}
 use Rattle.refine_records.specs.Contract.{Keepable, RecordKept, OpenedAt, ScopeOpened}
 use Rattle.refine_records.proofs.Beginning.{state_none}
@@ -50,7 +51,7 @@ use Rattle.expander_parts.proofs.Lending.{lent_later}
 use Rattle.expander_marks.proofs.Entries.{said_same}
 use Rattle.source_lookup.proofs.SourcedLaws.{slot_root, number_root}
 use Rattle.expander_contracts.specs.Contract.{Here, Yields, list, AddsStatement, Copied, StatementAdded, TopStatements as AllTops, TopsCopied, NothingRecorded, TopStatementsCopied}
-use Rattle.expander_contracts.proofs.Run.{begin, turn, last, end, went, gave, leaf, yields_as, since, here_later}
+use Rattle.expander_contracts.proofs.Run.{begin, last, end, went, gave, leaf, yields_as, since, here_later}
 use Rattle.expander_contracts.proofs.Keeps.{charged, paid_then, keeping, keeping_stop}
 use Rattle.expander_contracts.proofs.Walks.{Mapping, loop_start, loop_again, loop_stop, loop_end}
 use Rattle.expander_contracts.proofs.FieldLaws.{somes_last}
@@ -245,7 +246,7 @@ module _ (root library dir w : List ℕ) (L : Limits) (depth : ℕ) (b : Nothing
       pub top_stop : {x' : Refusal} → a ≡ Err x' → TopStatementsCopied root library w L depth w₂ a
       top_stop q = whole (calculus.stop (λ n. left) doing₁ (o.does S 0) q (λ u v p. statements_at u v)) (rw q tt)
 
-      module _ {t : Counts} {n g : ℕ} (q : a ≡ did t n g) (e : code.Env) (scope : e.scope ≡ n) (place : e.place ≡ g) (slot : e.slot ≡ 0) (body : e.body ≡ false) (vs : e.values ≡ 0) where
+      module _ {t : Counts} {n g : ℕ} (q : a ≡ did t n g) (e : code.Env) (scope : e.scope ≡ n) (place : e.place ≡ g) (slot : e.slot ≡ 0) (vs : e.values ≡ None) where
         opened : OpenedAt w₁ two 0 0 0 0 0 w₂ t n g
         opened = rw q at o.done
 
@@ -255,11 +256,11 @@ module _ (root library dir w : List ℕ) (L : Limits) (depth : ℕ) (b : Nothing
         doing₂ : Doing S L 0 (statements I) w nothing_yet left w₂ t
         doing₂ = calculus.step (λ n. left) doing₁ (o.does S 0) q
 
-        values : HandleAt w₁ 2 tag_stored e.values
-        values = rw vs (handle_none w₁ 2 tag_stored)
+        values : ValuesBelow w₁ 2 e.values
+        values = rw vs tt
 
         is_root : env_of w₂ e ≡ root_env
-        is_root = env_open opened top_standing.sound later₂ e scope place values ∙ rw (body, opened.value)
+        is_root = env_open opened top_standing.sound later₂ e scope place values ∙ rw (vs, opened.value)
 
         pub top_here : Here root library dir w₂ L t e
         top_here = record {

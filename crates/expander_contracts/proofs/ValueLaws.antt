@@ -1,7 +1,7 @@
 -- `value`: a payload, or the copies of ids, each behind a charge.
 use mathlib.Core.Path.{◌≡◌, refl, sym, ap, subst, ◌∙◌}
 use mathlib.Core.Bool.{true, false}
-use mathlib.Core.List.{List, [], ◌∷◌}
+use mathlib.Core.List.{List, []}
 use Prim.Native.Nat.{ℕ, ◌+◌}
 use native.Mathlib.Omega.{arith}
 use lib.ListN.{drop, get_or}
@@ -15,7 +15,7 @@ use Rattle.sheet_rows.specs.Parse.{elements, ids_of, value_of}
 use Rattle.sheet_walks.specs.Walk.{Stands}
 use Rattle.sheet_walks.proofs.WalkLaws.{front_drop}
 use Rattle.expansion_definition.specs.Input.{Input}
-use Rattle.expansion_definition.specs.State.{Result, refusal, ok, Comp, bind_r, ◌>>=◌, ◌>>◌, ret, map_m}
+use Rattle.expansion_definition.specs.State.{Result, refusal, ok, Comp, bind_r, ◌>>=◌, ret, map_m}
 use Rattle.expansion_definition.specs.Charges.{paid}
 use Rattle.expansion_definition.specs.Values.{Env, copy_data, value}
 use Rattle.expansion_definition.specs.Copy.{copy}
@@ -34,7 +34,6 @@ use Rattle.refine_records.specs.Does.{Answer, did, at}
 use Rattle.refine_records.specs.Contract.{Keepable, RecordKept}
 use Rattle.refine_records.proofs.Later.{env_later, later_handle}
 use Rattle.refine_records.proofs.Keeping.{kept_handle, kept_ids}
-use Rattle.refine_records.proofs.Calculus as calculus
 use Rattle.expander_parts.specs.Contract.{source_of, rows_of}
 use Rattle.expander_contracts.specs.Contract.{Here, Yields, ListAppended, one, Copied, ValueCopied}
 use Rattle.expander_contracts.proofs.Run.{begin, turn, end, went, gave, since, here_later}

@@ -16,7 +16,7 @@ use Rattle.sheet_walks.specs.Walk.{Stands}
 use Rattle.sheet_walks.proofs.WalkLaws.{rest_drop, each_at}
 use Rattle.source_directory.specs.Directory.{number_of}
 use Rattle.expansion_definition.specs.Input.{Input}
-use Rattle.expansion_definition.specs.State.{Comp, bind_r, ◌>>=◌, ret, map_m}
+use Rattle.expansion_definition.specs.State.{Comp, bind_r, ◌>>=◌, map_m}
 use Rattle.refine_records.specs.declared.Limits.{Limits}
 use Rattle.std.specs.declared.result.Result.TheVariants.{Err}
 use Rattle.refine_records.specs.declared.Refusal.{Refusal}

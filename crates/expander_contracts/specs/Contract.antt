@@ -1,5 +1,5 @@
 -- What the parts of the expander ask and give: each does what its piece of the definition does.
-use Rattle.std.specs.Prelude.{◌≡◌, true, false, List, [], ◌∷◌, ◌++◌, ℕ, ◌+◌, ◌<◌, length, drop}
+use Rattle.std.specs.Prelude.{Option as Maybe, Some, None, IfSome, Result, ◌≡◌, List, [], ◌∷◌, ◌++◌, ℕ, ◌<◌, length, drop}
 use Rattle.std.proofs.Math.Option.{Option, none, some}
 use Rattle.ast.specs.Ast.{NodeOrigin, FieldValue, Field, InterfaceDecl, Statement}
 use Rattle.ast.specs.Lookups.{proto_at}
@@ -24,9 +24,11 @@ use Rattle.journal_reading.specs.RecordsStay.{Unrecorded}
 use Rattle.refine_records.specs.declared.Limits.{Limits}
 use Rattle.std.specs.declared.result.Result.TheVariants.{Ok, Err}
 use Rattle.refine_records.specs.declared.Counts.{Counts}
+use Rattle.refine_records.specs.declared.NodeCopy.{NodeCopy}
+use Rattle.refine_records.specs.declared.Refusal.{Refusal}
 use Rattle.refine_records.specs.declared.Env as code
 use Rattle.refine_records.specs.Sound.{input_of, nothing_yet, Standing, Later, EnvAt, env_of}
-use Rattle.refine_records.specs.Does.{Answer, did, result_of, IfDone, Does}
+use Rattle.refine_records.specs.Does.{Answer, given, did, result_of, IfDone, Does}
 use Rattle.expander_parts.specs.Contract.{source_of, Lent, rows_of, node_at_row}
 
 -- ---- where a part begins
@@ -200,6 +202,22 @@ BodyStatementCopied root library w L t e id inner R row out place depth =
     Yields root library L inner.scope
     (λ I. body_statement I (copy I depth) (env_of w e) id (env_of w inner) (body_of w t.charges inner.scope out place) (statement_of (drop row R)))
     (BodySoFar inner.scope) w t
+
+-- the root of a body as numbers: its copy and the place of its record, 0 and 0 for none
+abbrev pub root_id : Maybe NodeCopy → ℕ
+root_id None = 0
+root_id (Some x) = x.id.0
+
+abbrev pub root_place : Maybe NodeCopy → ℕ
+root_place None = 0
+root_place (Some x) = x.place
+
+abbrev pub root_given : Counts → Result (Maybe NodeCopy) Refusal → Answer
+root_given = given root_id root_place
+
+-- a root is at no place 0
+abbrev pub Rooted : Maybe NodeCopy → Type 0
+Rooted r = IfSome r (λ x. 0 < x.place)
 
 -- an answer that leaves the body's root as it was
 abbrev pub kept_of : Answer → ℕ → ℕ → Answer

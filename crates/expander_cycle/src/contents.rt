@@ -11,12 +11,16 @@ use super::{elements, values};
 use ast::NodeId;
 use journal_records::Record;
 use refine_records::{Env, Journal, Limits, Refusal};
+use sheet_rows::codes;
 use sheet_rows::part::Part;
 use sheet_rows::row::{NONE, Row};
+use sheet_walks::walk;
 use sheet_walks::walk::Found;
 use source_lookup::Sources;
 
 // The fields of the node at a row.
+// Kept: `interfaces` has the same loop. In a cycle of calls the step cannot be a parameter, and a trait with `fields` and
+// `interfaces` as its two kinds is longer than both.
 #[cycle(field_fields_interface_interfaces_copy_body_given_instantiate_statement_values_plain_value)]
 pub fn fields(
     sources: &Sources<'_>,
@@ -31,15 +35,12 @@ pub fn fields(
     requires at_row { AtRow sources.now.root.now sources.now.library.now sources.now.dir.now env.slot row }
     ensures { FieldsCopied sources.now.root.now sources.now.library.now sources.now.dir.now journal.old.work.now lim journal.old.counts env new.0 row depth journal.new.work.now (number_given journal.new.counts result) }
 {
+    let sheet = expander_parts::sheet_of(sources, env.slot);
     let mut h: u32 = 0;
-    let mut at = row + 1;
-    loop {
-        let Found::At(q) = elements::next(sources, env.slot, Part::Fields, at) else {
-            return Ok(h);
-        };
-        at = q + 1;
+    for q in walk::elements(sheet, Part::Fields, row + 1) {
         h = field(sources, journal, lim, env, new, q, h, depth)?;
     }
+    Ok(h)
 }
 
 // The field of a row with a value, behind those of a handle.
@@ -74,13 +75,14 @@ pub fn field(
     ensures { FieldAdded sources.now.root.now sources.now.library.now sources.now.dir.now journal.old.work.now lim journal.old.counts env new.0 row h depth journal.new.work.now (number_given journal.new.counts result) }
 {
     let r = elements::row_of(sources, env.slot, row);
-    if r.b == 1 {
+    if r.b == codes::field::IS {
         return expander_fields::is_field(journal, lim, env, new, r, h);
     }
-    if r.f != 2 {
+    if r.f != codes::class::NODES {
         return add_field(journal, lim, r, r.g, h);
     }
-    let Found::At(_) = elements::next(sources, env.slot, Part::Ids, row + 1) else {
+    let sheet = expander_parts::sheet_of(sources, env.slot);
+    let Found::At(_) = walk::seek(sheet, Part::Ids, row + 1) else {
         return add_field(journal, lim, r, 0, h);
     };
     let value = values::value(sources, journal, lim, env, row, depth)?;
@@ -102,15 +104,12 @@ pub fn interfaces(
     requires at_row { AtRow sources.now.root.now sources.now.library.now sources.now.dir.now env.slot row }
     ensures { InterfacesCopied sources.now.root.now sources.now.library.now sources.now.dir.now journal.old.work.now lim journal.old.counts env new.0 row depth journal.new.work.now (number_given journal.new.counts result) }
 {
+    let sheet = expander_parts::sheet_of(sources, env.slot);
     let mut h: u32 = 0;
-    let mut at = row + 1;
-    loop {
-        let Found::At(q) = elements::next(sources, env.slot, Part::Interfaces, at) else {
-            return Ok(h);
-        };
-        at = q + 1;
+    for q in walk::elements(sheet, Part::Interfaces, row + 1) {
         h = interface(sources, journal, lim, env, new, q, h, depth)?;
     }
+    Ok(h)
 }
 
 #[cycle(field_fields_interface_interfaces_copy_body_given_instantiate_statement_values_plain_value)]

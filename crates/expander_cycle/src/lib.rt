@@ -1,6 +1,7 @@
 #![tactic(auto)]
 // Expand: copy, instantiate and value with their parts, which call each other: a node here, its fields and interfaces in
 // contents, a value in values, an instance in instances. Remaining depth falls at each node entered.
+// Kept: the sources, the journal, the limits and the Env are parameters of their own, as in expander_parts.
 mod contents;
 mod elements;
 mod instances;
@@ -12,10 +13,10 @@ ghost use Rattle.expander_contracts.specs.Contract.{Here, AtRow, Copied, PlainNo
 use ast::{ExternProtoId, NodeId};
 use journal_records::words;
 use refine_records::{Env, Journal, Limits, NodeCopy, Refusal};
+use sheet_rows::codes;
 use sheet_walks::walk::Found;
 use source_directory;
 use source_lookup::Sources;
-use source_lookup::instance::Target;
 
 // The origin of the node at a row; the extern of an ExternProto origin is declared.
 fn origin(
@@ -29,7 +30,7 @@ fn origin(
     ensures { OriginCopied sources.now.root.now sources.now.library.now sources.now.dir.now journal.old.work.now lim journal.old.counts env row journal.new.work.now (number_given journal.new.counts result) }
 {
     let r = elements::row_of(sources, env.slot, row);
-    if r.c == 2 {
+    if r.c == codes::origin::EXTERN_PROTO {
         let id = ExternProtoId(r.d);
         return expander_parts::extern_proto(sources, journal, lim, env.slot, id);
     }
@@ -66,10 +67,10 @@ pub fn copy(
     }
     let r = elements::row_of(sources, env.slot, row);
     let x = sources.target(journal.lent(), env.slot, r.c, r.d);
-    let Some(Target { slot, proto }) = x else {
+    let Some(target) = x else {
         return plain(sources, journal, lim, env, id, row, depth - 1);
     };
-    instances::instantiate(sources, journal, lim, env, id, row, slot, proto, depth - 1)
+    instances::instantiate(sources, journal, lim, env, id, row, target, depth - 1)
 }
 
 // A plain node: reserved and mapped, then its contents, and at the end it gets them.

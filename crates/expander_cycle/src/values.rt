@@ -7,7 +7,8 @@ use ast::NodeId;
 use journal_records::Record;
 use refine_records::{Env, Journal, Limits, Refusal};
 use sheet_rows::part::Part;
-use sheet_walks::walk::Found;
+use sheet_rows::{codes, row};
+use sheet_walks::walk;
 use source_lookup::Sources;
 
 // The value at a row: its payload, or the handle of its ids' copies.
@@ -25,18 +26,15 @@ pub fn value(
     ensures { ValueCopied sources.now.root.now sources.now.library.now sources.now.dir.now journal.old.work.now lim journal.old.counts env row depth journal.new.work.now (number_given journal.new.counts result) }
 {
     let r = elements::row_of(sources, env.slot, row);
-    if r.f != 2 {
+    if r.f != codes::class::NODES {
         return Ok(r.g);
     }
+    let sheet = expander_parts::sheet_of(sources, env.slot);
     let mut h: u32 = 0;
-    let mut at = row + 1;
-    loop {
-        let Found::At(q) = elements::next(sources, env.slot, Part::Ids, at) else {
-            return Ok(h);
-        };
-        at = q + 1;
-        let i = elements::row_of(sources, env.slot, q);
+    for q in walk::elements(sheet, Part::Ids, row + 1) {
+        let i = row::row_at(sheet, q);
         let copied = super::copy(sources, journal, lim, env, NodeId(i.a), depth)?;
         h = journal.keep(lim, Record::id(copied.id.0, h))?;
     }
+    Ok(h)
 }

@@ -1,9 +1,10 @@
 #![tactic(auto)]
 // Expand as C calls it: the answer in lent words.
+// Kept: the parameters of the C interface, one by one.
 ghost use Rattle.expander_run.specs.Calls.{call_of};
 ghost use Rattle.expander_export.specs.Exports.{SaysC, Demand1C, Demand3C};
 
-use expander_run::Numbers;
+use expander_run::{Numbers, Refusal};
 
 // Expand. Answer: refusal, first place, second place, nodes, scopes, charges, rows of out.
 pub fn expand<'a>(
@@ -23,7 +24,7 @@ pub fn expand<'a>(
     ensures demand3c { Demand3C (call_of root.now library.now max_nodes max_depth max_rows out.old ledger.old scopes.old work.old) result out.new ledger.new scopes.new answer.new }
 {
     if answer.len() < 7 {
-        return 1;
+        return u32::from(Refusal::NoRoom);
     }
     let n = Numbers::of(expander_call::expand(
         root, library, max_nodes, max_depth, max_rows, out, ledger, scopes, work,

@@ -8,7 +8,7 @@ use Rattle.ast.specs.Ast.{FieldValue, Field}
 use Rattle.sheet_rows.specs.declared.row.Row.{Row}
 use Rattle.expansion_definition.specs.State.{Comp, ◌>>=◌, ◌>>◌, ret}
 use Rattle.expansion_definition.specs.Charges.{charge}
-use Rattle.expansion_definition.specs.Values.{Env, Copier, clone}
+use Rattle.expansion_definition.specs.Values.{Copier, clone}
 use Rattle.expansion_definition.specs.PlainCopy.{associate, is_value, with_value, is_field, copy_binding, copy_field, somes}
 use Rattle.journal_records.specs.Records.{tag_id, tag_field}
 use Rattle.journal_records.specs.Made.{field_record}

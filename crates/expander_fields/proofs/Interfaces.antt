@@ -9,7 +9,7 @@ use Rattle.ast.specs.Ast.{FieldValue, InterfaceDecl}
 use Rattle.sheet_rows.specs.declared.row.Row.{Row}
 use Rattle.expansion_definition.specs.State.{Comp, bind_r, ◌>>=◌, ◌>>◌, ret}
 use Rattle.expansion_definition.specs.Charges.{charge}
-use Rattle.expansion_definition.specs.Values.{Env, Copier, clone}
+use Rattle.expansion_definition.specs.Values.{Copier, clone}
 use Rattle.expansion_definition.specs.PlainCopy.{associate, is_value, interface_with, is_interface, copy_target, copy_interface}
 use Rattle.journal_records.specs.Records.{tag_id, tag_interface}
 use Rattle.journal_records.specs.Made.{interface_record}

@@ -1,12 +1,11 @@
 #![tactic(auto)]
 // A plain node's fields and interfaces that have an IS.
+// Kept: the journal, the limits and the Env are parameters of their own, as in expander_bindings.
 ghost use Rattle.std.specs.Prelude.{◌≡◌};
 ghost use Rattle.journal_records.specs.Records.{tag_field, tag_interface};
-ghost use Rattle.journal_records.specs.Made.{interface_record};
 ghost use Rattle.journal_reading.specs.WellFormed.{HandleAt};
 ghost use Rattle.refine_records.specs.Does.{number_given};
 ghost use Rattle.refine_records.specs.Sound.{Standing, EnvAt};
-ghost use Rattle.refine_records.specs.Contract.{Keepable, RecordKept};
 ghost use Rattle.expander_bindings.specs.Contract.{FieldDone, InterfaceDone};
 
 use ast::NodeId;
@@ -14,6 +13,7 @@ use expander_bindings::Given;
 use journal_records::Record;
 use refine_records;
 use refine_records::{Env, Journal, Limits, Refusal};
+use sheet_rows::codes;
 use sheet_rows::row::{NONE, Row};
 
 // A field with an IS, behind the fields of h; the handle of the fields after it.
@@ -41,27 +41,6 @@ pub fn is_field(
     }
 }
 
-// An interface of a row with another target and value, behind the interfaces of h.
-fn interface(
-    journal: &mut Journal<'_>,
-    lim: Limits,
-    r: Row,
-    target: u32,
-    ty: u32,
-    class: u32,
-    payload: u32,
-    h: u32,
-) -> Result<u32, Refusal>
-    requires standing { Standing lim journal.old.work.now journal.old.counts }
-    requires keepable { Keepable journal.old.work.now journal.old.counts.charges (interface_record r.a r.b r.c target ty class payload h) }
-    ensures { RecordKept lim journal.old.work.now journal.old.counts (interface_record r.a r.b r.c target ty class payload h) journal.new.work.now (number_given journal.new.counts result) }
-{
-    journal.keep(
-        lim,
-        Record::interface(r.a, r.b, r.c, target, ty, class, payload, h),
-    )
-}
-
 // An interface with an IS, behind the interfaces of h.
 pub fn is_interface(
     journal: &mut Journal<'_>,
@@ -79,10 +58,17 @@ pub fn is_interface(
 {
     expander_bindings::associate(journal, lim, env, r.d, new, r.c)?;
     match expander_bindings::target_value(journal, lim, env, r.d)? {
-        Given::Outside => interface(journal, lim, r, r.d, 0, 0, 0, h),
-        Given::Without => interface(journal, lim, r, NONE, 0, 0, 0, h),
-        Given::With { ty, class, payload } => interface(
-            journal, lim, r, NONE, ty, class, payload, h,
+        Given::Outside => journal.keep(
+            lim,
+            Record::interface(r.a, r.b, r.c, r.d, 0, codes::class::NONE, 0, h),
+        ),
+        Given::Without => journal.keep(
+            lim,
+            Record::interface(r.a, r.b, r.c, NONE, 0, codes::class::NONE, 0, h),
+        ),
+        Given::With { ty, class, payload } => journal.keep(
+            lim,
+            Record::interface(r.a, r.b, r.c, NONE, ty, class, payload, h),
         ),
     }
 }

@@ -1,5 +1,7 @@
 #![tactic(auto)]
 // The record of an instance, and the routes of its body.
+// Kept: the journal, the limits and the Env are parameters of their own. Only the journal changes: behind one `&mut` each
+// contract would have to say that the others stay.
 ghost use Rattle.std.specs.Prelude.{◌≡◌};
 ghost use Rattle.ast.specs.Choice.{or_else};
 ghost use Rattle.sheet_rows.specs.Parse.{optional};
@@ -13,7 +15,6 @@ use journal_records::{Record, words};
 use refine_records;
 use refine_records::{Env, Journal, Limits, NodeCopy, Refusal};
 use sheet_rows::row::NONE;
-use words_lent::wide;
 
 // The routes of a scope of which no instance is recorded yet: their ends as they are in the scope's map now.
 fn remap_routes(journal: &mut Journal<'_>, lim: Limits, env: Env)
@@ -21,7 +22,8 @@ fn remap_routes(journal: &mut Journal<'_>, lim: Limits, env: Env)
     requires remappable { Remappable journal.old.work.now journal.old.counts.charges env }
     ensures { Remapped lim journal.old.work.now journal.old.counts env.scope journal.new.work.now × (journal.new.counts ≡ journal.old.counts) }
 {
-    let mut cur = wide(journal.word(env.place, words::scope::ROUTES));
+    // Kept: the loop writes into the records that it walks; an iterator over them would hold the journal borrowed.
+    let mut cur = journal.word(env.place, words::scope::ROUTES) as usize;
     while 0 < cur {
         let r = cur - 1;
         let from = refine_nodes::remap(
@@ -33,11 +35,13 @@ fn remap_routes(journal: &mut Journal<'_>, lim: Limits, env: Env)
         let to = refine_nodes::remap(journal, lim, env, NodeId(journal.word(r, words::route::TO)));
         journal_records::set(journal.work, r, words::route::REMAPPED_FROM, from.0);
         journal_records::set(journal.work, r, words::route::REMAPPED_TO, to.0);
-        cur = wide(journal.word(r, words::BEFORE));
+        cur = journal.word(r, words::BEFORE) as usize;
     }
 }
 
 // A DEF name, or where there is none the old one.
+// Kept: words and no Options. One is a row's, the other a record's, and a record takes the result: as Options all three would
+// be turned here.
 fn named(def: u32, old: u32) -> u32
     ensures { optional result ≡ or_else (optional def) (optional old) }
 {
@@ -67,7 +71,7 @@ pub fn record_instance(
     let roots = journal.word(s, words::scope::ROOTS);
     let routes = journal.word(s, words::scope::ROUTES);
     let associations = journal.word(s, words::scope::ASSOCIATIONS);
-    let n = wide(out.place) - 1;
+    let n = out.place as usize - 1;
     let old = journal.word(n, words::node::DEF);
     let nested = journal.word(n, words::node::INSTANCE);
     let scope = inner.scope;

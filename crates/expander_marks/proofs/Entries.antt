@@ -1,50 +1,23 @@
 -- Which entries are kept: of a row, and of all from a row on.
-use mathlib.Core.Path.{◌≡◌, refl, sym, ap, ◌∙◌}
-use mathlib.Core.Bool.{Bool, true, false, not}
+use mathlib.Core.Path.{◌≡◌, refl, ap, ◌∙◌}
+use mathlib.Core.Bool.{Bool, true, false}
 use mathlib.Core.List.{List, [], ◌∷◌, map}
 use mathlib.Core.Option.{Option}
-use Prim.Native.Nat.{ℕ, zero, suc, ◌+◌, ◌≤◌}
-use native.Mathlib.Omega.{arith}
+use Prim.Native.Nat.{ℕ, ◌+◌, ◌≤◌}
 use lib.ListN.{length, get_or, drop}
 use lib.Dec.{eqb}
-use borrow.Author.Tests.{eq-eqb, ne_eqb, not-true, not-false}
-use Rattle.ast.specs.Ast.{FieldValue, FieldBinding, Field, Statement}
-use Rattle.ast.specs.Choice.{choose, map_o}
+use Rattle.ast.specs.Ast.{FieldValue, FieldBinding}
+use Rattle.ast.specs.Choice.{choose}
 use Rattle.sheet_rows.specs.declared.row.Row.{Row}
 use Rattle.sheet_rows.specs.declared.part.Part.TheVariants.{Fields, Statements}
 use Rattle.sheet_rows.specs.Rows.{blank, front}
 use Rattle.sheet_rows.specs.Parse.{elements, field_of, fields_of, route_of, statement_of, statements_of, value_of as row_value}
 use Rattle.sheet_walks.specs.Walk.{Stands}
 use Rattle.sheet_walks.proofs.WalkLaws.{each_at, each_none, front_drop, from_here, elements_end}
-use Rattle.expansion_definition.specs.Values.{Values, value_named}
-use Rattle.journal_index.specs.Index.{Newest, found_of}
-use Rattle.journal_reading.specs.Reading.{values_at, value_rec}
-use Rattle.std.specs.Option.{is_some}
-use Rattle.std.specs.declared.option.Option.TheVariants.{None, Some}
-use Rattle.refine_records.specs.declared.Env as code
-use Rattle.refine_records.specs.Contract.{ValueFound}
-use Rattle.expander_marks.specs.Kept.{kept_statement, kept_binding, kept_field, field_kept, kept_fields, kept_statements}
+use Rattle.expansion_definition.specs.Values.{Values}
+use Rattle.expander_marks.specs.Kept.{kept_statement, kept_binding, kept_field, kept_fields, kept_statements}
 
 -- ---- a field that is kept
-module _ (w : List ℕ) (e : code.Env) (r : Row) where
-  pub kept_value : (r.b ≡ 1 → ⊥) → true ≡ field_kept w e r
-  unfolding field_of
-  kept_value ne = rw (ne_eqb r.b 1 ne)
-
-  module _ (is : r.b ≡ 1) where
-    pub kept_outside : not e.body ≡ true → true ≡ field_kept w e r
-    unfolding field_of
-    kept_outside q = rw (eq-eqb r.b 1 is, not-true e.body q)
-
-    module _ (body : not e.body ≡ false) {f : Newest} (x : ValueFound w e.values r.c f) where
-      pub kept_searched : is_some f ≡ field_kept w e r
-      unfolding field_of
-      kept_searched = by f x.same
-        where
-          by : (g : Newest) → value_named r.c (values_at w e.values) ≡ map_o (value_rec w) (found_of g) → is_some g ≡ field_kept w e r
-          by None q = rw (eq-eqb r.b 1 is, not-false e.body body, q)
-          by (Some n) q = rw (eq-eqb r.b 1 is, not-false e.body body, q)
-
 -- of a field from its row on
 kept_front : (vs : Option Values) (l : List Row) → kept_field vs (field_of l) ≡ kept_field vs (field_of (front l ∷ []))
 unfolding field_of
@@ -53,22 +26,6 @@ kept_front vs l = by (row_value l) (row_value (front l ∷ [])) (eqb (front l).b
     by : (v v' : FieldValue) (b : Bool) → kept_binding vs (choose b (FieldBinding.Is (front l).c) (FieldBinding.Value v)) ≡ kept_binding vs (choose b (FieldBinding.Is (front l).c) (FieldBinding.Value v'))
     by v v' true = refl
     by v v' false = refl
-
--- ---- a statement that is kept
-pub kept_extern : (r : Row) → r.a ≡ 2 → true ≡ kept_statement (statement_of (r ∷ []))
-unfolding statement_of
-kept_extern r q = rw q
-
-pub kept_other : (r : Row) → (r.a ≡ 2 → ⊥) → eqb r.a 3 ≡ kept_statement (statement_of (r ∷ []))
-unfolding statement_of
-kept_other r ne = by r.a refl
-  where
-    by : (n : ℕ) → r.a ≡ n → eqb n 3 ≡ kept_statement (get_or (Statement.Node r.b ∷ Statement.Proto r.b ∷ Statement.ExternProto r.b ∷ Statement.Route (route_of (r ∷ [])) ∷ []) n (Statement.Other r.b))
-    by zero q = refl
-    by (suc zero) q = refl
-    by (suc (suc zero)) q = absurd (ne q)
-    by (suc (suc (suc zero))) q = refl
-    by (suc (suc (suc (suc n)))) q = ne_eqb (suc (suc (suc (suc n)))) 3 (λ z. omega arith)
 
 -- of a statement from its row on
 pub said_same : (l : List Row) → statement_of l ≡ statement_of (front l ∷ [])

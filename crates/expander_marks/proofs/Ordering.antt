@@ -1,9 +1,9 @@
 -- All marks of a node.
-use mathlib.Core.Path.{◌≡◌, refl, sym, ap, subst, ◌∙◌}
+use mathlib.Core.Path.{◌≡◌, refl, ap, subst, ◌∙◌}
 use mathlib.Core.Bool.{Bool, true, false}
 use mathlib.Core.List.{List, [], ◌∷◌, ◌++◌, map, append-nil, append_assoc}
 use mathlib.Core.Option.{Option}
-use Prim.Native.Nat.{ℕ, ◌+◌, ◌-◌, ◌≤◌, ◌<◌}
+use Prim.Native.Nat.{ℕ, ◌+◌}
 use native.Mathlib.Omega.{arith}
 use lib.ListN.{length, get_or, drop}
 use Rattle.ast.specs.Ast.{Field, Statement, BodyElement}
@@ -33,13 +33,13 @@ use Rattle.refine_records.specs.declared.Counts.{Counts}
 use Rattle.refine_records.specs.declared.Env as code
 use Rattle.refine_records.specs.Sound.{Source, input_of, Standing, Later, EnvAt, env_of}
 use Rattle.refine_records.specs.Does.{Answer, did, Doing}
-use Rattle.refine_records.specs.Contract.{Keepable, KeptAt, RecordKept}
+use Rattle.refine_records.specs.Contract.{KeptAt, RecordKept}
 use Rattle.refine_records.proofs.Later.{later_standing, later_env, env_later}
 use Rattle.refine_records.proofs.Calculus.{start, finish, step, stop, inner}
 use Rattle.expander_marks.specs.declared.Positions.{Positions}
 use Rattle.expander_marks.specs.declared.Reach.{Reach}
-use Rattle.expander_marks.specs.declared.Taken.{Taken}
-use Rattle.expander_marks.specs.Positions.{field_step, statement_step, marks_from, kept_by, is_some, MarkAt, AtMark, Stepped}
+use Rattle.expander_marks.specs.declared.Filter.{Filter}
+use Rattle.expander_marks.specs.Positions.{marks_from, is_some, AtMark}
 use Rattle.expander_marks.specs.Kept.{kept_statement, kept_field, kept_fields, kept_statements}
 use Rattle.expander_marks.specs.Contract.{Ahead, Knows, Takes, Ordered}
 use Rattle.expander_marks.proofs.Steps.{mark_of, marks_here, mark_first}
@@ -50,12 +50,6 @@ choose_yes b e x y = rw e
 
 choose_no : {A : Type 0} (b : Bool) → b ≡ false → (x y : A) → choose b x y ≡ y
 choose_no b e x y = rw e
-
-pub order_keepable : (w : List ℕ) (c mark h : ℕ) → HandleAt w c tag_order h → Keepable w c (order_record mark h)
-order_keepable w c mark h x = record { least = omega arith; most = omega arith; before = x; value = λ e. absurd (never e) }
-  where
-    never : false ≡ true → ⊥
-    never y = let k : ◌≡◌ {A = ℕ} 0 1 = cc in omega arith
 
 -- a mark's record says its kind
 mark_said : (R : List Row) (q : ℕ) {r : Row} → r ≡ get_or R q blank → body_element_of (row 6 r.a 0 0 0 0 0 0 ∷ []) ≡ body_element_of (drop q R)
@@ -84,26 +78,26 @@ module _ (L : Limits) (R : List Row) (w₀ : List ℕ) (t₀ : Counts) (e : code
     pub is : all fs ss ≡ order_at w h ++ left fs ss place p
     pub doing : Doing S L young (whole S fs ss) w₀ t₀ (charge_each (input_of S L) (left fs ss place p) >> ret (all fs ss)) w t
 
-  pub record OrderSoFar (w : List ℕ) (t : Counts) (h place : ℕ) (p : Positions) (x y : Reach) : Type 0 where
-    pub so : (S : Source) (young : ℕ) (fs : List (Option Field)) (ss : List (Option Statement)) → Fitting fs ss → Left S young fs ss w t h place p
-    pub positions : AtMark R node place p.field p.statement
-    pub known : Knows given R node p.field p.statement x y
+  pub record OrderSoFar (w : List ℕ) (t : Counts) (h place : ℕ) (x : Filter) : Type 0 where
+    pub so : (S : Source) (young : ℕ) (fs : List (Option Field)) (ss : List (Option Statement)) → Fitting fs ss → Left S young fs ss w t h place x.positions
+    pub positions : AtMark R node place x.positions.field x.positions.statement
+    pub known : Knows given R node x
     pub standing : Standing L w t
     pub env : EnvAt w t.charges e
     pub values : (env_of w e).is_values ≡ given
     pub handle : HandleAt w t.charges tag_order h
     pub long : length w ≡ length w₀
 
-  abbrev at_first : Positions
-  at_first = record { field = 0; statement = 0 }
+  abbrev unread : Reach
+  unread = record { upto = 0; row = node + 1 }
 
-  abbrev nothing_known : Reach
-  nothing_known = record { upto = 0; row = node + 1 }
+  abbrev at_first : Filter
+  at_first = record { positions = record { field = 0; statement = 0 }; fields = unread; statements = unread }
 
-  nothing_ahead : (K : ℕ → List Bool) → Ahead K (node + 1) 0 nothing_known
+  nothing_ahead : (K : ℕ → List Bool) → Ahead K (node + 1) 0 unread
   nothing_ahead K = record { from = omega arith; all = λ j a b. absurd (omega arith); rest = refl }
 
-  pub order_start : Standing L w₀ t₀ → EnvAt w₀ t₀.charges e → OrderSoFar w₀ t₀ 0 (node + 1) at_first nothing_known nothing_known
+  pub order_start : Standing L w₀ t₀ → EnvAt w₀ t₀.charges e → OrderSoFar w₀ t₀ 0 (node + 1) at_first
   unfolding node_of
   order_start st x = record {
     so = λ S young fs ss f. record {
@@ -119,7 +113,10 @@ module _ (L : Limits) (R : List Row) (w₀ : List ℕ) (t₀ : Counts) (e : code
     long = refl;
   }
 
-  module _ {w : List ℕ} {t : Counts} {h place : ℕ} {p : Positions} {x y : Reach} (s : OrderSoFar w t h place p x y) where
+  module _ {w : List ℕ} {t : Counts} {h place : ℕ} {x : Filter} (s : OrderSoFar w t h place x) where
+    abbrev p : Positions
+    p = x.positions
+
     pub order_end : elements BodyOrder (drop place R) ≡ [] → Ordered L R w₀ t₀ e node w (did t h 0)
     unfolding kept_order charge_each bind_r
     order_end z = record {
@@ -134,18 +131,15 @@ module _ (L : Limits) (R : List Row) (w₀ : List ℕ) (t₀ : Counts) (e : code
       pub order_positions : AtMark R node q p.field p.statement
       order_positions = let a = s.positions in record { before = a.before; whole = a.whole ∙ rw (marks_here sq); fields = a.fields; statements = a.statements }
 
-      pub order_known : Knows (env_of w e).is_values R node p.field p.statement x y
-      order_known = rw s.values s.known
+      module _ {y : Filter} {b : Bool} (tk : Takes (env_of w e).is_values R node q x y b) where
+        abbrev n : Positions
+        n = y.positions
 
-      module _ {n : Positions} (sd : Stepped R node q p.field p.statement n.field n.statement) {k : Taken} (tk : Takes (env_of w e).is_values R node q p.field p.statement k) where
         abbrev m : BodyElement
         m = body_element_of (drop q R)
 
-        taken : Takes given R node q p.field p.statement k
-        taken = subst (λ (v : Option Values). Takes v R node q p.field p.statement k) s.values tk
-
-        known_next : Knows given R node n.field n.statement k.fields k.statements
-        known_next = rw (sd.fields, sd.statements) taken.known
+        taken : Takes given R node q x y b
+        taken = subst (λ (v : Option Values). Takes v R node q x y b) s.values tk
 
         module _ (S : Source) (young : ℕ) (fs : List (Option Field)) (ss : List (Option Statement)) (fit : Fitting fs ss) where
           was : Left S young fs ss w t h place p
@@ -159,22 +153,22 @@ module _ (L : Limits) (R : List Row) (w₀ : List ℕ) (t₀ : Counts) (e : code
           unfolding kept_statements node_of
           flags_statements = rw (rest_drop R node) at fit.1
 
-          turned : left fs ss place p ≡ choose k.kept (m ∷ left fs ss (q + 1) n) (left fs ss (q + 1) n)
+          turned : left fs ss place p ≡ choose b (m ∷ left fs ss (q + 1) n) (left fs ss (q + 1) n)
           turned =
-              rw (← marks_here sq, mark_first (mark_of sq), taken.kept, ← flags_fields, ← flags_statements, sd.fields, sd.statements)
+              rw (← marks_here sq, mark_first (mark_of sq), taken.kept, ← flags_fields, ← flags_statements, tk.step.fields, tk.step.statements)
               (turn fs ss m (marks_from R (q + 1)) p.field p.statement)
 
         -- the mark is dropped
-        pub order_skip : k.kept ≡ false → OrderSoFar w t h (q + 1) n k.fields k.statements
+        pub order_skip : b ≡ false → OrderSoFar w t h (q + 1) y
         order_skip nk = record {
           so = λ S young fs ss fit.
-              let g = turned S young fs ss fit ∙ choose_no k.kept nk _ _ in
+              let g = turned S young fs ss fit ∙ choose_no b nk _ _ in
               record {
                 is = (was S young fs ss fit).is ∙ ap (λ (l : List BodyElement). order_at w h ++ l) g;
                 doing = rw g at (was S young fs ss fit).doing;
               };
-          positions = sd.next;
-          known = known_next;
+          positions = tk.step.next;
+          known = taken.known;
           standing = s.standing;
           env = s.env;
           values = s.values;
@@ -183,10 +177,10 @@ module _ (L : Limits) (R : List Row) (w₀ : List ℕ) (t₀ : Counts) (e : code
         }
 
         -- the mark is kept
-        module _ (yk : k.kept ≡ true) {r : Row} (is : r ≡ get_or R q blank) {w' : List ℕ} {a : Answer} (kp : RecordKept L w t (order_record r.a h) w' a) where
+        module _ (yk : b ≡ true) {r : Row} (is : r ≡ get_or R q blank) {w' : List ℕ} {a : Answer} (kp : RecordKept L w t (order_record r.a h) w' a) where
           module _ (S : Source) (young : ℕ) (fs : List (Option Field)) (ss : List (Option Statement)) (fit : Fitting fs ss) where
             longer : left fs ss place p ≡ m ∷ left fs ss (q + 1) n
-            longer = turned S young fs ss fit ∙ choose_yes k.kept yk _ _
+            longer = turned S young fs ss fit ∙ choose_yes b yk _ _
 
             paying : Doing S L young (whole S fs ss) w₀ t₀ (charge (input_of S L) >>= (λ u. charge_each (input_of S L) (left fs ss (q + 1) n) >>= (λ v. ret (all fs ss)))) w t
             unfolding charge_each
@@ -199,7 +193,7 @@ module _ (L : Limits) (R : List Row) (w₀ : List ℕ) (t₀ : Counts) (e : code
             done = rw u tt;
           }
 
-          pub order_more : {t' : Counts} {v c : ℕ} → a ≡ did t' v c → OrderSoFar w' t' v (q + 1) n k.fields k.statements
+          pub order_more : {t' : Counts} {v c : ℕ} → a ≡ did t' v c → OrderSoFar w' t' v (q + 1) y
           order_more {t'} {v} {c} u =
               let z : KeptAt w t (order_record r.a h) w' t' v = rw u at kp.done in
               let la : Later L 0 w t w' t' = rw u at (kp.does (record { root = []; library = []; depth = 0 }) 0).later in
@@ -209,8 +203,8 @@ module _ (L : Limits) (R : List Row) (w₀ : List ℕ) (t₀ : Counts) (e : code
                   is = (was S young fs ss fit).is ∙ ap (λ (l : List BodyElement). order_at w h ++ l) (longer S young fs ss fit) ∙ rw (list, append_assoc (order_at w h) (m ∷ []) (left fs ss (q + 1) n));
                   doing = step (λ v. charge_each (input_of S L) (left fs ss (q + 1) n) >>= (λ v. ret (all fs ss))) (paying S young fs ss fit) (kp.does S young) u;
                 };
-                positions = sd.next;
-                known = known_next;
+                positions = tk.step.next;
+                known = taken.known;
                 standing = later_standing la s.standing;
                 env = later_env la s.env;
                 values = ap (λ (E : Env). E.is_values) (env_later la s.env) ∙ s.values;

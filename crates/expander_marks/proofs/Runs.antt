@@ -2,16 +2,15 @@
 use mathlib.Core.Path.{◌≡◌, refl, sym, ap, ◌∙◌}
 use mathlib.Core.Bool.{Bool, true, false}
 use mathlib.Core.List.{List, [], ◌∷◌}
-use mathlib.Core.Logic.{◌⊎◌, ⊎_elim}
 use Prim.Native.Nat.{ℕ, zero, suc, ◌+◌, ◌-◌, ◌≤◌, ◌<◌}
 use native.Mathlib.Omega.{arith}
-use lib.ListN.{length, get_or, drop}
+use lib.ListN.{get_or, drop}
 use lib.Seq.{get_or-drop, drop-drop}
 use lib.Dec.{eqb, ltb}
-use borrow.Author.Tests.{eqb-true, eqb-false, eq-eqb, ne_eqb, lt-ltb, le-ltb}
+use borrow.Author.Tests.{eqb-true, eqb-false, eq-eqb, ne_eqb, lt-ltb}
+use Rattle.std.specs.Int.{from_bool}
 use Rattle.expander_marks.specs.declared.Reach.{Reach}
 use Rattle.expander_marks.specs.declared.Run.{Run}
-use Rattle.expander_marks.specs.Positions.{bit}
 use Rattle.expander_marks.specs.Contract.{RunFrom, Ahead, reach_after}
 
 -- what stands at a place, of the list from there on
@@ -25,12 +24,9 @@ drop_to l e = ap (λ (k : ℕ). drop k l) e
 drop_more : (l : List Bool) (n : ℕ) → drop 1 (drop n l) ≡ drop (n + 1) l
 drop_more l n = drop-drop 1 n l
 
-pub bit_one : (b : Bool) → bit b ≤ 1
-bit_one true = omega arith
-bit_one false = omega arith
-
-pub reached_is : (p : ℕ) (r : Run) {b : ℕ} → b ≡ bit (eqb r.count 0) → ◌≡◌ {A = Reach} (record { upto = p + r.count + b; row = r.row + b }) (reach_after p r)
-reached_is p r e = rw e
+pub at_most_one : (b : Bool) {n : ℕ} → n ≡ from_bool b → n ≤ 1
+at_most_one true e = omega (arith, e)
+at_most_one false e = omega (arith, e)
 
 -- ---- a run, as it is found
 pub record Running (K : ℕ → List Bool) (n from count at : ℕ) : Type 0 where

@@ -1,23 +1,22 @@
 -- The positions at each mark.
-use mathlib.Core.Path.{◌≡◌, refl, sym, ap, ◌∙◌}
-use mathlib.Core.Bool.{Bool, true, false}
+use mathlib.Core.Path.{◌≡◌, refl, ap, ◌∙◌}
 use mathlib.Core.List.{List, [], ◌∷◌, ◌++◌, map, append_assoc}
-use Prim.Native.Nat.{ℕ, zero, suc, ◌+◌, ◌-◌, ◌≤◌, ◌<◌}
+use Prim.Native.Nat.{ℕ, zero, suc, ◌+◌, ◌≤◌}
 use native.Mathlib.Omega.{arith}
 use native.Mathlib.Numerals.{add-one}
 use lib.ListN.{length, get_or, drop, length-append, length-map, length-drop}
 use lib.Dec.{eqb, ltb}
 use borrow.Author.Tests.{ne_eqb, lt-ltb}
+use Rattle.std.specs.Int.{from_bool}
 use Rattle.ast.specs.Ast.{BodyElement}
-use Rattle.ast.specs.Choice.{choose}
 use Rattle.sheet_rows.specs.declared.row.Row.{Row}
-use Rattle.sheet_rows.specs.declared.part.Part.{Part}
 use Rattle.sheet_rows.specs.declared.part.Part.TheVariants.{BodyOrder}
-use Rattle.sheet_rows.specs.Rows.{blank, rest}
-use Rattle.sheet_rows.specs.Parse.{elements, kind_of, passes, body_element_of, node_of}
+use Rattle.sheet_rows.specs.Rows.{blank}
+use Rattle.sheet_rows.specs.Parse.{elements, body_element_of, node_of}
 use Rattle.sheet_walks.specs.Walk.{Stands}
+use Rattle.sheet_walks.proofs.ElementsLaws.{elements_few}
 use Rattle.sheet_walks.proofs.WalkLaws.{elements_take, from_here, front_drop, rest_drop}
-use Rattle.expander_marks.specs.Positions.{bit, field_step, statement_step, field_marks, statement_marks, marks_from, MarkAt, AtMark, Stepped}
+use Rattle.expander_marks.specs.Positions.{field_step, statement_step, field_marks, statement_marks, marks_from, MarkAt, AtMark, Stepped}
 
 -- ---- the mark at a row
 pub mark_of : {R : List Row} {p q : ℕ} → Stands BodyOrder R p q → MarkAt R q
@@ -37,12 +36,12 @@ pub element_is : (R : List Row) (at : ℕ) {r : Row} → r ≡ get_or R at blank
 unfolding body_element_of
 element_is R at is = rw (front_drop R at, is)
 
-field_bit : (n : ℕ) → bit (eqb n 0) ≡ field_step (element_by n)
+field_bit : (n : ℕ) → from_bool (eqb n 0) ≡ field_step (element_by n)
 field_bit zero = refl
 field_bit (suc zero) = refl
 field_bit (suc (suc n)) = rw (ne_eqb (suc (suc n)) 0 (λ z. omega arith))
 
-statement_bit : (n : ℕ) → bit (ltb 1 n) ≡ statement_step (element_by n)
+statement_bit : (n : ℕ) → from_bool (ltb 1 n) ≡ statement_step (element_by n)
 statement_bit zero = refl
 statement_bit (suc zero) = refl
 statement_bit (suc (suc n)) = rw (lt-ltb 1 (suc (suc n)) (omega arith))
@@ -65,7 +64,7 @@ statements_more (BodyElement.Interface ∷ l) m = statements_more l m
 statements_more (BodyElement.Statement ∷ l) m = let ih = statements_more l m in omega arith
 
 module _ {R : List Row} {node at f s : ℕ} (x : AtMark R node at f s) where
-  pub stepped : MarkAt R at → {r : Row} → r ≡ get_or R at blank → {b c : ℕ} → b ≡ bit (eqb r.a 0) → c ≡ bit (ltb 1 r.a) → Stepped R node at f s (f + b) (s + c)
+  pub stepped : MarkAt R at → {r : Row} → r ≡ get_or R at blank → {b c : ℕ} → b ≡ from_bool (eqb r.a 0) → c ≡ from_bool (ltb 1 r.a) → Stepped R node at f s (f + b) (s + c)
   stepped m {r} is {b} {c} eb ec = record {
     fields = ap (λ (n : ℕ). f + n) fb;
     statements = ap (λ (n : ℕ). s + n) sb;
@@ -95,16 +94,6 @@ statements_few [] = omega arith
 statements_few (BodyElement.Field ∷ l) = let ih = statements_few l in omega arith
 statements_few (BodyElement.Interface ∷ l) = let ih = statements_few l in omega arith
 statements_few (BodyElement.Statement ∷ l) = let ih = statements_few l in omega arith
-
-elements_few : (t : Part) (l : List Row) → length (elements t l) ≤ length l
-unfolding elements
-elements_few t [] = omega arith
-elements_few t (r ∷ l) = by (eqb r.kind (kind_of t)) (passes t r.kind) (elements_few t l)
-  where
-    by : (a b : Bool) → length (elements t l) ≤ length l → length (choose a ((r ∷ l) ∷ elements t l) (choose b (elements t l) [])) ≤ suc (length l)
-    by true b ih = omega arith
-    by false true ih = omega arith
-    by false false ih = omega arith
 
 module _ {R : List Row} {node at f s : ℕ} (x : AtMark R node at f s) where
   before_few : length x.before ≤ length R

@@ -1,5 +1,6 @@
 -- What the functions of the filter ask and give.
-use Rattle.std.specs.Prelude.{◌≡◌, Bool, true, false, List, map, ℕ, ◌+◌, ◌≤◌, ◌<◌, length, get_or, drop, eqb}
+use Rattle.std.specs.Prelude.{◌≡◌, Bool, true, false, List, map, ℕ, ◌+◌, ◌≤◌, ◌<◌, get_or, drop, eqb}
+use Rattle.std.specs.Int.{from_bool}
 use Rattle.std.proofs.Math.Option.{Option}
 use Rattle.ast.specs.Ast.{Field, Statement}
 use Rattle.sheet_rows.specs.declared.row.Row.{Row}
@@ -18,8 +19,8 @@ use Rattle.refine_records.specs.Sound.{Source, input_of, env_of}
 use Rattle.refine_records.specs.Does.{Answer, IfDone, Does}
 use Rattle.expander_marks.specs.declared.Reach.{Reach}
 use Rattle.expander_marks.specs.declared.Run.{Run}
-use Rattle.expander_marks.specs.declared.Taken.{Taken}
-use Rattle.expander_marks.specs.Positions.{bit, field_step, statement_step, kept_by, is_some}
+use Rattle.expander_marks.specs.declared.Filter.{Filter}
+use Rattle.expander_marks.specs.Positions.{kept_by, Stepped, is_some}
 use Rattle.expander_marks.specs.Kept.{kept_statement, kept_field, kept_fields, kept_statements}
 
 -- ---- which entries are kept; K p tells it of those from row p on, and n is the number of rows
@@ -50,17 +51,18 @@ pub record Fits (p : ℕ) (r : Run) : Type 0 where
 
 -- after a run from a position on: past it, and past one that is not kept
 abbrev pub reach_after : ℕ → Run → Reach
-reach_after p r = record { upto = p + r.count + bit (eqb r.count 0); row = r.row + bit (eqb r.count 0) }
+reach_after p r = record { upto = p + r.count + from_bool (eqb r.count 0); row = r.row + from_bool (eqb r.count 0) }
 
 -- so it is of the fields and of the statements of the node at a row
-pub record Knows (vs : Option Values) (R : List Row) (node f s : ℕ) (x y : Reach) : Type 0 where
-  pub fields : Ahead (kept_fields vs R) (node + 1) f x
-  pub statements : Ahead (kept_statements R) (node + 1) s y
+pub record Knows (vs : Option Values) (R : List Row) (node : ℕ) (x : Filter) : Type 0 where
+  pub fields : Ahead (kept_fields vs R) (node + 1) x.positions.field x.fields
+  pub statements : Ahead (kept_statements R) (node + 1) x.positions.statement x.statements
 
--- ---- a mark: whether it is kept, and what is known at the next
-pub record Takes (vs : Option Values) (R : List Row) (node at f s : ℕ) (x : Taken) : Type 0 where
-  pub kept : x.kept ≡ kept_by (kept_fields vs R (node + 1)) (kept_statements R (node + 1)) (body_element_of (drop at R)) f s
-  pub known : Knows vs R node (f + field_step (body_element_of (drop at R))) (s + statement_step (body_element_of (drop at R))) x.fields x.statements
+-- ---- a mark: whether it is kept, and the filter at the next
+pub record Takes (vs : Option Values) (R : List Row) (node at : ℕ) (x y : Filter) (b : Bool) : Type 0 where
+  pub kept : b ≡ kept_by (kept_fields vs R (node + 1)) (kept_statements R (node + 1)) (body_element_of (drop at R)) x.positions.field x.positions.statement
+  pub step : Stepped R node at x.positions.field x.positions.statement y.positions.field y.positions.statement
+  pub known : Knows vs R node y
 
 -- ---- for all fields and statements that are kept as the source says; the value is the order's handle
 pub record Ordered (L : Limits) (R : List Row) (w : List ℕ) (t : Counts) (e : code.Env) (node : ℕ) (w' : List ℕ) (a : Answer) : Type 0 where

@@ -11,10 +11,6 @@ use Rattle.expansion_definition.specs.PlainCopy.{kept_order}
 
 -- ---- "is to advance its field and statement positions by adding 0 or 1, computed from the element's kind"
 
-abbrev pub bit : Bool → ℕ
-bit true = 1
-bit false = 0
-
 abbrev pub field_step : BodyElement → ℕ
 field_step BodyElement.Field = 1
 field_step BodyElement.Interface = 0

@@ -1,9 +1,9 @@
 -- Externs: found, missing, refused for want of charges, and declared.
 use mathlib.Core.Path.{◌≡◌, refl, sym, ap, ◌∙◌}
 use mathlib.Core.Bool.{Bool, true, false}
-use mathlib.Core.List.{List, [], ◌∷◌}
+use mathlib.Core.List.{List}
 use mathlib.Core.Option.{Option, none, some}
-use Prim.Native.Nat.{ℕ, zero, suc, ◌+◌, ◌*◌, ◌-◌, ◌≤◌, ◌<◌}
+use Prim.Native.Nat.{ℕ, suc, ◌+◌, ◌*◌, ◌-◌, ◌≤◌, ◌<◌}
 use native.Mathlib.Omega.{arith}
 use lib.ListN.{length, drop, length-map}
 use lib.Dec.{ltb}
@@ -22,7 +22,7 @@ use Rattle.sheet_walks.proofs.WalkLaws.{rest_drop}
 use Rattle.pick_definition.specs.Picks.{pick_of, url_taken}
 use Rattle.pick_definition.specs.Mark.{mark_of, url_by}
 use Rattle.expansion_definition.specs.Input.{Input, used_url}
-use Rattle.expansion_definition.specs.State.{State, Result, refusal, ok, Comp, bind_r, ◌>>=◌, ◌>>◌, ret}
+use Rattle.expansion_definition.specs.State.{State, Result, refusal, ok, Comp, bind_r, ◌>>◌}
 use Rattle.expansion_definition.specs.Charges.{one_more, charge, charge_each}
 use Rattle.expansion_definition.specs.Values.{Env, src}
 use Rattle.expansion_definition.specs.Externs.{lookup_extern, declared, push_extern, declare, extern_proto}
@@ -30,7 +30,7 @@ use Rattle.journal_records.specs.declared.Record.{Record}
 use Rattle.std.specs.declared.option.Option.TheVariants.{None, Some}
 use Rattle.journal_records.specs.Records.{tag_extern, tag_node, tag_scope, cell, Paid}
 use Rattle.journal_records.specs.Made.{extern_record}
-use Rattle.journal_index.specs.Index.{Newest, newest, found_of, RecordEntered, linked}
+use Rattle.journal_index.specs.Index.{Newest, newest, found_of, RecordEntered}
 use Rattle.journal_lists.specs.Owned.{tagged}
 use Rattle.journal_records.proofs.Lists.{count_low}
 use Rattle.journal_lists.proofs.Owned.{owned_enter}

@@ -5,11 +5,11 @@ use mathlib.Core.List.{List, [], ◌∷◌}
 use mathlib.Core.Option.{Option}
 use Prim.Native.Nat.{ℕ, ◌+◌, ◌-◌, ◌<◌}
 use native.Mathlib.Omega.{arith}
-use Rattle.ast.specs.Ast.{Route, Statement}
+use Rattle.ast.specs.Ast.{Statement}
 use Rattle.ast.specs.Choice.{and_then}
 use Rattle.sheet_rows.specs.declared.row.Row.{Row}
 use Rattle.sheet_rows.specs.Parse.{optional, route_of, statement_of}
-use Rattle.expansion_definition.specs.State.{bind_r, ◌>>=◌, ◌>>◌, ret, lookup}
+use Rattle.expansion_definition.specs.State.{bind_r, lookup}
 use Rattle.expansion_definition.specs.Charges.{paid}
 use Rattle.expansion_definition.specs.Values.{Env}
 use Rattle.expansion_definition.specs.PlainCopy.{remap_route, copy_route}

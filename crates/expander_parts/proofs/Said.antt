@@ -7,14 +7,13 @@ use Prim.Native.Nat.{ℕ, zero, suc, ◌+◌, ◌-◌}
 use native.Mathlib.Omega.{arith}
 use lib.ListN.{length, get_or, drop}
 use Rattle.ast.proofs.Basics.{map_append}
-use Rattle.ast.specs.Ast.{Route, Statement}
+use Rattle.ast.specs.Ast.{Statement}
 use Rattle.sheet_rows.specs.declared.row.Row.{Row}
 use Rattle.sheet_rows.specs.declared.part.Part.TheVariants.{Statements}
-use Rattle.sheet_rows.specs.Rows.{blank, front}
+use Rattle.sheet_rows.specs.Rows.{blank}
 use Rattle.sheet_rows.specs.Parse.{elements, route_of, statement_of, statements_of, node_of}
-use Rattle.sheet_rows.specs.Print.{row}
 use Rattle.sheet_walks.specs.Walk.{Stands}
-use Rattle.sheet_walks.proofs.WalkLaws.{each_at, each_none, front_drop, rest_drop}
+use Rattle.sheet_walks.proofs.WalkLaws.{rest_drop}
 use Rattle.expansion_definition.specs.State.{Result, refusal, ok, Comp, bind_r, ◌>>=◌, ◌>>◌, ret, map_m}
 use Rattle.expansion_definition.specs.Charges.{charge, paid}
 use Rattle.expansion_definition.specs.Scopes.{Scope}

@@ -1,6 +1,9 @@
 #![tactic(auto)]
 // Steps of an expansion that copy no node: externs, routes, a node's statements and its body order.
-ghost use Rattle.std.specs.Prelude.{◌<◌, length};
+// Kept: the sources, the journal, the limits and the Env are parameters of their own. Only the journal changes: behind one
+// `&mut` each contract would have to say that the others stay. Sources and limits are no struct: the crates below take one of
+// the two, and it would be taken apart for them.
+ghost use Rattle.std.specs.Prelude.{◌≡◌, ◌<◌, length};
 ghost use Rattle.sheet_rows.specs.Rows.{rows};
 ghost use Rattle.journal_records.specs.Records.{tag_statement};
 ghost use Rattle.journal_reading.specs.Reading.{map_of};
@@ -19,12 +22,21 @@ use refine_records;
 use refine_records::{Env, Journal, Limits, Refusal};
 use sheet_lookup::rows;
 use sheet_rows::part::Part;
-use sheet_rows::row;
 use sheet_rows::row::Row;
+use sheet_rows::{codes, row};
 use sheet_walks::walk;
 use sheet_walks::walk::Found;
 use source_directory;
 use source_lookup::Sources;
+
+// The sheet of a slot's document.
+pub fn sheet_of<'a>(sources: &Sources<'a>, slot: u32) -> &'a [u32]
+    requires { slot < length sources.now.dir.now }
+    ensures { result.now ≡ sheet_of sources.now.root.now sources.now.library.now (number_of sources.now.dir.now slot) }
+{
+    let number = source_directory::number(sources.dir, slot);
+    rows::select(sources.root, sources.library, number)
+}
 
 // An extern's id in the output: declared once per document and id.
 pub fn extern_proto(
@@ -57,8 +69,7 @@ pub fn extern_proto(
     let mark = sources.mark(journal.lent(), slot, id);
     journal_index::enter(
         journal.work,
-        lim.rows * 12,
-        lim.slots,
+        lim.heads(),
         c,
         Record::extern_entry(document, id.0, out, row, slot, mark),
     );
@@ -105,7 +116,10 @@ pub fn extern_statement(
     ensures { ExternStated lim sources.now.root.now sources.now.library.now sources.now.dir.now journal.old.work.now journal.old.counts slot id.0 h journal.new.work.now (number_given journal.new.counts result) }
 {
     let value = extern_proto(sources, journal, lim, slot, id)?;
-    journal.keep(lim, Record::statement(2, value, h))
+    journal.keep(
+        lim,
+        Record::statement(codes::statement::EXTERN_PROTO, value, h),
+    )
 }
 
 // A statement of a node, by its row, behind those of a handle: Route and ExternProto are kept.
@@ -124,14 +138,14 @@ fn statement(
     requires handle_at { HandleAt journal.old.work.now journal.old.counts.charges tag_statement h }
     ensures { StatementCopied lim sources.now.root.now sources.now.library.now sources.now.dir.now journal.old.work.now journal.old.counts env r h journal.new.work.now (number_given journal.new.counts result) }
 {
-    if r.a == 3 {
-        return route(journal, lim, env, r, h);
+    match r.a {
+        codes::statement::ROUTE => route(journal, lim, env, r, h),
+        codes::statement::EXTERN_PROTO => {
+            let id = ExternProtoId(r.b);
+            extern_statement(sources, journal, lim, env.slot, id, h)
+        }
+        _ => Ok(h),
     }
-    if r.a == 2 {
-        let id = ExternProtoId(r.b);
-        return extern_statement(sources, journal, lim, env.slot, id, h);
-    }
-    Ok(h)
 }
 
 // The statements of the node at a row: Route and ExternProto only.
@@ -149,20 +163,12 @@ pub fn statements(
     requires row_in_bounds { row < length (rows (sheet_of sources.now.root.now sources.now.library.now (number_of sources.now.dir.now env.slot))) }
     ensures { StatementsCopied lim sources.now.root.now sources.now.library.now sources.now.dir.now journal.old.work.now journal.old.counts env row journal.new.work.now (number_given journal.new.counts result) }
 {
+    let sheet = sheet_of(sources, env.slot);
     let mut h: u32 = 0;
-    let mut at = row + 1;
-    loop {
-        let sheet = rows::select(
-            sources.root,
-            sources.library,
-            source_directory::number(sources.dir, env.slot),
-        );
-        let Found::At(q) = walk::seek(sheet, Part::Statements, at) else {
-            return Ok(h);
-        };
-        at = q + 1;
+    for q in walk::elements(sheet, Part::Statements, row + 1) {
         h = statement(sources, journal, lim, env, row::row_at(sheet, q), h)?;
     }
+    Ok(h)
 }
 
 // The body order of the node at a row, without what was dropped.
@@ -180,10 +186,6 @@ pub fn order(
     requires row_in_bounds { row < length (rows (sheet_of sources.now.root.now sources.now.library.now (number_of sources.now.dir.now env.slot))) }
     ensures { OrderCopied lim sources.now.root.now sources.now.library.now sources.now.dir.now journal.old.work.now journal.old.counts env row journal.new.work.now (number_given journal.new.counts result) }
 {
-    let sheet = rows::select(
-        sources.root,
-        sources.library,
-        source_directory::number(sources.dir, env.slot),
-    );
+    let sheet = sheet_of(sources, env.slot);
     expander_marks::order(sheet, journal, lim, env, row)
 }

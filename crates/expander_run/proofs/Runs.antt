@@ -4,7 +4,6 @@ use mathlib.Core.List.{List}
 use Prim.Native.Nat.{ℕ, ◌+◌, ◌-◌, ◌*◌, ◌/◌, ◌≤◌}
 use native.Mathlib.Omega.{arith}
 use lib.ListN.{length, length-map}
-use Rattle.sheet_rows.specs.Rows.{rows, words}
 use Rattle.sheet_rows.specs.Parse.{document_of}
 use Rattle.sheet_rows.specs.Print.{document_rows}
 use Rattle.ast.specs.Ast.{Document}
@@ -30,7 +29,6 @@ use Rattle.expander_parts.specs.Contract.{source_of}
 use Rattle.expander_contracts.specs.Contract.{NothingRecorded, TopStatementsCopied}
 use Rattle.writer_lists.specs.Writing.{Pasted}
 use Rattle.writer_pass.specs.Document.{journal_document, journal_rows, Written}
-use Rattle.expander_run.specs.declared.Expanded.{Expanded}
 use Rattle.expander_run.specs.Calls.{Outcome, call_of, after_of, Allowed, Ran, Writable, written}
 
 module _ (root library : List ℕ) (n d k : ℕ) (out ledger scopes work : List ℕ) (g : Allowed (call_of root library n d k out ledger scopes work)) where

@@ -1,5 +1,7 @@
 #![tactic(auto)]
 // A call of Expand (document 01): what it promises, the run, and the writing of what it gave.
+// Kept: the sheets and the lent slices are parameters one by one, in the order of document 01. A struct of them would be made
+// by each caller and taken apart again here, where the sources, the journal and the outputs each take some.
 ghost use Rattle.std.specs.Prelude.{◌≡◌};
 ghost use Rattle.expander_run.specs.Calls.{numbers_of, told};
 
@@ -17,6 +19,8 @@ pub struct Expanded {
 }
 
 // An answer in numbers, as C reads it: a refusal's counts are 0, an expansion's refusal and places.
+// Kept: the seven are listed where they are written. C's answer, the program's line and a case's line have other words after or
+// among them; and a Numbers of zeros to take the rest from would be longer than the zeros here.
 #[derive(Clone, Copy, Debug, PartialEq, Eq)]
 pub struct Numbers {
     pub refusal: u32,

@@ -1,5 +1,6 @@
 #![tactic(auto)]
 // The top statements of the root, each over the expander's copy.
+// Kept: the sources, the journal, the limits and the Env are parameters of their own, as in expander_parts.
 ghost use Rattle.std.specs.Prelude.{◌≡◌, ◌<◌, length};
 ghost use Rattle.sheet_rows.specs.Rows.{rows};
 ghost use Rattle.journal_records.specs.Records.{tag_statement};
@@ -10,12 +11,17 @@ ghost use Rattle.expander_contracts.specs.Contract.{Here, StatementAdded, TopsCo
 use ast::{ExternProtoId, NodeId, ProtoId};
 use journal_records;
 use journal_records::Record;
+use journal_records::codes::scope;
 use refine_records::{Counts, Env, Journal, Limits, Refusal};
+use sheet_rows::codes::statement;
 use sheet_rows::part::Part;
 use sheet_rows::row;
 use sheet_walks::walk;
 use sheet_walks::walk::Found;
 use source_lookup::Sources;
+
+// The slot of the root.
+const ROOT_SLOT: u32 = 0;
 
 // A top statement: h is the handle of those before it.
 fn top_statement(
@@ -33,22 +39,20 @@ fn top_statement(
     ensures { StatementAdded sources.now.root.now sources.now.library.now journal.old.work.now lim journal.old.counts env row h depth journal.new.work.now (number_given journal.new.counts result) }
 {
     let r = row::row_at(sources.root, row);
-    if r.a == 0 {
-        let id = NodeId(r.b);
-        let copied = expander_cycle::copy(sources, journal, lim, env, id, depth)?;
-        return journal.keep(lim, Record::statement(0, copied.id.0, h));
+    match r.a {
+        statement::NODE => {
+            let id = NodeId(r.b);
+            let copied = expander_cycle::copy(sources, journal, lim, env, id, depth)?;
+            journal.keep(lim, Record::statement(statement::NODE, copied.id.0, h))
+        }
+        statement::PROTO => Ok(h),
+        statement::EXTERN_PROTO => {
+            let id = ExternProtoId(r.b);
+            expander_parts::extern_statement(sources, journal, lim, ROOT_SLOT, id, h)
+        }
+        statement::ROUTE => expander_parts::route(journal, lim, env, r, h),
+        _ => journal.keep(lim, Record::statement(r.a, r.b, h)),
     }
-    if r.a == 1 {
-        return Ok(h);
-    }
-    if r.a == 2 {
-        let id = ExternProtoId(r.b);
-        return expander_parts::extern_statement(sources, journal, lim, 0, id, h);
-    }
-    if r.a == 3 {
-        return expander_parts::route(journal, lim, env, r, h);
-    }
-    journal.keep(lim, Record::statement(r.a, r.b, h))
 }
 
 // The top statements, from nothing: three charges, for the document, its top and scope 0, and then each statement.
@@ -71,13 +75,12 @@ pub fn top(
         externs: 0,
         charges: 2,
     };
-    let opened = journal.open(lim, 0, 0, ProtoId(0), 0, 0)?;
+    let opened = journal.open(lim, scope::ROOT, 0, ProtoId(0), 0, 0)?;
     let env = Env {
         scope: opened.number,
         place: opened.place,
-        slot: 0,
-        body: false,
-        values: 0,
+        slot: ROOT_SLOT,
+        values: None,
     };
     let Found::At(t) = walk::seek(sources.root, Part::Tops, 1) else {
         return Ok(0);
@@ -100,12 +103,8 @@ fn tops(
     ensures { TopsCopied sources.now.root.now sources.now.library.now journal.old.work.now lim journal.old.counts env row depth journal.new.work.now (number_given journal.new.counts result) }
 {
     let mut h: u32 = 0;
-    let mut at = row + 1;
-    loop {
-        let Found::At(q) = walk::seek(sources.root, Part::Statements, at) else {
-            return Ok(h);
-        };
-        at = q + 1;
+    for q in walk::elements(sources.root, Part::Statements, row + 1) {
         h = top_statement(sources, journal, lim, env, q, h, depth)?;
     }
+    Ok(h)
 }

@@ -2,30 +2,40 @@
 // A walk over all that is reached in an expanded document (document 02, wish 5): each node once, with how often it is
 // mentioned, in lent words. Five words for each node: the place of its row in two, how often it is mentioned in two, and,
 // one after another, the ids of the nodes reached.
+// Kept: the words apart from `Walk`, since the caller reads them after it and lends them for the next document (no heap).
 ghost use Rattle.std.specs.Prelude.{◌≡◌, [], ◌∷◌, ◌+◌, ◌*◌, ◌≤◌, ◌<◌, length, drop, get_or};
 ghost use Rattle.sheet_rows.specs.Rows.{rows};
 ghost use Rattle.graph_walk.specs.Scan.{ids_from, starts_from};
 ghost use Rattle.graph_walk.specs.State.{pair_at};
 ghost use Rattle.graph_walk.specs.Steps.{with_pair, Mentionable, MentionsNoted, NodesIndexed, Started, WalkReady, Reaches};
 
+use sheet_rows::codes::{kind, statement};
 use sheet_rows::row;
 
+// The words of a node, from where those of the first stand; in them, how often it is mentioned, and the id of the node that is
+// reached at its place.
+pub const NODE_WORDS: usize = 5;
+
+pub const TIMES: usize = 2;
+
+const REACHED: usize = 4;
+
 // The nodes of a document, and the row of kind 11.
-#[derive(Clone, Copy)]
+#[derive(Clone, Copy, Debug, PartialEq, Eq)]
 pub struct Table {
     pub nodes: usize,
     pub top: usize,
 }
 
 // The nodes that the top statements lead to, and the row after these.
-#[derive(Clone, Copy)]
+#[derive(Clone, Copy, Debug, PartialEq, Eq)]
 pub struct Starts {
     pub tail: usize,
     pub next: usize,
 }
 
 // The nodes of a document, how many of them are reached, and the row after the document.
-#[derive(Clone, Copy)]
+#[derive(Clone, Copy, Debug, PartialEq, Eq)]
 pub struct Walk {
     pub nodes: usize,
     pub tail: usize,
@@ -37,7 +47,7 @@ pub fn pair_at(work: &[u32], at: usize) -> usize
     requires { at + 2 ≤ length work.now }
     ensures { result ≡ pair_at work.now at }
 {
-    words_lent::wide(work[at]) + 4294967296 * words_lent::wide(work[at + 1])
+    work[at] as usize + 4294967296 * work[at + 1] as usize
 }
 
 fn put_pair(work: &mut [u32], at: usize, x: usize)
@@ -55,17 +65,18 @@ fn index(sheet: &[u32], from: usize, work: &mut [u32]) -> Table
     ensures { NodesIndexed (rows sheet.now) from work.new result.nodes result.top }
 {
     let count = sheet.len() / 8;
+    // Kept: nodes are counted by hand: the loop is over all rows, and ends at one that is no node.
     let mut nodes = 0;
     for at in from..count {
         let kind = row::row_at(sheet, at).kind;
-        if kind == 11 {
+        if kind == kind::TOP {
             return Table { nodes, top: at };
         }
-        if kind != 2 {
+        if kind != kind::NODE {
             continue;
         }
-        put_pair(work, 5 * nodes, at);
-        put_pair(work, 5 * nodes + 2, 0);
+        put_pair(work, NODE_WORDS * nodes, at);
+        put_pair(work, NODE_WORDS * nodes + TIMES, 0);
         nodes += 1;
     }
     Table {
@@ -79,16 +90,16 @@ fn mention(work: &mut [u32], nodes: usize, tail: usize, id: u32) -> usize
     requires { Mentionable nodes tail work.old (id ∷ []) }
     ensures { MentionsNoted nodes tail work.old (id ∷ []) result work.new }
 {
-    let i = words_lent::wide(id);
+    let i = id as usize;
     if nodes <= i {
         return tail;
     }
-    let times = pair_at(work, 5 * i + 2);
-    put_pair(work, 5 * i + 2, times + 1);
+    let times = pair_at(work, NODE_WORDS * i + TIMES);
+    put_pair(work, NODE_WORDS * i + TIMES, times + 1);
     if times != 0 {
         return tail;
     }
-    work[5 * tail + 4] = id;
+    work[NODE_WORDS * tail + REACHED] = id;
     tail + 1
 }
 
@@ -100,14 +111,14 @@ fn visit(sheet: &[u32], from: usize, work: &mut [u32], nodes: usize, tail: usize
     let mut end = tail;
     for at in from..sheet.len() / 8 {
         let r = row::row_at(sheet, at);
-        if r.kind == 9 {
+        if r.kind == kind::ID {
             end = mention(work, nodes, end, r.a);
             continue;
         }
-        if r.kind < 3 {
+        if r.kind < kind::FIELD {
             return end;
         }
-        if 4 < r.kind {
+        if kind::INTERFACE < r.kind {
             return end;
         }
     }
@@ -123,10 +134,10 @@ fn start(sheet: &[u32], from: usize, work: &mut [u32], nodes: usize) -> Starts
     let mut tail = 0;
     for at in from..count {
         let r = row::row_at(sheet, at);
-        if r.kind != 5 {
+        if r.kind != kind::STATEMENT {
             return Starts { tail, next: at };
         }
-        if r.a == 0 {
+        if r.a == statement::NODE {
             tail = mention(work, nodes, tail, r.b);
         }
     }
@@ -148,8 +159,8 @@ pub fn reach(sheet: &[u32], from: usize, work: &mut [u32]) -> Walk
     let mut k = 0;
     // Kept: each turn may add to those that are reached, so their number is no range's end.
     while k < tail {
-        let id = words_lent::wide(work[5 * k + 4]);
-        let place = pair_at(work, 5 * id);
+        let id = work[NODE_WORDS * k + REACHED] as usize;
+        let place = pair_at(work, NODE_WORDS * id);
         tail = visit(sheet, place + 1, work, nodes, tail);
         k += 1;
     }

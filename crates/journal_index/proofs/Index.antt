@@ -12,7 +12,7 @@ use lib.Seq.{get_or-set_same, get_or-set_other}
 use lib.Dec.{eqb, ltb}
 use borrow.Author.Tests.{eqb-true, eqb-false, ltb-true, ltb-false}
 use Rattle.journal_records.specs.declared.Record.{Record}
-use Rattle.journal_records.specs.Records.{tag_node, keyed, cell, stays, Same, Fixed, Holds, Pushed, SetWord, Paid}
+use Rattle.journal_records.specs.Records.{keyed, cell, stays, Same, Fixed, Holds, Pushed, SetWord, Paid}
 use Rattle.journal_records.specs.Logs.{newest_below, only_below}
 use Rattle.journal_index.specs.Index.{slot_of, number_of, side_of, side_at, link_at, hit, in_slot, headed, going, newest, Tree, SlotsIndexed, IndexRoom, Slotted, Raisable, Rooted, Raised, linked, SameButLinks, RecordEntered}
 use Rattle.journal_index.specs.Index.Tree.{empty, root}
@@ -20,7 +20,7 @@ use Rattle.journal_records.proofs.Cells.{set_cell}
 use Rattle.journal_records.proofs.Lists.{last_here, last_other, last_finer, newest_last, newest_zero, under_is, newest_under}
 use Rattle.journal_records.proofs.Frame.{steady_tag, steady_first, same_fixed, set_fixed, stays_most}
 use Rattle.journal_index.proofs.Keys.{keyed_stays, side_two, side_kept, Hit, hit_is, hit_side, slot_here, slot_tag, slot_apart, slot_is, slot_kept, slot_stable, head_here, head_far, head_step, head_fixed}
-use Rattle.journal_index.proofs.Trees.{going_here, going_same, Root, tree_root, root_side, tree_none, tree_newest, tree_low, tree_higher, tree_kept}
+use Rattle.journal_index.proofs.Trees.{going_here, going_same, tree_root, root_side, tree_newest, tree_low, tree_higher, tree_kept}
 
 -- a link or not
 either : {A : Type 0} (j : ℕ) → ((9 ≤ j → j < 11 → ⊥) → A) → (9 ≤ j → j < 11 → A) → A

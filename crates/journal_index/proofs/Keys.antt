@@ -1,7 +1,7 @@
 -- What the tests of keyed records say, and that they read only words that never change.
 use mathlib.Core.Path.{◌≡◌, refl, sym, ◌∙◌}
 use mathlib.Core.List.{List}
-use mathlib.Core.Bool.{Bool, true, false}
+use mathlib.Core.Bool.{Bool, true, false, ◌&&◌}
 use Prim.Native.Nat.{ℕ, suc, ◌+◌, ◌*◌, ◌/◌, ◌%◌, ◌<◌, ◌≤◌, ◌^◌}
 use native.Mathlib.Nat.{mod-lt}
 use native.Mathlib.Numerals.{add-one}
@@ -11,9 +11,7 @@ use lib.Dec.{eqb, ltb}
 use borrow.Author.Tests.{eq-eqb, ne_eqb, eqb-true, lt-ltb, le-ltb, ltb-true, ltb-false}
 use Rattle.ast.specs.Choice.{choose}
 use Rattle.journal_records.specs.Records.{tag_map, tag_extern, tag_node, tag_stored, keyed, cell, stays, Fixed}
-use Rattle.journal_records.specs.Logs.{only_below}
 use Rattle.journal_index.specs.Index.{slot_of, number_of, bits, side_of, number_at, side_at, hit, in_slot, headed, Slotted, HeadRead}
-use Rattle.journal_records.proofs.Lists.{under_near}
 use Rattle.journal_records.proofs.Frame.{steady_tag, steady_first, Stable}
 
 pub slot_law : (n x y a b : ℕ) → a ≡ x → b ≡ y → 0 < n → Slotted n x y ((2 * a + (b % 4 + b / 4 % 128 * 512 + b / 512 % 128 * 4 + b / 65536 * 65536)) % n)
@@ -40,15 +38,6 @@ keyed_stays t e = by (eqb t tag_map) refl (eqb t tag_extern) refl e
 
 pub unkeyed : (t : ℕ) → (t ≡ tag_map → ⊥) → (t ≡ tag_extern → ⊥) → (t ≡ tag_stored → ⊥) → keyed t ≡ false
 unkeyed t a b c = rw (ne_eqb t tag_map a, ne_eqb t tag_extern b, ne_eqb t tag_stored c)
-
-pub keyed_map : (t : ℕ) → t ≡ tag_map → true ≡ keyed t
-keyed_map t e = rw (eq-eqb t tag_map e)
-
-pub keyed_extern : (t : ℕ) → (t ≡ tag_map → ⊥) → t ≡ tag_extern → true ≡ keyed t
-keyed_extern t ne e = rw (ne_eqb t tag_map ne, eq-eqb t tag_extern e)
-
-pub keyed_else : (t : ℕ) → (t ≡ tag_map → ⊥) → (t ≡ tag_extern → ⊥) → eqb t tag_stored ≡ keyed t
-keyed_else t ne ne' = rw (ne_eqb t tag_map ne, ne_eqb t tag_extern ne')
 
 -- ---- numbers and sides
 pub number_law : (t x y a b c : ℕ) → a ≡ x → b ≡ t → c ≡ y → (a % 268435456 * 16 + b % 16) * 4294967296 + c ≡ number_of t x y
@@ -99,33 +88,15 @@ hit_is w t x y r e = by (eqb (cell w r 0) t) refl (eqb (cell w r 1) x) refl e
     by true p false q f = let z : ◌≡◌ {A = ℕ} 0 1 = cc in absurd (omega arith)
     by false p v q f = let z : ◌≡◌ {A = ℕ} 0 1 = cc in absurd (omega arith)
 
-pub hit_tag : (w : List ℕ) (t x y r : ℕ) → (cell w r 0 ≡ t → ⊥) → hit w t x y r ≡ false
+-- what is read of it, beside the key
+pub hit_words : (w : List ℕ) (t x y r a b c : ℕ) → a ≡ cell w r 0 → b ≡ cell w r 1 → c ≡ cell w r 2 → eqb a t && (eqb b x && eqb c y) ≡ hit w t x y r
 unfolding hit
-hit_tag w t x y r ne = rw (ne_eqb (cell w r 0) t ne)
-
-pub hit_one : (w : List ℕ) (t x y r : ℕ) → (cell w r 1 ≡ x → ⊥) → hit w t x y r ≡ false
-unfolding hit
-hit_one w t x y r ne = rw (ne_eqb (cell w r 1) x ne) (by (eqb (cell w r 0) t))
+hit_words w t x y r a b c ea eb ec = rw (ea, eb, ec) (by (eqb (cell w r 0) t) (eqb (cell w r 1) x))
   where
-    by : (u : Bool) → choose u false false ≡ false
-    by true = refl
-    by false = refl
-
--- the last test decides
-hit_last : (w : List ℕ) (t x y r a b c : ℕ) → a ≡ cell w r 0 → a ≡ t → b ≡ cell w r 1 → b ≡ x → c ≡ cell w r 2 → eqb c y ≡ hit w t x y r
-unfolding hit
-hit_last w t x y r a b c ea et eb ex ec = rw (ec, eq-eqb (cell w r 0) t (sym ea ∙ et), eq-eqb (cell w r 1) x (sym eb ∙ ex))
-
--- below a place
-module _ (w : List ℕ) (top t x y r : ℕ) (lt : r < top) where
-  pub under_tag : (cell w r 0 ≡ t → ⊥) → only_below top (hit w t x y) r ≡ false
-  under_tag ne = under_near (hit w t x y) top r lt ∙ hit_tag w t x y r ne
-
-  pub under_one : (cell w r 1 ≡ x → ⊥) → only_below top (hit w t x y) r ≡ false
-  under_one ne = under_near (hit w t x y) top r lt ∙ hit_one w t x y r ne
-
-  pub hit_law : (a b c : ℕ) → a ≡ cell w r 0 → a ≡ t → b ≡ cell w r 1 → b ≡ x → c ≡ cell w r 2 → eqb c y ≡ only_below top (hit w t x y) r
-  hit_law a b c ea et eb ex ec = hit_last w t x y r a b c ea et eb ex ec ∙ sym (under_near (hit w t x y) top r lt)
+    by : (u v : Bool) → u && (v && eqb (cell w r 2) y) ≡ choose u (choose v (eqb (cell w r 2) y) false) false
+    by true true = refl
+    by true false = refl
+    by false v = refl
 
 -- a record of the key goes to the side of the key
 pub hit_side : (w : List ℕ) (t x y r d : ℕ) → Hit w t x y r → side_at w d r ≡ side_of d (number_of t x y)

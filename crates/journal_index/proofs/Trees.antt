@@ -2,17 +2,14 @@
 -- above one.
 use mathlib.Core.Path.{◌≡◌, refl, sym, ◌∙◌}
 use mathlib.Core.Bool.{Bool, true, false}
-use mathlib.Core.List.{List}
-use Prim.Native.Nat.{ℕ, zero, suc, ◌+◌, ◌*◌, ◌-◌, ◌<◌, ◌≤◌}
+use Prim.Native.Nat.{ℕ, suc, ◌-◌, ◌<◌, ◌≤◌}
 use native.Mathlib.Omega.{arith}
-use native.Mathlib.Numerals.{add-one}
 use lib.Dec.{eqb, ltb}
 use borrow.Author.Tests.{eq-eqb, ne_eqb, eqb-true, eqb-false, ltb-true, ltb-false}
 use Rattle.ast.specs.Choice.{choose}
-use Rattle.journal_records.specs.Records.{cell}
 use Rattle.journal_records.specs.Logs.{newest_below}
 use Rattle.journal_records.proofs.Lists.{last_none, last_at}
-use Rattle.journal_index.specs.Index.{going, Tree, Rooted}
+use Rattle.journal_index.specs.Index.{going, Tree}
 use Rattle.journal_index.specs.Index.Tree.{empty, root}
 
 -- ---- those that go to a side

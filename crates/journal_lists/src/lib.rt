@@ -1,18 +1,19 @@
 #![tactic(auto)]
 // Records in lists: those that a scope owns, and the families of stored values.
+// Kept: the words with a record's place or handle, as in `journal_records`.
 ghost use Rattle.std.specs.Prelude.{◌+◌, ◌*◌, ◌≤◌, length};
 ghost use Rattle.journal_lists.specs.Owned.{Ownable, Appended};
 ghost use Rattle.journal_lists.specs.Families.{Behind, Joins, Joinable, Joined};
 
+use journal_index::Heads;
 use journal_records::{Record, words};
-use words_lent::wide;
 
 // A record that the scope at place `s` owns, behind the last of its tag.
 pub fn append(work: &mut [u32], s: usize, c: usize, r: Record)
     requires { Ownable work.old s c r }
     ensures { Appended work.old work.new s c r }
 {
-    let j = wide(r.tag) - 2;
+    let j = r.tag as usize - 2;
     let q = journal_records::word(work, s, j);
     journal_records::push(work, c, Record { h: q, ..r });
     journal_records::set(work, s, j, (c + 1) as u32);
@@ -26,7 +27,7 @@ fn family(work: &[u32], c: usize, h: u32) -> usize
     if h == 0 {
         return c;
     }
-    let f = wide(journal_records::word(work, wide(h) - 1, words::stored::FAMILY));
+    let f = journal_records::word(work, h as usize - 1, words::stored::FAMILY) as usize;
     if journal_records::word(work, f, words::stored::NEWEST) != h {
         return c;
     }
@@ -34,11 +35,11 @@ fn family(work: &[u32], c: usize, h: u32) -> usize
 }
 
 // A stored value behind handle `r.h`, the newest of the family that it joins or starts.
-pub fn join(work: &mut [u32], at: usize, slots: usize, c: usize, r: Record)
-    requires { Joinable work.old at slots c r }
-    ensures { Joined work.old work.new at slots c r }
+pub fn join(work: &mut [u32], heads: Heads, c: usize, r: Record)
+    requires { Joinable work.old heads.at heads.slots c r }
+    ensures { Joined work.old work.new heads.at heads.slots c r }
 {
     let f = family(work, c, r.h);
-    journal_index::enter(work, at, slots, c, Record { a: f as u32, ..r });
+    journal_index::enter(work, heads, c, Record { a: f as u32, ..r });
     journal_records::set(work, f, words::stored::NEWEST, (c + 1) as u32);
 }

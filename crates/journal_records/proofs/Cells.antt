@@ -1,11 +1,11 @@
 -- Words that are written: one word, a record, a run of charges.
-use mathlib.Core.Path.{◌≡◌, refl, ◌∙◌}
+use mathlib.Core.Path.{◌≡◌, refl, sym, ap, ◌∙◌}
 use mathlib.Core.Bool.{Bool, true, false}
-use mathlib.Core.List.{List}
-use Prim.Native.Nat.{ℕ, ◌+◌, ◌*◌, ◌<◌, ◌≤◌}
+use mathlib.Core.List.{List, [], ◌∷◌, ◌++◌}
+use Prim.Native.Nat.{ℕ, ◌+◌, ◌-◌, ◌*◌, ◌<◌, ◌≤◌}
 use native.Mathlib.Omega.{arith}
-use lib.ListN.{length, get_or, set, length-set}
-use lib.Seq.{get_or-set_same, get_or-set_other}
+use lib.ListN.{length, get_or, take, drop, set, get_or-append}
+use lib.Seq.{length-take-le, get_or-set_same, get_or-set_other, get_or-append-add, get_or-take, get_or-drop}
 use lib.Dec.{eqb}
 use borrow.Author.Tests.{eqb-true, eqb-false}
 use Rattle.journal_records.specs.declared.Record.{Record}
@@ -21,114 +21,54 @@ pub set_cell : (w w' : List ℕ) (n j v : ℕ) → j < 12 → SetWord w w' n j v
 unfolding cell
 set_cell w w' n j v lj s r i li ne = s.other (r * 12 + i) (λ e. ne (omega arith) (omega arith))
 
--- a record
-module _ (w : List ℕ) (n : ℕ) (r : Record) (len : n * 12 + 12 ≤ length w) where
-  abbrev s0 : List ℕ
-  s0 = set w (n * 12) r.tag
+-- a record, its words in the place of m words
+module _ (w : List ℕ) (n m : ℕ) (r : Record) (len : n * 12 + 12 ≤ length w) (e : m ≡ 12) where
+  abbrev text : List ℕ
+  text = r.tag ∷ r.a ∷ r.b ∷ r.c ∷ r.d ∷ r.e ∷ r.f ∷ r.g ∷ r.h ∷ r.i ∷ r.j ∷ r.k ∷ []
 
-  abbrev s1 : List ℕ
-  s1 = set s0 (n * 12 + 1) r.a
+  abbrev rest : List ℕ
+  rest = drop m (drop (n * 12) w)
 
-  abbrev s2 : List ℕ
-  s2 = set s1 (n * 12 + 2) r.b
+  abbrev after : List ℕ
+  after = take (n * 12) w ++ (text ++ rest)
 
-  abbrev s3 : List ℕ
-  s3 = set s2 (n * 12 + 3) r.c
+  front : length (take (n * 12) w) ≡ n * 12
+  front = length-take-le (n * 12) w (omega arith)
 
-  abbrev s4 : List ℕ
-  s4 = set s3 (n * 12 + 4) r.d
+  inside : (k : ℕ) → k < 12 → get_or after (n * 12 + k) 0 ≡ get_or text k 0
+  inside k i =
+      let z : n * 12 + k ≡ length (take (n * 12) w) + k = omega (arith, front) in
+      rw (z, get_or-append-add (take (n * 12) w) (text ++ rest) k 0) (get_or-append text rest 0 k i)
 
-  abbrev s5 : List ℕ
-  s5 = set s4 (n * 12 + 5) r.e
+  under : (k : ℕ) → k < n * 12 → get_or after k 0 ≡ get_or w k 0
+  under k i = get_or-append (take (n * 12) w) (text ++ rest) 0 k (omega (arith, front)) ∙ get_or-take (n * 12) w k 0 i
 
-  abbrev s6 : List ℕ
-  s6 = set s5 (n * 12 + 6) r.f
+  past : (k j : ℕ) → k ≡ n * 12 + (12 + j) → get_or after k 0 ≡ get_or w k 0
+  past k j q =
+      let z : k ≡ length (take (n * 12) w) + (12 + j) = omega (arith, front) in
+      let y : get_or rest j 0 ≡ get_or w (n * 12 + (12 + j)) 0 = get_or-drop m (drop (n * 12) w) j 0 ∙ rw e (get_or-drop (n * 12) w (12 + j) 0) in
+      ap (λ (i : ℕ). get_or after i 0) z ∙ get_or-append-add (take (n * 12) w) (text ++ rest) (12 + j) 0 ∙ get_or-append-add text rest j 0 ∙ y ∙ ap (λ (i : ℕ). get_or w i 0) (sym q)
 
-  abbrev s7 : List ℕ
-  s7 = set s6 (n * 12 + 7) r.g
-
-  abbrev s8 : List ℕ
-  s8 = set s7 (n * 12 + 8) r.h
-
-  abbrev s9 : List ℕ
-  s9 = set s8 (n * 12 + 9) r.i
-
-  abbrev s10 : List ℕ
-  s10 = set s9 (n * 12 + 10) r.j
-
-  abbrev s11 : List ℕ
-  s11 = set s10 (n * 12 + 11) r.k
-
-  -- what the words from the one of a number on leave as it was
-  over11 : (k : ℕ) → (n * 12 + 11 ≤ k → k < n * 12 + 12 → ⊥) → get_or s11 k 0 ≡ get_or s10 k 0
-  over11 k h = get_or-set_other s10 (n * 12 + 11) k r.k 0 (λ e. h (omega arith) (omega arith))
-
-  over10 : (k : ℕ) → (n * 12 + 10 ≤ k → k < n * 12 + 12 → ⊥) → get_or s11 k 0 ≡ get_or s9 k 0
-  over10 k h = over11 k (λ a b. h (omega arith) b) ∙ get_or-set_other s9 (n * 12 + 10) k r.j 0 (λ e. h (omega arith) (omega arith))
-
-  over9 : (k : ℕ) → (n * 12 + 9 ≤ k → k < n * 12 + 12 → ⊥) → get_or s11 k 0 ≡ get_or s8 k 0
-  over9 k h = over10 k (λ a b. h (omega arith) b) ∙ get_or-set_other s8 (n * 12 + 9) k r.i 0 (λ e. h (omega arith) (omega arith))
-
-  over8 : (k : ℕ) → (n * 12 + 8 ≤ k → k < n * 12 + 12 → ⊥) → get_or s11 k 0 ≡ get_or s7 k 0
-  over8 k h = over9 k (λ a b. h (omega arith) b) ∙ get_or-set_other s7 (n * 12 + 8) k r.h 0 (λ e. h (omega arith) (omega arith))
-
-  over7 : (k : ℕ) → (n * 12 + 7 ≤ k → k < n * 12 + 12 → ⊥) → get_or s11 k 0 ≡ get_or s6 k 0
-  over7 k h = over8 k (λ a b. h (omega arith) b) ∙ get_or-set_other s6 (n * 12 + 7) k r.g 0 (λ e. h (omega arith) (omega arith))
-
-  over6 : (k : ℕ) → (n * 12 + 6 ≤ k → k < n * 12 + 12 → ⊥) → get_or s11 k 0 ≡ get_or s5 k 0
-  over6 k h = over7 k (λ a b. h (omega arith) b) ∙ get_or-set_other s5 (n * 12 + 6) k r.f 0 (λ e. h (omega arith) (omega arith))
-
-  over5 : (k : ℕ) → (n * 12 + 5 ≤ k → k < n * 12 + 12 → ⊥) → get_or s11 k 0 ≡ get_or s4 k 0
-  over5 k h = over6 k (λ a b. h (omega arith) b) ∙ get_or-set_other s4 (n * 12 + 5) k r.e 0 (λ e. h (omega arith) (omega arith))
-
-  over4 : (k : ℕ) → (n * 12 + 4 ≤ k → k < n * 12 + 12 → ⊥) → get_or s11 k 0 ≡ get_or s3 k 0
-  over4 k h = over5 k (λ a b. h (omega arith) b) ∙ get_or-set_other s3 (n * 12 + 4) k r.d 0 (λ e. h (omega arith) (omega arith))
-
-  over3 : (k : ℕ) → (n * 12 + 3 ≤ k → k < n * 12 + 12 → ⊥) → get_or s11 k 0 ≡ get_or s2 k 0
-  over3 k h = over4 k (λ a b. h (omega arith) b) ∙ get_or-set_other s2 (n * 12 + 3) k r.c 0 (λ e. h (omega arith) (omega arith))
-
-  over2 : (k : ℕ) → (n * 12 + 2 ≤ k → k < n * 12 + 12 → ⊥) → get_or s11 k 0 ≡ get_or s1 k 0
-  over2 k h = over3 k (λ a b. h (omega arith) b) ∙ get_or-set_other s1 (n * 12 + 2) k r.b 0 (λ e. h (omega arith) (omega arith))
-
-  over1 : (k : ℕ) → (n * 12 + 1 ≤ k → k < n * 12 + 12 → ⊥) → get_or s11 k 0 ≡ get_or s0 k 0
-  over1 k h = over2 k (λ a b. h (omega arith) b) ∙ get_or-set_other s0 (n * 12 + 1) k r.a 0 (λ e. h (omega arith) (omega arith))
-
-  over0 : (k : ℕ) → (n * 12 ≤ k → k < n * 12 + 12 → ⊥) → get_or s11 k 0 ≡ get_or w k 0
-  over0 k h = over1 k (λ a b. h (omega arith) b) ∙ get_or-set_other w (n * 12) k r.tag 0 (λ e. h (omega arith) (omega arith))
-
-  holds : Holds s11 n r
+  pub push_law : Pushed w after n r
   unfolding cell
-  holds =
-      let l0 : length s0 ≡ length w = simp length-set in
-      let l1 : length s1 ≡ length w = simp length-set in
-      let l2 : length s2 ≡ length w = simp length-set in
-      let l3 : length s3 ≡ length w = simp length-set in
-      let l4 : length s4 ≡ length w = simp length-set in
-      let l5 : length s5 ≡ length w = simp length-set in
-      let l6 : length s6 ≡ length w = simp length-set in
-      let l7 : length s7 ≡ length w = simp length-set in
-      let l8 : length s8 ≡ length w = simp length-set in
-      let l9 : length s9 ≡ length w = simp length-set in
-      let l10 : length s10 ≡ length w = simp length-set in
-      let z : n * 12 + 0 ≡ n * 12 = omega arith in
-      record {
-        at0 = rw z (over1 (n * 12) (λ a b. omega arith) ∙ get_or-set_same w (n * 12) r.tag 0 (omega arith));
-        at1 = over2 (n * 12 + 1) (λ a b. omega arith) ∙ get_or-set_same s0 (n * 12 + 1) r.a 0 (omega arith);
-        at2 = over3 (n * 12 + 2) (λ a b. omega arith) ∙ get_or-set_same s1 (n * 12 + 2) r.b 0 (omega arith);
-        at3 = over4 (n * 12 + 3) (λ a b. omega arith) ∙ get_or-set_same s2 (n * 12 + 3) r.c 0 (omega arith);
-        at4 = over5 (n * 12 + 4) (λ a b. omega arith) ∙ get_or-set_same s3 (n * 12 + 4) r.d 0 (omega arith);
-        at5 = over6 (n * 12 + 5) (λ a b. omega arith) ∙ get_or-set_same s4 (n * 12 + 5) r.e 0 (omega arith);
-        at6 = over7 (n * 12 + 6) (λ a b. omega arith) ∙ get_or-set_same s5 (n * 12 + 6) r.f 0 (omega arith);
-        at7 = over8 (n * 12 + 7) (λ a b. omega arith) ∙ get_or-set_same s6 (n * 12 + 7) r.g 0 (omega arith);
-        at8 = over9 (n * 12 + 8) (λ a b. omega arith) ∙ get_or-set_same s7 (n * 12 + 8) r.h 0 (omega arith);
-        at9 = over10 (n * 12 + 9) (λ a b. omega arith) ∙ get_or-set_same s8 (n * 12 + 9) r.i 0 (omega arith);
-        at10 = over11 (n * 12 + 10) (λ a b. omega arith) ∙ get_or-set_same s9 (n * 12 + 10) r.j 0 (omega arith);
-        at11 = get_or-set_same s10 (n * 12 + 11) r.k 0 (omega arith);
-      }
-
-  pub push_law : Pushed w s11 n r
-  unfolding cell
-  push_law = record { same = record { keeps = λ q j lq lj. over0 (q * 12 + j) (λ a b. omega arith) }; holds = holds; above = λ m le. over0 m (λ a b. omega arith) }
+  push_law = record {
+    same = record { keeps = λ q j lq lj. under (q * 12 + j) (omega arith) };
+    holds = record {
+      at0 = inside 0 (omega arith);
+      at1 = inside 1 (omega arith);
+      at2 = inside 2 (omega arith);
+      at3 = inside 3 (omega arith);
+      at4 = inside 4 (omega arith);
+      at5 = inside 5 (omega arith);
+      at6 = inside 6 (omega arith);
+      at7 = inside 7 (omega arith);
+      at8 = inside 8 (omega arith);
+      at9 = inside 9 (omega arith);
+      at10 = inside 10 (omega arith);
+      at11 = inside 11 (omega arith);
+    };
+    above = λ k le. past k (k - (n * 12 + 12)) (omega arith);
+  }
 
 -- a record whose words are kept
 pub holds_kept : {w w' : List ℕ} {n : ℕ} {r : Record} → ((j : ℕ) → j < 12 → cell w' n j ≡ cell w n j) → Holds w n r → Holds w' n r

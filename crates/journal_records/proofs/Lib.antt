@@ -1,3 +1,4 @@
 pub mod Cells
 pub mod Lists
+pub mod Handles
 pub mod Frame

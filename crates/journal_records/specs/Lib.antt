@@ -1,3 +1,4 @@
 pub mod Records
 pub mod Made
 pub mod Logs
+pub mod Lists

@@ -1,5 +1,8 @@
 #![tactic(auto)]
 // The arena: records of twelve words in a lent slice, one to a charge.
+// Kept: the words with a record's place. They change between two uses of a place, so that no view of a record can be held.
+pub mod codes;
+pub mod list;
 mod made;
 pub mod words;
 
@@ -7,6 +10,7 @@ ghost use Rattle.std.specs.Prelude.{◌≡◌, ◌+◌, ◌*◌, ◌<◌, ◌≤
 ghost use Rattle.journal_records.specs.Records.{cell, Pushed, SetWord, Paid};
 
 // What a record is, by its tag.
+// Kept: numbers with names and no enum: a tag is a word of a record, which may be any number.
 pub const TAG_PAID: u32 = 0;
 
 pub const TAG_MAP: u32 = 1;
@@ -38,7 +42,7 @@ pub const TAG_ASSOCIATION: u32 = 13;
 pub const TAG_INSTANCE: u32 = 14;
 
 // Word 0 is the tag; module `made` says what the other words of a record are.
-#[derive(Clone, Copy)]
+#[derive(Clone, Copy, Debug, PartialEq, Eq)]
 pub struct Record {
     pub tag: u32,
     pub a: u32,
@@ -54,23 +58,14 @@ pub struct Record {
     pub k: u32,
 }
 
-// Record `n`.
+// Writes record `n`.
 pub fn push(work: &mut [u32], n: usize, r: Record)
     requires { n * 12 + 12 ≤ length work.old }
     ensures { Pushed work.old work.new n r }
 {
-    work[n * 12] = r.tag;
-    work[n * 12 + 1] = r.a;
-    work[n * 12 + 2] = r.b;
-    work[n * 12 + 3] = r.c;
-    work[n * 12 + 4] = r.d;
-    work[n * 12 + 5] = r.e;
-    work[n * 12 + 6] = r.f;
-    work[n * 12 + 7] = r.g;
-    work[n * 12 + 8] = r.h;
-    work[n * 12 + 9] = r.i;
-    work[n * 12 + 10] = r.j;
-    work[n * 12 + 11] = r.k;
+    work[n * 12..n * 12 + 12].copy_from_slice(&[
+        r.tag, r.a, r.b, r.c, r.d, r.e, r.f, r.g, r.h, r.i, r.j, r.k,
+    ]);
 }
 
 // Word `j` of record `n`.

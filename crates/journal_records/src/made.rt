@@ -1,13 +1,14 @@
 // The records that are made, by what each is: a parameter for each word that is known then, in the order of the words.
 // specs/Made says what the words are, docs/DECISIONS.md also those that are set later.
+// Kept: a constructor for each record. A generic one would take twelve words by their places, and their names would be gone.
+// Kept: the type, class and payload of a value one by one. Callers have the first two as columns of a row and the third from a
+// copy that they made, so that a struct would be put together at each call and taken apart here.
 ghost use Rattle.std.specs.Prelude.{◌≡◌};
 ghost use Rattle.journal_records.specs.Made.{map_record, extern_record, node_record, reserved_record, id_record, field_record, interface_record, statement_record, route_statement_record, order_record, stored_record, scope_record, root_record, route_record, association_record, instance_record};
 
 use crate::Record;
-
-const NONE: u32 = 4294967295;
-
-const ROUTE: u32 = 3;
+use sheet_rows::codes::{field, statement};
+use sheet_rows::row::NONE;
 
 const EMPTY: Record = Record {
     tag: crate::TAG_PAID,
@@ -131,7 +132,7 @@ impl Record {
         Record {
             tag: crate::TAG_FIELD,
             a: name,
-            b: 1,
+            b: field::IS,
             c: target,
             d: inferred,
             h: before,
@@ -191,7 +192,7 @@ impl Record {
     {
         Record {
             tag: crate::TAG_STATEMENT,
-            a: ROUTE,
+            a: statement::ROUTE,
             b: from_node,
             c: from_field,
             d: to_node,

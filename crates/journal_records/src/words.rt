@@ -5,6 +5,20 @@ pub const TAG: usize = 0;
 // values and instances.
 pub const BEFORE: usize = 8;
 
+// The key of a keyed record is its tag and these.
+pub mod key {
+    pub const FIRST: usize = 1;
+
+    pub const SECOND: usize = 2;
+}
+
+// The links of a keyed record in the index, one for each side.
+pub mod link {
+    pub const ZERO: usize = 9;
+
+    pub const ONE: usize = 10;
+}
+
 pub mod map {
     pub const COPY: usize = 3;
 

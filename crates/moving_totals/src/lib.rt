@@ -1,5 +1,7 @@
 #![tactic(auto)]
 // Moving totals along the coast (document 02, wish 11): the code.
+// Kept: the width beside the counts: C gives it as a number. In `slide` `n` beside the totals: it counts the windows too, and
+// the totals behind them stay.
 ghost use Rattle.std.specs.Prelude.{◌≡◌, length, take};
 ghost use Rattle.moving_definition.specs.Moving.{sum, any_over, answer_of, moved};
 ghost use Rattle.moving_definition.specs.Slides.{Summable, Slidable, Slid};
@@ -61,6 +63,7 @@ pub fn moving(counts: &[u64], width: u32, totals: &mut [u64]) -> Result<Totals, 
         return Err(MovingError::CountOver);
     }
     let before = (width - 1) as usize;
+    // Kept: zeros and no Option where there are no totals: C reads them.
     if counts.len() <= before {
         return Ok(Totals {
             count: 0,

@@ -1,8 +1,11 @@
 #![tactic(auto)]
 // Pages as C calls them: the answer in lent words.
+// Kept: the parameters are those of the C function.
 ghost use Rattle.std.specs.Prelude.{◌≡◌, length};
 ghost use Rattle.words_answer.specs.Answer.{exported};
 ghost use Rattle.pages_definition.specs.Pages.{paged, said_paged};
+
+use pages_definition::PagesError;
 
 // Pages. Answer: refusal, bytes.
 pub fn export(
@@ -15,7 +18,7 @@ pub fn export(
     ensures { record { result = result; lent = text.new; answer = answer.new } ≡ exported 29 2 text.old answer.old (said_paged (paged document.now ledger.now (length work.old) text.old)) }
 {
     if answer.len() < 2 {
-        return 29;
+        return u32::from(PagesError::TooFewBytes);
     }
     match pages_writer::pages(document, ledger, text, work) {
         Ok(bytes) => words_answer::put(answer, Ok([bytes as u64])),

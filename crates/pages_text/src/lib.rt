@@ -1,5 +1,6 @@
 #![tactic(auto)]
 // The lines of a page (document 02, wish 13): a heading, a node's line, a blank line.
+// Kept: a place beside the whole text: what is promised of a page is said of the whole text, as edits at places.
 ghost use Rattle.std.specs.Prelude.{◌≡◌, ◌++◌, ◌+◌, ◌*◌, ◌≤◌, length, drop};
 ghost use Rattle.std.proofs.lemmas.List.Edits.{sets};
 ghost use Rattle.sheet_rows.specs.Rows.{rows};
@@ -10,21 +11,29 @@ ghost use Rattle.pages_definition.specs.Steps.{NodeReady};
 
 use sheet_rows::row;
 
+// A number's place in a line.
+const FIELD: usize = 12;
+
+// The places of a line, all but its end.
+const FIELDS: usize = 6 * FIELD;
+
 // The first line of a page.
 pub fn put_heading(text: &mut [u8], at: usize, number: u32)
     requires { at + 73 ≤ length text.old }
     ensures { text.new ≡ sets text.old at (justified 72 number ++ line_end) }
 {
-    text_decimal::put_number(text, at, 72, number);
-    text[at + 72] = 10;
+    let end = at + FIELDS;
+    text_decimal::put_number(&mut text[at..end], number);
+    text[end] = b'\n';
 }
 
 pub fn put_blank_line(text: &mut [u8], at: usize)
     requires { at + 73 ≤ length text.old }
     ensures { text.new ≡ sets text.old at blank_line }
 {
-    text_decimal::put_spaces(text, at, 72);
-    text[at + 72] = 10;
+    let end = at + FIELDS;
+    text_decimal::put_spaces(&mut text[at..end]);
+    text[end] = b'\n';
 }
 
 // A name or none, in 12 bytes.
@@ -33,9 +42,9 @@ fn put_name(text: &mut [u8], at: usize, name: u32)
     ensures { text.new ≡ sets text.old at (name_text (optional name)) }
 {
     if name == row::NONE {
-        text_decimal::put_spaces(text, at, 12);
+        text_decimal::put_spaces(&mut text[at..at + FIELD]);
     } else {
-        text_decimal::put_number(text, at, 12, name);
+        text_decimal::put_number(&mut text[at..at + FIELD], name);
     }
 }
 
@@ -44,9 +53,9 @@ fn put_three(text: &mut [u8], at: usize, a: u32, b: u32, c: u32)
     requires { at + 36 ≤ length text.old }
     ensures { text.new ≡ sets text.old at (justified 12 a ++ (justified 12 b ++ justified 12 c)) }
 {
-    text_decimal::put_number(text, at, 12, a);
-    text_decimal::put_number(text, at + 12, 12, b);
-    text_decimal::put_number(text, at + 24, 12, c);
+    text_decimal::put_number(&mut text[at..at + FIELD], a);
+    text_decimal::put_number(&mut text[at + FIELD..at + 2 * FIELD], b);
+    text_decimal::put_number(&mut text[at + 2 * FIELD..at + 3 * FIELD], c);
 }
 
 // The line of the `i`-th node, which stands at row `q`.
@@ -56,10 +65,10 @@ pub fn put_node_line(sheet: &[u32], q: usize, i: usize, ledger: &[u32], text: &m
 {
     let r = row::row_at(sheet, q);
     let e = 3 * i;
-    let end = at + 72;
+    let end = at + FIELDS;
     put_three(text, at, i as u32, ledger[e], ledger[e + 1]);
-    text_decimal::put_number(text, at + 36, 12, ledger[e + 2]);
-    text_decimal::put_number(text, at + 48, 12, r.a);
-    put_name(text, at + 60, r.b);
-    text[end] = 10;
+    text_decimal::put_number(&mut text[at + 3 * FIELD..at + 4 * FIELD], ledger[e + 2]);
+    text_decimal::put_number(&mut text[at + 4 * FIELD..at + 5 * FIELD], r.a);
+    put_name(text, at + 5 * FIELD, r.b);
+    text[end] = b'\n';
 }

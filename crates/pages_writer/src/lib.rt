@@ -1,5 +1,7 @@
 #![tactic(auto)]
 // Pages (document 02, wish 13): every page of a document's ledger.
+// Kept: sheet, ledger and text with a row and a line's place as parameters. All are lent (no heap), each function has one
+// caller, and a struct of them would be made for that one call.
 ghost use Rattle.std.specs.Prelude.{◌≡◌, ◌+◌, ◌*◌, length};
 ghost use Rattle.std.proofs.lemmas.List.Edits.{sets};
 ghost use Rattle.pages_definition.specs.Pages.{each, document_nodes, page, answer_of, paged};

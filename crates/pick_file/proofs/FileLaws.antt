@@ -7,23 +7,23 @@ use Prim.Native.Nat.{ℕ, zero, suc, ◌+◌, ◌≤◌}
 use native.Mathlib.Omega.{arith}
 use lib.ListN.{length, get_or, drop, get_elem?, length-drop, length-map, drop_of_length-le}
 use lib.Dec.{eqb}
-use borrow.Author.Tests.{eq-eqb, ne_eqb}
 use Rattle.ast.specs.Ast.{ProtoDecl, Route, Statement, Document}
-use Rattle.ast.specs.Choice.{choose, first}
+use Rattle.ast.specs.Choice.{first}
 use Rattle.sheet_rows.specs.declared.row.Row.{Row}
 use Rattle.sheet_rows.specs.declared.part.Part.{Part}
 use Rattle.sheet_rows.specs.declared.part.Part.TheVariants.{Protos, Statements, Tops}
-use Rattle.sheet_rows.specs.Rows.{none#, blank, front}
-use Rattle.sheet_rows.specs.Parse.{elements, kind_of, passes, optional, statement_of, statements_of, proto_of, document_of}
+use Rattle.sheet_rows.specs.Rows.{blank, front}
+use Rattle.sheet_rows.specs.Parse.{elements, statement_of, statements_of, proto_of, document_of}
 use Rattle.sheet_walks.specs.declared.walk.Found.{Found}
 use Rattle.sheet_walks.specs.declared.walk.Found.TheVariants.{At, Nothing}
 use Rattle.sheet_walks.specs.Walk.{Stands, Nth}
 use Rattle.sheet_lookup.specs.Lookup.{document_at}
+use Rattle.sheet_walks.proofs.ElementsLaws.{elements_few}
 use Rattle.sheet_walks.proofs.WalkLaws.{each_at, each_none, at_map, front_drop, rest_drop, from_here}
 use Rattle.std.specs.Prelude.{Option as Maybe, Some, None}
 use Rattle.pick_file.specs.declared.TopProto.{TopProto}
 use Rattle.pick_definition.specs.PickIn.{top_protos, is_named, first_named, pick_in}
-use Rattle.pick_file.specs.File.{id_of, protos_from, StandsProto, NextProto, protos_at, FirstNamed}
+use Rattle.pick_file.specs.File.{id_of, option_of, protos_from, StandsProto, NextProto, protos_at, FirstNamed}
 
 -- a column of the row that was read
 column : (R : List Row) (q : ℕ) {r : Row} (f : Row → ℕ) → r ≡ get_or R q blank → f (front (drop q R)) ≡ f r
@@ -77,18 +77,8 @@ next_first R p None s = rw s
 -- ---- how many elements a part has
 
 -- a part has at most as many elements as there are rows
-fewer : (t : Part) (l : List Row) → length (elements t l) ≤ length l
-unfolding elements
-fewer t [] = omega arith
-fewer t (r ∷ l) = go (eqb r.kind (kind_of t)) (passes t r.kind) (fewer t l)
-  where
-    go : (b c : Bool) → length (elements t l) ≤ length l → length (choose b ((r ∷ l) ∷ elements t l) (choose c (elements t l) [])) ≤ suc (length l)
-    go true c h = omega arith
-    go false true h = omega arith
-    go false false h = omega arith
-
 pub few : (t : Part) (R : List Row) (p : ℕ) → length (elements t (drop p R)) ≤ length R
-few t R p = omega (arith, fewer t (drop p R), length-drop p R)
+few t R p = omega (arith, elements_few t (drop p R), length-drop p R)
 
 top_few : (l : List Statement) → length (top_protos l) ≤ length l
 unfolding top_protos
@@ -187,15 +177,15 @@ module _ (R : List Row) (document : ℕ) where
   unfolding document_of statements_of elements
   pick_past fragment h = pick_none fragment (ap (λ (l : List Row). (document_of l).statements) (drop_of_length-le R h))
 
-  module _ (p : ℕ) (e : (document_at R document).statements ≡ statements_of (drop p R)) (fragment : ℕ) where
+  module _ (p : ℕ) (e : (document_at R document).statements ≡ statements_of (drop p R)) (fragment : Maybe ℕ) where
     -- without a fragment
-    pub pick_first : (x : Maybe TopProto) → fragment ≡ none# → NextProto R p x → id_of x ≡ pick_in (document_at R document) (optional fragment)
+    pub pick_first : (x : Maybe TopProto) → fragment ≡ None → NextProto R p x → id_of x ≡ pick_in (document_at R document) (option_of fragment)
     unfolding pick_in
-    pick_first x z s = rw (eq-eqb _ _ z, e) (next_first R p x s)
+    pick_first x z s = rw (z, e) (next_first R p x s)
 
     -- with a fragment
-    pub pick_named : (x : Maybe TopProto) → (fragment ≡ none# → ⊥) → FirstNamed R (document + 1) fragment p x → id_of x ≡ pick_in (document_at R document) (optional fragment)
+    pub pick_named : {name : ℕ} (x : Maybe TopProto) → fragment ≡ Some name → FirstNamed R (document + 1) name p x → id_of x ≡ pick_in (document_at R document) (option_of fragment)
     unfolding pick_in
-    pick_named x n s =
-        rw (ne_eqb _ _ n)
-        (s (document_at R document) protos_are ∙ ap (λ (l : List Statement). first_named (document_at R document) fragment (top_protos l)) (sym e))
+    pick_named {name} x n s =
+        rw n
+        (s (document_at R document) protos_are ∙ ap (λ (l : List Statement). first_named (document_at R document) name (top_protos l)) (sym e))

@@ -17,6 +17,11 @@ abbrev pub id_of : Maybe TopProto → Option ℕ
 id_of (Some top) = some top.id.0
 id_of None = none
 
+-- an Option of the code, as one of the definition
+abbrev pub option_of : Maybe ℕ → Option ℕ
+option_of (Some n) = some n
+option_of None = none
+
 -- the ids of the Proto statements from a row on
 abbrev pub protos_from : List Row → ℕ → List ℕ
 protos_from R p = top_protos (statements_of (drop p R))

@@ -1,5 +1,6 @@
 #![tactic(auto)]
 // The pick within a file: a top-level Proto statement of its document.
+// Kept: in `pick_in` an index's words beside a row and its sheet: the index is made only where there is a fragment.
 ghost use Rattle.std.specs.Prelude.{◌≡◌, ◌*◌, ◌≤◌, ◌<◌, length, drop};
 ghost use Rattle.std.specs.Iterator.{at_most};
 ghost use Rattle.std.proofs.Math.ListN.{get_elem?};
@@ -10,20 +11,18 @@ ghost use Rattle.sheet_walks.specs.Walk.{Nth};
 ghost use Rattle.sheet_index.specs.Once.{Part-set};
 ghost use Rattle.sheet_lookup.specs.Lookup.{document_at};
 ghost use Rattle.pick_definition.specs.PickIn.{is_named, pick_in};
-ghost use Rattle.pick_file.specs.File.{Capped, id_of, protos_from, NextProto, StepsProto, protos_at, FirstNamed};
+ghost use Rattle.pick_file.specs.File.{Capped, id_of, option_of, protos_from, NextProto, StepsProto, protos_at, FirstNamed};
 
 use ast::ProtoId;
 use sheet_index::PartIndex;
+use sheet_rows::codes::statement;
 use sheet_rows::part::Part;
 use sheet_rows::row;
 use sheet_walks::walk;
 use sheet_walks::walk::Found;
 
-// The kind of a statement that names a prototype.
-const PROTO: u32 = 1;
-
 // A top-level Proto statement: the id that it names, and its row.
-#[derive(Clone, Copy)]
+#[derive(Clone, Copy, Debug, PartialEq, Eq)]
 pub struct TopProto {
     pub id: ProtoId,
     pub row: usize,
@@ -44,7 +43,7 @@ pub fn next_proto(sheet: &[u32], from: usize) -> Option<TopProto>
 {
     for q in walk::elements(sheet, Part::Statements, from) {
         let r = row::row_at(sheet, q);
-        if r.a == PROTO {
+        if r.a == statement::PROTO {
             return Some(TopProto {
                 id: ProtoId(r.b),
                 row: q,
@@ -80,6 +79,16 @@ impl<'a> Iterator for TopProtos<'a> {
         self.next = top.row + 1;
         Some(top)
     }
+}
+
+// What a word stands for that is NONE where there is nothing.
+pub fn optional(word: u32) -> Option<u32>
+    ensures { option_of result ≡ optional word }
+{
+    if word == row::NONE {
+        return None;
+    }
+    Some(word)
 }
 
 // So many prototypes to a slot that the slots reach the last. Any other number would give the same picks.
@@ -129,9 +138,14 @@ impl ProtoIndex<'_> {
 
 // The pick in the document that begins at a row, by a walk. With a fragment, the first top-level Proto of that name;
 // without, the first top-level Proto, dangling or not.
-pub fn pick_in(sheet: &[u32], document: usize, fragment: u32, slots: &mut [u32]) -> Option<TopProto>
+pub fn pick_in(
+    sheet: &[u32],
+    document: usize,
+    fragment: Option<u32>,
+    slots: &mut [u32],
+) -> Option<TopProto>
     requires { Capped sheet.now }
-    ensures { id_of result ≡ pick_in (document_at (rows sheet.now) document) (optional fragment) }
+    ensures { id_of result ≡ pick_in (document_at (rows sheet.now) document) (option_of fragment) }
 {
     if sheet.len() / 8 <= document {
         return None;
@@ -140,9 +154,9 @@ pub fn pick_in(sheet: &[u32], document: usize, fragment: u32, slots: &mut [u32])
     let Found::At(top) = walk::seek(sheet, Part::Tops, from) else {
         return None;
     };
-    if fragment == row::NONE {
+    let Some(name) = fragment else {
         return next_proto(sheet, top + 1);
-    }
+    };
     let part = Part::Protos;
     let count = walk::count(sheet, part, from);
     let stride = stride(count, slots.len());
@@ -154,5 +168,5 @@ pub fn pick_in(sheet: &[u32], document: usize, fragment: u32, slots: &mut [u32])
         stride,
         slots: &slots[..filled],
     };
-    ProtoIndex { count, index }.first_named(top + 1, fragment)
+    ProtoIndex { count, index }.first_named(top + 1, name)
 }

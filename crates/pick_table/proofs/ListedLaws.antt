@@ -6,9 +6,9 @@ use Prim.Native.Nat.{ℕ, zero, suc, ◌+◌, ◌-◌, ◌≤◌, ◌<◌}
 use native.Mathlib.Omega.{arith}
 use native.Mathlib.Numerals.{add-one}
 use native.Mathlib.Decide.{ℕ_discrete}
-use lib.ListN.{length, get_or, drop, set, get_elem?, length-set}
-use lib.Seq.{get_or-set_same, get_or-set_other}
-use borrow.Author.Tests.{ne_eqb}
+use lib.ListN.{length, get_or, take, drop, set, get_elem?, length-set}
+use lib.Seq.{length-take-le, get_or-take, get_or-set_same, get_or-set_other}
+use Rattle.std.specs.Prelude.{Some, None}
 use Rattle.ast.specs.Ast.{File}
 use Rattle.sheet_rows.specs.declared.row.Row.{Row}
 use Rattle.sheet_rows.specs.declared.part.Part.TheVariants.{Files}
@@ -28,39 +28,40 @@ drop_one (suc n) (y ∷ l) x t e = drop_one n l x t e
 
 -- ---- the list is written: n files have been met, the next one is looked for from row `at` on
 
-pub record Listing (R : List Row) (w : List ℕ) (from n at : ℕ) : Type 0 where
-  pub within : from + n ≤ length w
+pub record Listing (R : List Row) (w : List ℕ) (n at : ℕ) : Type 0 where
+  pub within : n ≤ length w
   pub few : n ≤ at
   pub upto : at ≤ length R
-  pub row : (j : ℕ) → j < n → get_elem? (files_of R) j ≡ some (file_of (drop (get_or w (from + j) 0) R))
-  pub below : (j : ℕ) → j < n → get_or w (from + j) 0 < length R
+  pub row : (j : ℕ) → j < n → get_elem? (files_of R) j ≡ some (file_of (drop (get_or w j 0) R))
+  pub below : (j : ℕ) → j < n → get_or w j 0 < length R
   pub rest : drop n (files_of R) ≡ files_from R at
 
-pub list_start : (R : List Row) (w : List ℕ) (from : ℕ) → from ≤ length w → Listing R w from 0 0
+pub list_start : (R : List Row) (w : List ℕ) → Listing R w 0 0
 unfolding files_of
-list_start R w from h =
+list_start R w =
     record { within = omega arith; few = omega arith; upto = omega arith; row = λ j i. absurd (omega arith); below = λ j i. absurd (omega arith); rest = refl }
 
-module _ {R : List Row} {w : List ℕ} {from n at : ℕ} (l : Listing R w from n at) where
-  -- no file is left
-  pub list_none : elements Files (drop at R) ≡ [] → FilesListed R w from n
-  list_none e = record {
-    within = l.within;
-    few = omega (arith, l.few, l.upto);
-    row = l.row;
-    below = l.below;
-    all = λ h j i.
-        let z : n + (j - n) ≡ j = omega arith in
-        let y : get_elem? (files_of R) (n + (j - n)) ≡ none = sym (at_drop (files_of R) n (j - n)) ∙ rw (l.rest, each_none file_of Files R at e) in
-        rw z at y;
-  }
+-- the list of no file
+pub listed_none : (R : List Row) (w : List ℕ) → FilesListed R (take 0 w)
+listed_none R w = record { few = omega arith; row = λ j i. absurd (omega arith); below = λ j i. absurd (omega arith); all = λ h. absurd (omega arith) }
 
-  -- they don't fit
-  pub list_full : FilesListed R w from 0
-  list_full = record { within = omega (arith, l.within); few = omega arith; row = λ j i. absurd (omega arith); below = λ j i. absurd (omega arith); all = λ h. absurd (omega arith) }
+module _ {R : List Row} {w : List ℕ} {n at : ℕ} (l : Listing R w n at) where
+  -- no file is left
+  pub list_none : elements Files (drop at R) ≡ [] → FilesListed R (take n w)
+  list_none e =
+      let long : length (take n w) ≡ n = length-take-le n w l.within in
+      record {
+        few = omega (arith, l.few, l.upto);
+        row = λ j h. let i : j < n = omega arith in rw (get_or-take n w j 0 i) (l.row j i);
+        below = λ j h. let i : j < n = omega arith in rw (get_or-take n w j 0 i) (l.below j i);
+        all = λ h j i.
+            let z : n + (j - n) ≡ j = omega arith in
+            let y : get_elem? (files_of R) (n + (j - n)) ≡ none = sym (at_drop (files_of R) n (j - n)) ∙ rw (l.rest, each_none file_of Files R at e) in
+            rw z at y;
+      }
 
   -- one more
-  pub list_more : {q : ℕ} → Stands Files R at q → from + n < length w → Listing R (set w (from + n) q) from (n + 1) (q + 1)
+  pub list_more : {q : ℕ} → Stands Files R at q → n < length w → Listing R (set w n q) (n + 1) (q + 1)
   list_more {q} h i = record {
     within = rw length-set (omega arith);
     few = omega (arith, l.few, h.from);
@@ -79,30 +80,19 @@ module _ {R : List Row} {w : List ℕ} {from n at : ℕ} (l : Listing R w from n
           let y : get_elem? (files_of R) (n + 0) ≡ some (file_of (drop q R)) = sym (at_drop (files_of R) n 0) ∙ ap (λ (x : List File). get_elem? x 0) cons in
           rw z at y
 
-      new : get_or (set w (from + n) q) (from + n) 0 ≡ q
-      new = get_or-set_same w (from + n) q 0 i
+      new : get_or (set w n q) n 0 ≡ q
+      new = get_or-set_same w n q 0 i
 
-      old : (j : ℕ) → (j ≡ n → ⊥) → get_or (set w (from + n) q) (from + j) 0 ≡ get_or w (from + j) 0
-      old j z = get_or-set_other w (from + n) (from + j) q 0 (λ e. z (omega arith))
+      old : (j : ℕ) → (j ≡ n → ⊥) → get_or (set w n q) j 0 ≡ get_or w j 0
+      old j z = get_or-set_other w n j q 0 z
 
-      at_row : (j : ℕ) → j < n + 1 → Dec (j ≡ n) → get_elem? (files_of R) j ≡ some (file_of (drop (get_or (set w (from + n) q) (from + j) 0) R))
+      at_row : (j : ℕ) → j < n + 1 → Dec (j ≡ n) → get_elem? (files_of R) j ≡ some (file_of (drop (get_or (set w n q) j 0) R))
       at_row j k (yes z) = rw (z, new) here
       at_row j k (no z) = rw (old j z) (l.row j (omega arith))
 
-      at_below : (j : ℕ) → j < n + 1 → Dec (j ≡ n) → get_or (set w (from + n) q) (from + j) 0 < length R
+      at_below : (j : ℕ) → j < n + 1 → Dec (j ≡ n) → get_or (set w n q) j 0 < length R
       at_below j k (yes z) = rw (z, new) h.below
       at_below j k (no z) = rw (old j z) (l.below j (omega arith))
-
--- ---- the list stays where its words do
-
-pub listed_on : {R : List Row} {w w' : List ℕ} {from n : ℕ} → FilesListed R w from n → length w' ≡ length w → ((k : ℕ) → from ≤ k → get_or w' k 0 ≡ get_or w k 0) → FilesListed R w' from n
-listed_on {from = from} l e same = record {
-  within = omega (arith, l.within);
-  few = l.few;
-  row = λ j h. rw (same (from + j) (omega arith)) (l.row j h);
-  below = λ j h. rw (same (from + j) (omega arith)) (l.below j h);
-  all = l.all;
-}
 
 -- ---- the search, from the last file back: none from the j-th on is of the base
 
@@ -110,32 +100,32 @@ pub record Searching (R : List Row) (base n j : ℕ) : Type 0 where
   pub upto : j ≤ n
   pub none : (k : ℕ) (g : File) → j ≤ k → get_elem? (files_of R) k ≡ some g → g.base ≡ base → ⊥
 
-module _ (R : List Row) (w : List ℕ) (base : ℕ) {from n : ℕ} (l : FilesListed R w from n) (h : 0 < n) where
-  pub search_start : Searching R base n n
+module _ (R : List Row) (w : List ℕ) (base : ℕ) (l : FilesListed R w) (h : 0 < length w) where
+  pub search_start : Searching R base (length w) (length w)
   search_start = record { upto = omega arith; none = λ k g i e b. never (sym (l.all h k i) ∙ e) }
     where
       never : {g : File} → none ≡ some g → ⊥
       never e = let z : ◌≡◌ {A = ℕ} 0 1 = cc in omega arith
 
-  module _ {j : ℕ} (s : Searching R base n j) where
-    pub search_none : j ≡ 0 → IsFileOf R base (record { number = 0; row = 0 })
+  module _ {j : ℕ} (s : Searching R base (length w) j) where
+    pub search_none : j ≡ 0 → IsFileOf R base None
     search_none e = (newer_counts (files_of R)).unresolved base (λ k f. s.none k f (omega arith))
 
-    module _ (m : 0 < j) {q : ℕ} {r : Row} (at : q ≡ get_or w (from + (j - 1)) 0) (is : r ≡ get_or R q blank) where
+    module _ (m : 0 < j) {q : ℕ} {r : Row} (at : q ≡ get_or w (j - 1) 0) (is : r ≡ get_or R q blank) where
       file_here : get_elem? (files_of R) (j - 1) ≡ some (file_of (drop q R))
       file_here = rw at (l.row (j - 1) (omega (arith, s.upto)))
 
       base_here : (front (drop q R)).a ≡ r.a
       base_here = ap (λ (x : Row). x.a) (front_drop R q ∙ sym is)
 
-      pub search_here : r.a ≡ base → IsFileOf R base (record { number = j; row = q + 1 })
+      pub search_here : r.a ≡ base → IsFileOf R base (Some (record { number = j; row = q + 1 }))
       search_here e =
           let i : j - 1 + 1 ≡ j = omega arith in
           let f = (newer_counts (files_of R)).used base (j - 1) (file_of (drop q R))
           (record { here = file_here; is = base_here ∙ e; last = λ k g a. s.none k g (omega arith) }) in
-          f ∙ rw (i, ne_eqb j 0 (λ z. omega arith), base_here, e, rest_drop R q)
+          f ∙ rw (i, base_here, e, rest_drop R q)
 
-      pub search_next : (r.a ≡ base → ⊥) → Searching R base n (j - 1)
+      pub search_next : (r.a ≡ base → ⊥) → Searching R base (length w) (j - 1)
       search_next ne = record { upto = omega (arith, s.upto); none = λ k g a e b. go k g a e b (ℕ_discrete k (j - 1)) }
         where
           go : (k : ℕ) (g : File) → j - 1 ≤ k → get_elem? (files_of R) k ≡ some g → g.base ≡ base → Dec (k ≡ j - 1) → ⊥

@@ -1,15 +1,15 @@
 -- The table of bases: one url, the externs of a document, those of a fetched file, all.
 use mathlib.Core.Path.{◌≡◌, refl, sym, ap, ◌∙◌}
 use mathlib.Core.Bool.{Bool, true, false}
-use mathlib.Core.List.{List, [], ◌∷◌, ◌++◌, map}
+use mathlib.Core.List.{List, [], ◌∷◌, map}
 use mathlib.Core.Option.{Option, none, some}
 use Prim.Native.Nat.{ℕ, suc, ◌+◌, ◌-◌, ◌≤◌, ◌<◌}
 use native.Mathlib.Numerals.{add-one}
 use native.Mathlib.Omega.{arith}
 use lib.ListN.{length, get_or, drop}
-use lib.Seq.{take_at, get_or-set_same}
+use lib.Seq.{get_or-set_same}
 use lib.Dec.{eqb}
-use borrow.Author.Tests.{eq-eqb, ne_eqb, lt-ltb, le-ltb}
+use borrow.Author.Tests.{lt-ltb, le-ltb}
 use Rattle.ast.specs.Ast.{Url, ExternProtoDecl, File}
 use Rattle.ast.specs.Choice.{choose, and_then}
 use Rattle.sheet_rows.specs.declared.row.Row.{Row}
@@ -19,39 +19,16 @@ use Rattle.sheet_rows.specs.Parse.{elements, optional, url_of, extern_proto_of, 
 use Rattle.sheet_walks.specs.Walk.{Stands}
 use Rattle.sheet_lookup.specs.Lookup.{document_at}
 use Rattle.sheet_walks.proofs.WalkLaws.{elements_end, each_at, each_none, front_drop, rest_drop}
-use Rattle.pick_definition.specs.PickIn.{pick_in}
-use Rattle.pick_file.specs.File.{id_of}
-use Rattle.pick_file.specs.declared.TopProto.{TopProto}
 use Rattle.std.specs.Prelude.{Option as Maybe, Some, None}
 use Rattle.std.specs.Option.{is_some}
-use Rattle.pick_memo.specs.declared.Memo.{Memo}
-use Rattle.pick_memo.specs.Memo.{MemoSound}
-use Rattle.words_lent.proofs.WordLaws.{stays_front}
 use Rattle.pick_table.specs.declared.table.Source.{Source}
 use Rattle.pick_table.specs.declared.table.Table.{Table}
 use Rattle.pick_table.specs.declared.Chosen.{Chosen}
 use Rattle.pick_definition.specs.Picks.{Bases, Picked, library_file, pick_from, pick_url, or_next, member, remember, pick_urls, bases_from, Walked, fetched, walk_fetched, walk_files, walk, final_bases}
-use Rattle.pick_table.specs.Table.{bases_of, source_at, Empty, TableSound, FilesListed, StandsAt, Position, BaseAdded, IsFileOf}
-use Rattle.pick_table.specs.Chosen.{prototype_by, Leads, Scratch, Placed, UrlTried, UrlsTried, Tried, after_file, FileTried, Final}
+use Rattle.pick_table.specs.Table.{bases_of, source_at, Empty, TableSound, StandsAt, Position, BaseAdded, IsFileOf}
+use Rattle.pick_table.specs.Chosen.{prototype_by, Leads, Placed, UrlTried, UrlsTried, Tried, after_file, FileTried, Final}
 use Rattle.pick_table.proofs.TableLaws.{position_known, position_new, stands_low, stands_here, count_is, base_at, sound_added, bases_added}
-use Rattle.pick_table.proofs.ListedLaws.{listed_on}
 use Rattle.pick_definition.proofs.WalkedLaws.{walk_past}
-
--- ---- what a url leads to, by the file of its base
-
-module _ (R : List Row) (s : Source) (fragment : ℕ) where
-  -- a base without a file
-  pub from_none : s.number ≡ 0 → Leads R s fragment None
-  from_none e base used = rw (eq-eqb _ _ e)
-
-  module _ (x : Maybe TopProto) (n : s.number ≡ 0 → ⊥) (is : id_of x ≡ pick_in (document_at R s.row) (optional fragment)) where
-    -- a file without such a Proto
-    pub from_nothing : x ≡ None → Leads R s fragment None
-    from_nothing e base used = rw (ne_eqb _ _ n, sym is, e)
-
-    -- a file with one
-    pub from_proto : {top : TopProto} → x ≡ Some top → Leads R s fragment (Some (record { document = s.number; id = top.id }))
-    from_proto e base used = rw (ne_eqb _ _ n, sym is, e)
 
 -- ---- the urls of an extern
 
@@ -75,7 +52,7 @@ unfolding extern_proto_of
 extern_urls sheet q = rw (rest_drop sheet q)
 
 -- what a url leads to, by the library's file of its base
-pub url_leads : (R : List Row) (s : Source) (r : Row) (x : Maybe Chosen) → IsFileOf R r.a s → Leads R s r.b x → pick_url (files_of R) (url_in r) ≡ prototype_by x
+pub url_leads : (R : List Row) (s : Maybe Source) (r : Row) (x : Maybe Chosen) → IsFileOf R r.a s → Leads R s (optional r.b) x → pick_url (files_of R) (url_in r) ≡ prototype_by x
 unfolding pick_url
 url_leads R s r x f l = ap (λ (o : Option (ℕ × File)). and_then o (pick_from (url_in r))) f ∙ sym (l r.a (eqb r.c 1))
 
@@ -105,7 +82,7 @@ module _ {R : List Row} {base : ℕ} {t : Table} (s : TableSound R t) where
     new = position_new (bases_of t) p
 
     -- it is new, and there is a place for it
-    pub place_new : {x : Source} {u : Table} → t.count < 64 → IsFileOf R base x → BaseAdded t base x u → Placed R base t u (Some t.count)
+    pub place_new : {x : Maybe Source} {u : Table} → t.count < 64 → IsFileOf R base x → BaseAdded t base x u → Placed R base t u (Some t.count)
     unfolding remember
     place_new m f a =
         let l : length (bases_of t) < 64 = omega (arith, count_is s) in
@@ -120,7 +97,7 @@ module _ {R : List Row} {base : ℕ} {t : Table} (s : TableSound R t) where
     unfolding remember
     place_none m = let l : 64 ≤ length (bases_of t) = omega (arith, count_is s) in record { sound = s; is = (rw (new, le-ltb _ _ l), refl) }
 
-module _ {R : List Row} {base fragment : ℕ} {t u : Table} {x : Maybe ℕ} (p : Placed R base t u x) where
+module _ {R : List Row} {base : ℕ} {fragment : Option ℕ} {t u : Table} {x : Maybe ℕ} (p : Placed R base t u x) where
   -- without a place it is passed over
   pub url_skipped : x ≡ None → UrlTried R base fragment t u false
   url_skipped e = let i = (rw e at p).is in record { sound = p.sound; is = λ n used next. rw (i.0, i.1) }
@@ -156,7 +133,7 @@ module _ {sheet : List Row} {at : ℕ} {R : List Row} {before t : Table} {p : �
   unfolding pick_urls
   try_none e = record { sound = w.sound; bases = sym (w.is ∙ rw (urls_none sheet p e)) }
 
-  module _ {q : ℕ} {r : Row} (h : Stands Urls sheet p q) (is : r ≡ get_or sheet q blank) {u : Table} {led : Bool} (y : UrlTried R r.a r.b t u led) where
+  module _ {q : ℕ} {r : Row} (h : Stands Urls sheet p q) (is : r ≡ get_or sheet q blank) {u : Table} {led : Bool} (y : UrlTried R r.a (optional r.b) t u led) where
     here : (pick_urls (files_of R) 0 (urls_from sheet at) (bases_of before)).1 ≡ choose led (bases_of u) (pick_urls (files_of R) (suc w.url) (urls_from sheet (q + 1)) (bases_of u)).1
     unfolding pick_urls
     here = w.is ∙ rw (urls_at h is) (y.is w.url (eqb r.c 1) (pick_urls (files_of R) (suc w.url) (urls_from sheet (q + 1))))
@@ -197,18 +174,6 @@ module _ {sheet : List Row} {document : ℕ} {R : List Row} {before t : Table} {
   unfolding bases_from
   gather_next {q} h y = record { sound = y.sound; is = w.is ∙ rw (each_at extern_proto_of h, extern_urls sheet q, y.bases) }
 
--- ---- the words lent
-
--- the memo has written its words
-pub scratch_on : {R : List Row} {w : List ℕ} {from files : ℕ} {m : Memo} (ys : List ℕ) → from ≤ length w → FilesListed R w from files → length ys ≡ from → MemoSound R ys m → Scratch R (ys ++ drop from w) from files m
-scratch_on {w = w} {from} ys h l e k =
-    let o = stays_front w ys from h e in
-    record {
-      within = omega (arith, o.long);
-      memo = rw (take_at ys (drop from w) from e) k;
-      listed = listed_on l o.long (λ j i. o.above j i);
-    }
-
 -- ---- the fetched files
 
 module _ {R : List Row} {t : Table} {k : ℕ} (s : TableSound R t) (h : k < t.count) where
@@ -216,12 +181,12 @@ module _ {R : List Row} {t : Table} {k : ℕ} (s : TableSound R t) (h : k < t.co
   fetched_is = rw (base_at s k h)
 
   -- the k-th base has no file
-  pub file_none : get_or t.files k 0 ≡ 0 → FileTried R k t t
-  file_none e = record { sound = s; bases = sym (rw (fetched_is, s.sources k h, eq-eqb _ _ e)) }
+  pub file_none : source_at t k ≡ None → FileTried R k t t
+  file_none e = record { sound = s; bases = sym (rw (fetched_is, s.sources k h, e)) }
 
   -- or its file was walked
-  pub file_tried : {u : Table} → (get_or t.files k 0 ≡ 0 → ⊥) → Tried R (get_or t.rows k 0) R t u → FileTried R k t u
-  file_tried n w = record { sound = w.sound; bases = w.bases ∙ sym (rw (fetched_is, s.sources k h, ne_eqb _ _ n)) }
+  pub file_tried : {f : Source} {u : Table} → source_at t k ≡ Some f → Tried R f.row R t u → FileTried R k t u
+  file_tried e w = record { sound = w.sound; bases = w.bases ∙ sym (rw (fetched_is, s.sources k h, e)) }
 
 -- the files of the first k bases were walked
 pub record Walking (root R : List Row) (t : Table) (k : ℕ) : Type 0 where

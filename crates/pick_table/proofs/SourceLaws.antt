@@ -8,6 +8,7 @@ use native.Mathlib.Numerals.{add-one}
 use lib.ListN.{length, get_or, drop}
 use lib.Dec.{eqb}
 use borrow.Author.Tests.{eq-eqb, ne_eqb}
+use Rattle.std.specs.Prelude.{Option as Maybe, Some, None}
 use Rattle.ast.specs.Ast.{File}
 use Rattle.ast.specs.Choice.{choose, or_else}
 use Rattle.sheet_rows.specs.declared.row.Row.{Row}
@@ -27,7 +28,7 @@ abbrev pub files_from : List Row → ℕ → List File
 files_from R p = map file_of (elements Files (drop p R))
 
 -- the file of the base among those from row `at` on, or else the best so far, is that of all; the next file has a number
-pub record Seeking (R : List Row) (base : ℕ) (best : Source) (number at : ℕ) : Type 0 where
+pub record Seeking (R : List Row) (base : ℕ) (best : Maybe Source) (number at : ℕ) : Type 0 where
   pub is : library_file base 1 (files_of R) ≡ or_else (library_file base number (files_from R at)) (file_at R base best)
   pub from : 0 < number
   pub ahead : number ≤ at + 1
@@ -35,11 +36,11 @@ pub record Seeking (R : List Row) (base : ℕ) (best : Source) (number at : ℕ)
 
 module _ (R : List Row) (base : ℕ) where
   -- the walk begins at the first file, number 1
-  pub seek_start : Seeking R base (record { number = 0; row = 0 }) 1 0
+  pub seek_start : Seeking R base None 1 0
   unfolding files_of
   seek_start = record { is = sym (or_none_lem (library_file base 1 (files_from R 0))); from = omega arith; ahead = omega arith; upto = omega arith }
 
-  module _ {best : Source} {number at : ℕ} (s : Seeking R base best number at) where
+  module _ {best : Maybe Source} {number at : ℕ} (s : Seeking R base best number at) where
     -- no file is left
     pub seek_none : elements Files (drop at R) ≡ [] → IsFileOf R base best
     unfolding library_file
@@ -59,12 +60,12 @@ module _ (R : List Row) (base : ℕ) where
           s.is ∙ rw (each_at file_of h, base_at, rest_drop R q, add-one number)
           (or_assoc (library_file base (suc number) (files_from R (q + 1))) next (file_at R base best))
 
-      more : (b : Source) → library_file base 1 (files_of R) ≡ or_else (library_file base (number + 1) (files_from R (q + 1))) (file_at R base b) → Seeking R base b (number + 1) (q + 1)
+      more : (b : Maybe Source) → library_file base 1 (files_of R) ≡ or_else (library_file base (number + 1) (files_from R (q + 1))) (file_at R base b) → Seeking R base b (number + 1) (q + 1)
       more b e = record { is = e; from = omega arith; ahead = omega (arith, h.from); upto = omega (arith, h.below) }
 
       -- the next file is of the base
-      pub seek_here : r.a ≡ base → Seeking R base (record { number = number; row = q + 1 }) (number + 1) (q + 1)
-      seek_here e = more _ (one ∙ rw (eq-eqb r.a base e, e, ne_eqb number 0 (λ z. omega arith)))
+      pub seek_here : r.a ≡ base → Seeking R base (Some (record { number = number; row = q + 1 })) (number + 1) (q + 1)
+      seek_here e = more _ (one ∙ rw (eq-eqb r.a base e, e))
 
       -- it is of another
       pub seek_next : (r.a ≡ base → ⊥) → Seeking R base best (number + 1) (q + 1)

@@ -71,20 +71,19 @@ module _ {R : List Row} {t : Table} (s : TableSound R t) where
     stands_here = sym (get_or-take t.count t.bases j 0 stands_low) ∙ p.here
 
   -- one base more, with its file
-  module _ {base : ℕ} {x : Source} {u : Table} (m : t.count < 64) (a : BaseAdded t base x u) where
+  module _ {base : ℕ} {x : Maybe Source} {u : Table} (m : t.count < 64) (a : BaseAdded t base x u) where
     source_new : (k : ℕ) → k < t.count + 1 → IsFileOf R base x → Dec (k ≡ t.count) → IsFileOf R (get_or u.bases k 0) (source_at u k)
     source_new k h f (yes z) =
         let b : t.count < length t.bases = omega (arith, s.long.0) in
         let i : t.count < length t.files = omega (arith, s.long.1) in
-        let r : t.count < length t.rows = omega (arith, s.long.2) in
-        rw (a.bases, a.files, a.rows, z, get_or-set_same t.bases t.count base 0, get_or-set_same t.files t.count x.number 0, get_or-set_same t.rows t.count x.row 0) f
+        rw (a.bases, a.files, z, get_or-set_same t.bases t.count base 0, get_or-set_same t.files t.count x None) f
     source_new k h f (no z) =
-        rw (a.bases, a.files, a.rows, get_or-set_other t.bases t.count k base 0 z, get_or-set_other t.files t.count k x.number 0 z, get_or-set_other t.rows t.count k x.row 0 z) (s.sources k (omega arith))
+        rw (a.bases, a.files, get_or-set_other t.bases t.count k base 0 z, get_or-set_other t.files t.count k x None z) (s.sources k (omega arith))
 
     pub sound_added : IsFileOf R base x → TableSound R u
     sound_added f = record {
       room = omega (arith, a.count);
-      long = (rw (a.bases, length-set) s.long.0, rw (a.files, length-set) s.long.1, rw (a.rows, length-set) s.long.2);
+      long = (rw (a.bases, length-set) s.long.0, rw (a.files, length-set) s.long.1);
       sources = λ k h. source_new k (rw a.count at h) f (ℕ_discrete k t.count);
     }
 

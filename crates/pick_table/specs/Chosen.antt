@@ -1,12 +1,14 @@
 -- What the code answers, as picks.
-use Rattle.std.specs.Prelude.{Option as Maybe, Some, None, ◌≡◌, Bool, List, ℕ, ◌≤◌, ◌<◌, length, get_or, take, drop, map}
+use Rattle.std.specs.Prelude.{Option as Maybe, Some, None, ◌≡◌, Bool, List, ℕ, ◌<◌, get_or, drop, map}
 use Rattle.std.proofs.Math.Option.{Option, none, some}
 use Rattle.ast.specs.Ast.{File}
 use Rattle.ast.specs.Choice.{choose, and_then}
 use Rattle.sheet_rows.specs.declared.row.Row.{Row}
 use Rattle.sheet_rows.specs.declared.part.Part.TheVariants.{Urls}
-use Rattle.sheet_rows.specs.Parse.{elements, optional, url_of, document_of, files_of}
+use Rattle.sheet_rows.specs.Parse.{elements, url_of, document_of, files_of}
 use Rattle.sheet_lookup.specs.Lookup.{document_at}
+use Rattle.sheet_rows.specs.Rows.{rows}
+use Rattle.pick_file.specs.File.{Capped}
 use Rattle.pick_memo.specs.declared.Memo.{Memo}
 use Rattle.pick_memo.specs.Memo.{MemoSound}
 use Rattle.pick_table.specs.declared.table.Source.{Source}
@@ -21,15 +23,15 @@ prototype_by (Some x) = some (record { document = x.document; proto = x.id.0 })
 prototype_by None = none
 
 -- what a url with a fragment leads to, by the file of its base
-abbrev pub Leads : List Row → Source → ℕ → Maybe Chosen → Type 0
+abbrev pub Leads : List Row → Maybe Source → Option ℕ → Maybe Chosen → Type 0
 Leads R s fragment x =
-    (base : ℕ) (used : Bool) → prototype_by x ≡ and_then (file_at R base s) (pick_from (record { base = base; fragment = optional fragment; used = used }))
+    (base : ℕ) (used : Bool) → prototype_by x ≡ and_then (file_at R base s) (pick_from (record { base = base; fragment = fragment; used = used }))
 
--- the words lent: a memo of the files in those before a place, a list of the files behind it
-pub record Scratch (R : List Row) (w : List ℕ) (from files : ℕ) (m : Memo) : Type 0 where
-  pub within : from ≤ length w
-  pub memo : MemoSound R (take from w) m
-  pub listed : FilesListed R w from files
+-- what a url is looked up by: a list of the library's files, a memo of them and its words
+pub record Scratch (library files slots : List ℕ) (m : Memo) : Type 0 where
+  pub capped : Capped library
+  pub listed : FilesListed (rows library) files
+  pub memo : MemoSound (rows library) slots m
 
 -- where a base stands in the table u, once it was looked for in t; nowhere if it has no place
 abbrev pub PlacedAt : ℕ → Table → Table → Maybe ℕ → Type 0
@@ -41,10 +43,10 @@ pub record Placed (R : List Row) (base : ℕ) (t u : Table) (x : Maybe ℕ) : Ty
   pub is : PlacedAt base t u x
 
 -- the table once a url was tried, which is the extern's last if it led to a prototype; next says what its other urls do
-pub record UrlTried (R : List Row) (base fragment : ℕ) (t u : Table) (led : Bool) : Type 0 where
+pub record UrlTried (R : List Row) (base : ℕ) (fragment : Option ℕ) (t u : Table) (led : Bool) : Type 0 where
   pub sound : TableSound R u
   pub is : (n : ℕ) (used : Bool) (next : Bases → Picked)
-      → (try_url (files_of R) n (record { base = base; fragment = optional fragment; used = used }) next (bases_of t) (remember base (bases_of t))).1 ≡ choose led (bases_of u) (next (bases_of u)).1
+      → (try_url (files_of R) n (record { base = base; fragment = fragment; used = used }) next (bases_of t) (remember base (bases_of t))).1 ≡ choose led (bases_of u) (next (bases_of u)).1
 
 -- once the urls from a row of a sheet on were tried, up to a pick
 pub record UrlsTried (sheet : List Row) (at : ℕ) (R : List Row) (t u : Table) : Type 0 where

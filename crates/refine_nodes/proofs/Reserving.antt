@@ -33,7 +33,7 @@ use Rattle.refine_records.specs.declared.Refusal.TheVariants.{TooManyRows, TooMa
 use Rattle.refine_records.specs.declared.Counts.{Counts}
 use Rattle.refine_records.specs.declared.Env as code
 use Rattle.refine_records.specs.Sound.{Source, input_of, heads_at, JournalSound, Standing, OfBody, Later, EnvAt, env_of}
-use Rattle.refine_records.specs.Does.{Answer, did, number, at}
+use Rattle.refine_records.specs.Does.{Answer, did, at}
 use Rattle.refine_records.specs.Contract.{Reserved}
 use Rattle.refine_records.proofs.Grow.{grown, sound_more, later_more, alone, count_other, count_new}
 use Rattle.refine_records.proofs.Later.{env_known, later_trans, later_node, later_env}

@@ -1,5 +1,7 @@
 #![tactic(auto)]
 // The steps that make a node, map a source id to it, look the copy up, and fill it.
+// Kept: the journal, the limits and the Env are parameters of their own, as at `refine_records::Journal`; one journal goes with
+// the Envs of two scopes in a body.
 ghost use Rattle.std.specs.Prelude.{◌+◌, ◌-◌};
 ghost use Rattle.journal_records.specs.Records.{Pushed};
 ghost use Rattle.journal_reading.specs.WellFormed.{NodeAt};
@@ -12,7 +14,6 @@ use journal_records;
 use journal_records::{Record, words};
 use refine_records::{Env, Journal, Limits, NodeCopy, Refusal};
 use sheet_rows::row::NONE;
-use words_lent::wide;
 
 // A charge and a map entry: the node whose record is before `place`.
 pub fn map(
@@ -27,18 +28,14 @@ pub fn map(
     requires node_at { NodeAt journal.old.work.now journal.old.counts.charges out.id.0 out.place }
     ensures { Mapped lim journal.old.work.now journal.old.counts env.scope id.0 out.id.0 out.place journal.new.work.now (copy_given journal.new.counts result) }
 {
-    let at = journal.counts.charges;
-    if lim.rows <= at {
-        return Err(Refusal::TooManyRows);
-    }
+    let at = journal.room(lim)?;
     journal_index::enter(
         journal.work,
-        lim.rows * 12,
-        lim.slots,
+        lim.heads(),
         at,
         Record::map_entry(env.place as u32, id.0, out.id.0, out.place, env.scope),
     );
-    journal.counts = refine_records::charged(journal.counts, 1);
+    journal.counts.charges += 1;
     Ok(out)
 }
 
@@ -55,7 +52,7 @@ pub fn reserve(
 {
     let c = journal.counts.charges;
     let new = journal.counts.nodes;
-    if lim.nodes <= wide(new) {
+    if lim.nodes <= new as usize {
         return Err(Refusal::TooManyNodes);
     }
     if lim.rows - c < 2 {
@@ -65,37 +62,30 @@ pub fn reserve(
     let place = (c + 1) as u32;
     journal_index::enter(
         journal.work,
-        lim.rows * 12,
-        lim.slots,
+        lim.heads(),
         c + 1,
         Record::map_entry(env.place as u32, id.0, new, place, env.scope),
     );
-    journal.counts.nodes = new + 1;
-    journal.counts.charges = c + 2;
+    journal.counts.nodes += 1;
+    journal.counts.charges += 2;
     Ok(NodeCopy {
         id: NodeId(new),
         place,
     })
 }
 
-// The map entry of a source id in a scope: word 3 is its copy, word 4 the copy's place.
+// The map entry of a source id in a scope.
 pub fn look(journal: &Journal<'_>, lim: Limits, env: Env, id: NodeId) -> Option<usize>
     requires standing { Standing lim journal.now.work.now journal.now.counts }
     requires env_at { EnvAt journal.now.work.now journal.now.counts.charges env }
     ensures { CopyLooked journal.now.work.now journal.now.counts.charges env.scope id.0 result }
 {
-    journal_index::find(
-        journal.work,
-        lim.rows * 12,
-        lim.slots,
-        journal.counts.charges,
-        journal_records::TAG_MAP,
-        env.place as u32,
-        id.0,
-    )
+    journal.find(lim, journal_records::TAG_MAP, env.place as u32, id.0)
 }
 
-// A route's end: its copy in the scope, or none. The word NONE is none.
+// A route's end: its copy in the scope, or none.
+// Kept: NONE for none and no Option: an end is read from a column or a word and written to one, so that each call would turn it
+// to an Option and back.
 pub fn remap(journal: &Journal<'_>, lim: Limits, env: Env, id: NodeId) -> NodeId
     requires standing { Standing lim journal.now.work.now journal.now.counts }
     requires env_at { EnvAt journal.now.work.now journal.now.counts.charges env }
@@ -107,34 +97,36 @@ pub fn remap(journal: &Journal<'_>, lim: Limits, env: Env, id: NodeId) -> NodeId
     let Some(r) = look(journal, lim, env, id) else {
         return NodeId(NONE);
     };
-    NodeId(journal_records::word(journal.work, r, words::map::COPY))
+    NodeId(journal.word(r, words::map::COPY))
 }
 
 // The contents of the node whose record is before `place`.
+// Kept: a parameter for each word of the contents, as `Record::node` has them: a struct would be put together at each of the two
+// calls and taken apart here.
 pub fn fill(
     work: &mut [u32],
     place: u32,
     ty: u32,
     def: u32,
-    kind: u32,
+    origin: u32,
     id: u32,
     fields: u32,
-    interface: u32,
+    interfaces: u32,
     statements: u32,
     order: u32,
 )
     requires { Fillable work.old place }
     ensures { Pushed work.old work.new (place - 1)
-        (contents_of work.old (place - 1) ty def kind id fields interface statements order) }
+        (contents_of work.old (place - 1) ty def origin id fields interfaces statements order) }
 {
-    let n = wide(place) - 1;
+    let n = place as usize - 1;
     let scope = journal_records::word(work, n, words::node::SCOPE);
     let source = journal_records::word(work, n, words::node::SOURCE);
     journal_records::push(
         work,
         n,
         Record::node(
-            scope, source, ty, def, kind, id, fields, interface, statements, order,
+            scope, source, ty, def, origin, id, fields, interfaces, statements, order,
         ),
     );
 }

@@ -1,7 +1,7 @@
 -- How code is shown to do what a piece of the definition does, step by step.
 use mathlib.Core.Path.{◌≡◌, refl, sym, ◌∙◌}
 use mathlib.Core.List.{List, [], ◌∷◌}
-use Prim.Native.Nat.{ℕ, ◌-◌, ◌≤◌}
+use Prim.Native.Nat.{ℕ, ◌≤◌}
 use Rattle.expansion_definition.specs.State.{Result, refusal, ok, Comp, bind_r, ◌>>=◌, ◌>>◌, ret, fail, map_m, fold_m}
 use Rattle.expansion_definition.specs.Input.{Input}
 use Rattle.expansion_definition.specs.Charges.{charge, paid}

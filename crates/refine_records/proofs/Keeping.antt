@@ -1,9 +1,9 @@
 -- `keep`: a charge and a record of a list; what the list of its handle is.
 use mathlib.Core.Path.{◌≡◌, refl, sym, ◌∙◌}
 use mathlib.Core.Bool.{true}
-use mathlib.Core.Logic.{◌⊎◌, ⊎_elim}
+use mathlib.Core.Logic.{⊎_elim}
 use mathlib.Core.List.{List, [], ◌∷◌, ◌++◌}
-use Prim.Native.Nat.{ℕ, ◌+◌, ◌-◌, ◌≤◌, ◌<◌}
+use Prim.Native.Nat.{ℕ, ◌+◌, ◌≤◌, ◌<◌}
 use native.Mathlib.Omega.{arith}
 use lib.ListN.{length}
 use Rattle.journal_records.specs.declared.Record.{Record}
@@ -25,7 +25,7 @@ use Rattle.std.specs.declared.result.Result.TheVariants.{Err}
 use Rattle.refine_records.specs.declared.Refusal.TheVariants.{TooManyRows}
 use Rattle.refine_records.specs.declared.Counts.{Counts}
 use Rattle.refine_records.specs.Sound.{JournalSound, Standing, OfBody, Later}
-use Rattle.refine_records.specs.Does.{Answer, did, at}
+use Rattle.refine_records.specs.Does.{Answer, did}
 use Rattle.refine_records.specs.Contract.{charged, Keepable, KeptAt, RecordKept}
 use Rattle.refine_records.proofs.Grow.{sound_more, later_more, alone, count_other}
 use Rattle.refine_records.proofs.Charges.{charge_refused, charge_done}

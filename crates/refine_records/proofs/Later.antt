@@ -1,19 +1,23 @@
 -- From one step to a later one: how `Later` goes together, and what stays true.
-use mathlib.Core.Path.{◌≡◌, refl, sym, ◌∙◌}
+use mathlib.Core.Path.{◌≡◌, refl, sym, ap, ◌∙◌}
 use mathlib.Core.Bool.{Bool, true, false}
 use mathlib.Core.Logic.{inl, inr}
 use mathlib.Core.List.{List}
+use mathlib.Core.Option.{some}
 use Prim.Native.Nat.{ℕ, ◌+◌, ◌-◌, ◌≤◌, ◌<◌}
 use native.Mathlib.Omega.{arith}
 use lib.Dec.{ltb}
 use borrow.Author.Tests.{ltb-true, ltb-false}
-use Rattle.journal_records.specs.Records.{tag_stored, tag_scope, tag_root, tag_route, tag_instance, cell}
+use Rattle.ast.specs.Choice.{map_o}
+use Rattle.std.specs.declared.option.Option.{Option}
+use Rattle.std.specs.declared.option.Option.TheVariants.{None, Some}
+use Rattle.journal_records.specs.Records.{tag_stored, tag_scope, tag_root, tag_route, tag_instance, cell, Fixed}
+use Rattle.journal_index.specs.Index.{found_of}
 use Rattle.journal_lists.specs.Owned.{tagged, owned_by, owned_log, Owned}
 use Rattle.journal_records.proofs.Frame.{fixed_refl, fixed_trans, fixed_less, steady_tag, steady_first, steady_is}
 use Rattle.journal_records.proofs.Lists.{count_above}
 use Rattle.journal_lists.proofs.Owned.{tagged_here, owned_is, owned_stable}
-use Rattle.expansion_definition.specs.Values.{Env}
-use Rattle.journal_reading.specs.Reading.{fixed_word, root_rec, body_route_rec, body_of, below}
+use Rattle.journal_reading.specs.Reading.{root_rec, body_route_rec, body_of, below, values_at}
 use Rattle.journal_reading.specs.WellFormed.{HandleAt, NodeAt, ScopeAt}
 use Rattle.journal_reading.proofs.Words.{Lasting}
 use Rattle.journal_reading.proofs.Chains.{values_fixed, root_lasting, body_route_lasting}
@@ -24,7 +28,7 @@ use Rattle.journal_reading.proofs.States.{scope_lasting}
 use Rattle.refine_records.specs.declared.Limits.{Limits}
 use Rattle.refine_records.specs.declared.Counts.{Counts}
 use Rattle.refine_records.specs.declared.Env as code
-use Rattle.refine_records.specs.Sound.{JournalSound, Standing, OfBody, Later, EnvAt, env_of}
+use Rattle.refine_records.specs.Sound.{JournalSound, Standing, OfBody, Later, ValuesBelow, EnvAt, env_of}
 
 -- an Env's scope is one of the journal's
 pub env_known : {w : List ℕ} {c : ℕ} {e : code.Env} → Owned w c → EnvAt w c e → e.scope < below w tag_scope c
@@ -34,8 +38,17 @@ pub env_scope : {w : List ℕ} {c : ℕ} {e : code.Env} → EnvAt w c e → Scop
 env_scope y = record { low = y.place; tag = y.tag; number = y.number }
 
 -- its values are stored
-pub env_values : {w : List ℕ} {c : ℕ} {e : code.Env} → EnvAt w c e → HandleAt w c tag_stored e.values
-env_values y = handle_more (omega (arith, y.place)) y.values
+pub env_values : {w : List ℕ} {c : ℕ} {e : code.Env} → EnvAt w c e → {h : ℕ} → e.values ≡ Some h → HandleAt w c tag_stored h
+env_values y q = handle_more (omega (arith, y.place)) (rw q at y.values)
+
+-- and stay so where the records below are kept
+pub values_kept : {w w' : List ℕ} {c c' d : ℕ} → Fixed c w w' → d ≤ c → d ≤ c' → (o : Option ℕ) → ValuesBelow w d o → ValuesBelow w' c' o
+values_kept k l l' (Some h) y = handle_fixed k l l' y
+values_kept k l l' None y = tt
+
+pub values_same : {w w' : List ℕ} {c d : ℕ} → Fixed c w w' → d ≤ c → (o : Option ℕ) → ValuesBelow w d o → map_o (values_at w') (found_of o) ≡ map_o (values_at w) (found_of o)
+values_same k l (Some h) y = ap some (values_fixed k h (omega (arith, y.low)))
+values_same k l None y = refl
 
 -- ---- how it goes together
 pub later_refl : {L : Limits} {w : List ℕ} {t : Counts} (young : ℕ) → JournalSound L w t → Later L young w t w t
@@ -81,14 +94,14 @@ module _ {L : Limits} {young : ℕ} {w w' : List ℕ} {t t' : Counts} (x : Later
         place = omega (arith, y.place, x.grew);
         tag = steady_tag s ∙ y.tag;
         number = steady_is s tag_scope y.tag 6 (omega arith) ∙ y.number;
-        values = handle_fixed x.kept (omega (arith, y.place)) (omega arith) y.values;
+        values = values_kept x.kept (omega (arith, y.place)) (omega arith) e.values y.values;
       }
 
   pub env_later : {e : code.Env} → EnvAt w t.charges e → env_of w' e ≡ env_of w e
   env_later {e} y =
       rw (
         scope_lasting.same e.place w w' (fixed_less (omega (arith, y.place)) x.kept),
-        values_fixed x.kept e.values (omega (arith, y.place, y.values.low)),
+        values_same x.kept (omega (arith, y.place)) e.values y.values,
       )
 
   -- the own lists of a scope older than what is new

@@ -2,29 +2,28 @@
 use mathlib.Core.Path.{◌≡◌, refl, sym, ap, ◌∙◌}
 use mathlib.Core.Bool.{Bool, true, false}
 use mathlib.Core.List.{List, []}
-use mathlib.Core.Option.{none, some}
+use mathlib.Core.Option.{none}
 use Prim.Native.Nat.{ℕ, ◌+◌, ◌-◌, ◌≤◌, ◌<◌}
 use native.Mathlib.Omega.{arith}
 use lib.ListN.{length}
-use Rattle.ast.specs.Choice.{choose}
+use Rattle.ast.specs.Choice.{map_o}
 use Rattle.expansion_definition.specs.State.{ok}
-use Rattle.expansion_definition.specs.Values.{Env}
 use Rattle.expansion_definition.specs.Charges.{one_more}
 use Rattle.expansion_definition.specs.Instances.{push_scope, open_scope}
 use Rattle.journal_records.specs.declared.Record.{Record}
-use Rattle.journal_records.specs.Records.{tag_extern, tag_node, tag_stored, tag_scope, tag_root, tag_route, cell, Pushed}
+use Rattle.journal_records.specs.Records.{tag_extern, tag_node, tag_scope, tag_root, tag_route, cell, Pushed}
 use Rattle.journal_records.specs.Made.{scope_record}
 use Rattle.journal_records.specs.Logs.{only}
 use Rattle.journal_lists.specs.Owned.{tagged, OwnedTag, owned_by, owned_log}
 use Rattle.journal_records.proofs.Lists.{count_low, count_more, up_span, up_zero, only_other}
+use Rattle.journal_index.specs.Index.{found_of}
 use Rattle.journal_index.proofs.Index.{index_push}
 use Rattle.journal_lists.proofs.Owned.{owned_scope, owned_is}
 use Rattle.journal_lists.proofs.Families.{families_one}
-use Rattle.journal_reading.specs.Reading.{fixed_word, scope_by, scope_rec, scopes_of, values_at, root_rec, body_route_rec, body_of, below}
-use Rattle.journal_reading.specs.WellFormed.{HandleAt, RecordWellFormed}
+use Rattle.journal_reading.specs.Reading.{scope_by, scope_rec, scopes_of, values_at, root_rec, body_route_rec, body_of, below}
+use Rattle.journal_reading.specs.WellFormed.{RecordWellFormed}
 use Rattle.journal_reading.proofs.Words.{kept_is}
-use Rattle.journal_reading.proofs.Chains.{values_fixed}
-use Rattle.journal_reading.proofs.Fair.{fair_plain, handle_fixed}
+use Rattle.journal_reading.proofs.Fair.{fair_plain}
 use Rattle.journal_reading.proofs.Logs.{below_fixed}
 use Rattle.journal_reading.proofs.Nodes.{calm_same}
 use Rattle.journal_reading.specs.RecordsStay.{RecordsStay, Unrecorded}
@@ -34,9 +33,10 @@ use Rattle.std.specs.declared.result.Result.TheVariants.{Err}
 use Rattle.refine_records.specs.declared.Refusal.TheVariants.{TooManyRows}
 use Rattle.refine_records.specs.declared.Counts.{Counts}
 use Rattle.refine_records.specs.declared.Env as code
-use Rattle.refine_records.specs.Sound.{Source, input_of, JournalSound, OfBody, Later, EnvAt, env_of}
+use Rattle.refine_records.specs.Sound.{Source, JournalSound, OfBody, Later, ValuesBelow, EnvAt, env_of}
 use Rattle.refine_records.specs.Does.{Answer, did, number, at}
 use Rattle.refine_records.specs.Contract.{OpenedAt, ScopeOpened}
+use Rattle.refine_records.proofs.Later.{values_kept, values_same}
 use Rattle.refine_records.proofs.Grow.{grown, sound_more, later_more, alone, count_other, count_new}
 use Rattle.refine_records.proofs.Charges.{change_refused, change_done}
 use Rattle.refine_records.proofs.Keeping.{not_of_body}
@@ -104,17 +104,17 @@ module _ {L : Limits} {w : List ℕ} {t : Counts} (so : JournalSound L w t) (kin
   }
 
 -- ---- the Env of the scope
-module _ {L : Limits} {young : ℕ} {w : List ℕ} {t : Counts} {kind document proto index opener : ℕ} {w' : List ℕ} {t' : Counts} {v p : ℕ} (x : OpenedAt w t kind document proto index opener w' t' v p) (so : JournalSound L w t) (y : Later L young w t w' t') (e : code.Env) (scope : e.scope ≡ v) (place : e.place ≡ p) (values : HandleAt w t.charges tag_stored e.values) where
+module _ {L : Limits} {young : ℕ} {w : List ℕ} {t : Counts} {kind document proto index opener : ℕ} {w' : List ℕ} {t' : Counts} {v p : ℕ} (x : OpenedAt w t kind document proto index opener w' t' v p) (so : JournalSound L w t) (y : Later L young w t w' t') (e : code.Env) (scope : e.scope ≡ v) (place : e.place ≡ p) (values : ValuesBelow w t.charges e.values) where
   pub open_env : EnvAt w' t'.charges e
   open_env = record {
     place = rw x.counts (omega (arith, x.place));
     tag = rw place x.tag;
     number = rw (place, scope) x.number;
-    values = rw (place, x.place) (handle_fixed y.kept (omega arith) (omega arith) values);
+    values = rw (place, x.place) (values_kept y.kept (omega arith) (omega arith) e.values values);
   }
 
-  pub env_open : env_of w' e ≡ record { scope = v; entry = scope_by kind document proto index opener; is_values = choose e.body (some (values_at w e.values)) none }
-  env_open = rw (scope, place, x.entry, values_fixed y.kept e.values values.low)
+  pub env_open : env_of w' e ≡ record { scope = v; entry = scope_by kind document proto index opener; is_values = map_o (values_at w) (found_of e.values) }
+  env_open = rw (scope, place, x.entry, values_same y.kept (omega arith) e.values values)
 
   -- the scopes before it are those before the step
   older : (r : ℕ) → r < t'.charges → below w' tag_scope r ≤ v

@@ -9,6 +9,10 @@ use Rattle.expansion_definition.specs.PlainCopy.{reserve, associate}
 use Rattle.expansion_definition.specs.Instances.{open_scope, add_entry}
 use Rattle.journal_records.specs.declared.Record.{Record}
 use Rattle.std.specs.declared.option.Option.TheVariants.{Some}
+use Rattle.std.specs.declared.result.Result.{Result}
+use Rattle.std.specs.declared.result.Result.TheVariants.{Ok, Err}
+use Rattle.refine_records.specs.declared.Refusal.{Refusal}
+use Rattle.refine_records.specs.declared.Refusal.TheVariants.{TooManyRows}
 use Rattle.journal_records.specs.Records.{tag_id, tag_order, tag_stored, tag_scope, tag_association, cell, Pushed}
 use Rattle.journal_records.specs.Made.{node_record}
 use Rattle.journal_index.specs.Index.{Newest, found_of}
@@ -24,6 +28,11 @@ use Rattle.refine_records.specs.Does.{Answer, nothing, number, IfDone, Does}
 -- n charges more
 abbrev pub charged : Counts → ℕ → Counts
 charged t n = record { nodes = t.nodes; scopes = t.scopes; externs = t.externs; charges = t.charges + n }
+
+-- where the next record goes, or that there are as many as there may be
+abbrev pub RoomFor : Limits → Counts → Result ℕ Refusal → Type 0
+RoomFor L t (Ok c) = (c ≡ t.charges) × (c < L.rows)
+RoomFor L t (Err x') = (x' ≡ TooManyRows) × (L.rows ≤ t.charges)
 
 -- ---- a record of a list of a node or a value
 pub record Keepable (w : List ℕ) (c : ℕ) (r : Record) : Type 0 where

@@ -1,13 +1,14 @@
 -- What holds of the journal between two steps, and from one step to a later one.
 use Rattle.std.specs.Prelude.{◌≡◌, ◌⊎◌, List, ℕ, ◌+◌, ◌*◌, ◌≤◌, ◌<◌, length, get_or}
-use Rattle.std.proofs.Math.Option.{none, some}
-use Rattle.ast.specs.Choice.{choose}
+use Rattle.std.specs.declared.option.Option.{Option}
+use Rattle.std.specs.declared.option.Option.TheVariants.{None, Some}
+use Rattle.ast.specs.Choice.{map_o}
 use Rattle.sheet_rows.specs.Rows.{rows}
 use Rattle.sheet_rows.specs.Parse.{document_of, files_of}
 use Rattle.expansion_definition.specs.Input.{Input}
 use Rattle.expansion_definition.specs.Values.{Env}
 use Rattle.journal_records.specs.Records.{tag_extern, tag_node, tag_stored, tag_scope, tag_root, tag_route, tag_instance, cell, Fixed}
-use Rattle.journal_index.specs.Index.{SlotsIndexed}
+use Rattle.journal_index.specs.Index.{found_of, SlotsIndexed}
 use Rattle.journal_lists.specs.Owned.{Owned}
 use Rattle.journal_lists.specs.Families.{Families}
 use Rattle.journal_reading.specs.Reading.{below, scope_rec, values_at}
@@ -71,12 +72,17 @@ pub record Later (L : Limits) (young : ℕ) (w : List ℕ) (t : Counts) (w' : Li
   pub fresh : (r : ℕ) → t.charges ≤ r → r < t'.charges → OfBody (cell w' r 0) → young ≤ cell w' r 1
   pub sound : JournalSound L w' t'
 
+-- the handle of an Env's values, if it has them, is of stored values below c
+abbrev pub ValuesBelow : List ℕ → ℕ → Option ℕ → Type 0
+ValuesBelow w c (Some h) = HandleAt w c tag_stored h
+ValuesBelow w c None = Unit {0}
+
 -- the code's Env is one of the definition: its scope's record, and in a body its values
 pub record EnvAt (w : List ℕ) (c : ℕ) (e : code.Env) : Type 0 where
   pub place : e.place < c
   pub tag : cell w e.place 0 ≡ tag_scope
   pub number : cell w e.place 6 ≡ e.scope
-  pub values : HandleAt w e.place tag_stored e.values
+  pub values : ValuesBelow w e.place e.values
 
 abbrev pub env_of : List ℕ → code.Env → Env
-env_of w e = record { scope = e.scope; entry = scope_rec w e.place; is_values = choose e.body (some (values_at w e.values)) none }
+env_of w e = record { scope = e.scope; entry = scope_rec w e.place; is_values = map_o (values_at w) (found_of e.values) }

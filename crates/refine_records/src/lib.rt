@@ -6,22 +6,37 @@ ghost use Rattle.journal_index.specs.Index.{Findable, found_of, newest};
 ghost use Rattle.refine_records.specs.Refusals.{refusal_number, PlacesOf};
 ghost use Rattle.refine_records.specs.Does.{number_given, done_given, scope_given};
 ghost use Rattle.refine_records.specs.Sound.{Standing};
-ghost use Rattle.refine_records.specs.Contract.{charged as counted, Keepable, RecordKept, Ownership, RecordOwned, ScopeOpened};
+ghost use Rattle.refine_records.specs.Contract.{charged as counted, RoomFor, Keepable, RecordKept, Ownership, RecordOwned, ScopeOpened};
 
 use ast::{NodeId, ProtoId};
+use journal_index::{Heads, Key};
 use journal_records;
 use journal_records::Record;
 
-// N, K, the heads of the journal's index; the index starts behind K records.
-#[derive(Clone, Copy)]
+// The most nodes and records of an expansion, and how many heads the journal's index has, which starts behind the records.
+#[derive(Clone, Copy, Debug, PartialEq, Eq)]
 pub struct Limits {
     pub nodes: usize,
     pub rows: usize,
     pub slots: usize,
 }
 
+impl Limits {
+    // The heads of the journal's index.
+    pub fn heads(self) -> Heads
+        requires { self.rows ≤ 16777216 }
+        ensures at { result.at ≡ self.rows * 12 }
+        ensures slots { result.slots ≡ self.slots }
+    {
+        Heads {
+            at: self.rows * 12,
+            slots: self.slots,
+        }
+    }
+}
+
 // How many of each there are so far. A record is a charge.
-#[derive(Clone, Copy)]
+#[derive(Clone, Copy, Debug, PartialEq, Eq)]
 pub struct Counts {
     pub nodes: u32,
     pub scopes: u32,
@@ -31,16 +46,17 @@ pub struct Counts {
 
 // The Rust's Env: the scope's number and the place of its record, its document's slot, and in a body the handle of the
 // instance's interface values.
-#[derive(Clone, Copy)]
+#[derive(Clone, Copy, Debug, PartialEq, Eq)]
 pub struct Env {
     pub scope: u32,
     pub place: usize,
     pub slot: u32,
-    pub body: bool,
-    pub values: u32,
+    pub values: Option<u32>,
 }
 
 // The journal of an expansion: its records in lent words, and how many of each there are.
+// Kept: the limits and the sources are parameters beside it: behind its `&mut` each contract would have to say that they stay.
+// `Standing` is no ghost field: it speaks of the limits, and fails between a record's words and its count.
 #[derive(Drop)]
 pub struct Journal<'w> {
     pub work: &'w mut [u32],
@@ -48,14 +64,14 @@ pub struct Journal<'w> {
 }
 
 // A scope that was opened: its number, and the place of its record.
-#[derive(Clone, Copy)]
+#[derive(Clone, Copy, Debug, PartialEq, Eq)]
 pub struct Opened {
     pub number: u32,
     pub place: usize,
 }
 
 // A node of the output, and the place of its record with one added.
-#[derive(Clone, Copy)]
+#[derive(Clone, Copy, Debug, PartialEq, Eq)]
 pub struct NodeCopy {
     pub id: NodeId,
     pub place: u32,
@@ -104,9 +120,9 @@ impl Refusal {
     {
         match self {
             Refusal::Malformed { sheet, row } => (sheet, row),
-            Refusal::DanglingExtern { document, id } => (document, id),
-            Refusal::DanglingNode { document, id } => (document, id),
-            Refusal::DanglingProto { document, id } => (document, id),
+            Refusal::DanglingExtern { document, id }
+            | Refusal::DanglingNode { document, id }
+            | Refusal::DanglingProto { document, id } => (document, id),
             Refusal::NoRoot { document, proto } => (document, proto),
             _ => (0, 0),
         }
@@ -119,10 +135,8 @@ pub fn charged(st: Counts, n: usize) -> Counts
     ensures { result ≡ counted st n }
 {
     Counts {
-        nodes: st.nodes,
-        scopes: st.scopes,
-        externs: st.externs,
         charges: st.charges + n,
+        ..st
     }
 }
 
@@ -131,7 +145,7 @@ impl Journal<'_> {
     pub fn lent(&self) -> &[u32]
         ensures { result.now ≡ self.now.work.now }
     {
-        self.work
+        &*self.work
     }
 
     // A word of a record.
@@ -150,13 +164,20 @@ impl Journal<'_> {
     {
         journal_index::find(
             self.work,
-            lim.rows * 12,
-            lim.slots,
+            lim.heads(),
             self.counts.charges,
-            tag,
-            x,
-            y,
+            Key { tag, x, y },
         )
+    }
+
+    // The place of the next record, if there may be one more.
+    pub fn room(&self, lim: Limits) -> Result<usize, Refusal>
+        ensures { RoomFor lim self.now.counts result }
+    {
+        if lim.rows <= self.counts.charges {
+            return Err(Refusal::TooManyRows);
+        }
+        Ok(self.counts.charges)
     }
 
     // A charge and its record; the record's handle.
@@ -165,12 +186,9 @@ impl Journal<'_> {
         requires keepable { Keepable self.old.work.now self.old.counts.charges r }
         ensures { RecordKept lim self.old.work.now self.old.counts r self.new.work.now (number_given self.new.counts result) }
     {
-        let c = self.counts.charges;
-        if lim.rows <= c {
-            return Err(Refusal::TooManyRows);
-        }
+        let c = self.room(lim)?;
         journal_records::push(self.work, c, r);
-        self.counts = charged(self.counts, 1);
+        self.counts.charges += 1;
         Ok((c + 1) as u32)
     }
 
@@ -180,16 +198,14 @@ impl Journal<'_> {
         requires ownership { Ownership self.old.work.now self.old.counts.charges env r }
         ensures { RecordOwned lim self.old.work.now self.old.counts env r self.new.work.now (done_given self.new.counts result) }
     {
-        let c = self.counts.charges;
-        if lim.rows <= c {
-            return Err(Refusal::TooManyRows);
-        }
+        let c = self.room(lim)?;
         journal_lists::append(self.work, env.place, c, r);
-        self.counts = charged(self.counts, 1);
+        self.counts.charges += 1;
         Ok(())
     }
 
     // A charge and a scope.
+    // Kept: the kind stays a number: a caller may pass any, and an enum would let it pass only three.
     pub fn open(
         &mut self,
         lim: Limits,
@@ -202,18 +218,15 @@ impl Journal<'_> {
         requires { Standing lim self.old.work.now self.old.counts }
         ensures { ScopeOpened lim self.old.work.now self.old.counts kind document proto.0 index opener self.new.work.now (scope_given self.new.counts result) }
     {
-        let c = self.counts.charges;
-        if lim.rows <= c {
-            return Err(Refusal::TooManyRows);
-        }
+        let c = self.room(lim)?;
         let n = self.counts.scopes;
         journal_records::push(
             self.work,
             c,
             Record::scope(kind, document, proto.0, index, opener, n),
         );
-        self.counts.scopes = n + 1;
-        self.counts.charges = c + 1;
+        self.counts.scopes += 1;
+        self.counts.charges += 1;
         Ok(Opened {
             number: n,
             place: c,

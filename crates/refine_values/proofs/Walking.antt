@@ -1,9 +1,9 @@
 -- `value_of` and `count`: the search of stored values, and a walk of ids.
 use mathlib.Core.Path.{◌≡◌, refl, sym, ap, ◌∙◌}
 use mathlib.Core.Bool.{Bool, true, false}
-use mathlib.Core.List.{List, [], ◌∷◌}
+use mathlib.Core.List.{List, []}
 use mathlib.Core.Option.{Option, none, some}
-use Prim.Native.Nat.{ℕ, zero, suc, ◌+◌, ◌*◌, ◌-◌, ◌<◌, ◌≤◌}
+use Prim.Native.Nat.{ℕ, zero, suc, ◌+◌, ◌-◌, ◌<◌, ◌≤◌}
 use native.Mathlib.Omega.{arith}
 use lib.ListN.{length}
 use lib.Dec.{eqb}
@@ -15,7 +15,9 @@ use Rattle.std.specs.Option.{is_some}
 use Rattle.std.specs.declared.option.Option.TheVariants.{None, Some}
 use Rattle.journal_records.specs.Records.{tag_id, tag_stored, cell}
 use Rattle.journal_records.specs.Logs.{newest_below, newest_of}
-use Rattle.journal_index.specs.Index.{Newest, hit, newest, found_of, Findable}
+use Rattle.journal_records.specs.Lists.{clip, HandleBelow, records_of}
+use Rattle.journal_records.proofs.Handles.{clip_in, records_none, records_next}
+use Rattle.journal_index.specs.Index.{Newest, hit, newest, found_of}
 use Rattle.journal_lists.specs.Owned.{owned_by, last_owned}
 use Rattle.journal_lists.specs.Families.{First, Families}
 use Rattle.journal_index.proofs.Keys.{hit_is}
@@ -27,7 +29,7 @@ use Rattle.journal_reading.proofs.Fair.{handle_more}
 use Rattle.journal_reading.proofs.Walks.{walkable, walk_less, walk_next, walk_word, walk_back, walk_end, rev_length}
 use Rattle.refine_records.specs.declared.Limits.{Limits}
 use Rattle.refine_records.specs.declared.Counts.{Counts}
-use Rattle.refine_records.specs.Sound.{heads_at, Standing}
+use Rattle.refine_records.specs.Sound.{Standing}
 use Rattle.refine_records.specs.Contract.{ValueFound}
 
 -- ---- the stored value of a name: it is that of the list from here on
@@ -35,9 +37,6 @@ pub record Searching (w : List ℕ) (c h name cur : ℕ) : Type 0 where
   pub handle : HandleAt w c tag_stored cur
   pub low : cur ≤ h
   pub same : value_named name (values_at w h) ≡ value_named name (values_at w cur)
-
-pub search_start : (w : List ℕ) (c h name : ℕ) → HandleAt w c tag_stored h → (cur : ℕ) → cur ≡ h → Searching w c h name cur
-search_start w c h name x cur e = rw e (record { handle = x; low = omega arith; same = refl })
 
 module _ {L : Limits} {w : List ℕ} {t : Counts} (st : Standing L w t) where
   abbrev c : ℕ
@@ -108,9 +107,6 @@ module _ {L : Limits} {w : List ℕ} {t : Counts} (st : Standing L w t) where
         never : (r : ℕ) → None ≡ Some r → ⊥
         never r e = let z : ◌≡◌ {A = ℕ} 0 1 = cc in omega arith
 
-    pub search_room : 0 < cur → (cur - 1) * 12 + 12 ≤ length w
-    search_room lt = omega (arith, s.handle.low, st.sound.charges, st.ready.room)
-
     module _ (lt : 0 < cur) where
       is : cell w (cur - 1) 0 ≡ tag_stored
       is = s.handle.tag lt
@@ -126,19 +122,20 @@ module _ {L : Limits} {w : List ℕ} {t : Counts} (st : Standing L w t) where
       on next l x q = record { handle = x; low = omega (arith, s.low); same = s.same ∙ q }
 
       -- one by one
-      module _ (x : ℕ) (ex : x ≡ cell w (cur - 1) 2) where
-        pub search_here : x ≡ name → ValueFound w h name (Some (cur - 1))
-        search_here e = found (cur - 1) (omega arith) is (one name cur lt s.handle ∙ rw (← ex, eq-eqb x name e))
+      module _ {r : ℕ} (er : cur ≡ r + 1) (x : ℕ) (ex : x ≡ cell w r 2) where
+        place : cur - 1 ≡ r
+        place = omega arith
 
-        pub search_next : (next : ℕ) → next ≡ cell w (cur - 1) 8 → (x ≡ name → ⊥) → Searching w t.charges h name next
-        search_next next en ne =
-            let b = before (cur - 1) (omega (arith, s.handle.low)) is in
-            rw en (on (cell w (cur - 1) 8) (omega (arith, b.low)) (handle_more (omega (arith, s.handle.low)) b) (one name cur lt s.handle ∙ rw (← ex, ne_eqb x name ne)))
+        pub search_here : x ≡ name → ValueFound w h name (Some r)
+        search_here e = rw place at (found (cur - 1) (omega arith) is (one name cur lt s.handle ∙ rw (place, ← ex, eq-eqb x name e)))
+
+        pub search_next : (x ≡ name → ⊥) → {next : ℕ} → HandleBelow (clip r (cell w r 8)) r next → Searching w t.charges h name next
+        search_next ne {next} n =
+            let b : HandleAt w r tag_stored (cell w r 8) = rw place at (before (cur - 1) (omega (arith, s.handle.low)) is) in
+            let z : next ≡ cell w r 8 = n.same ∙ clip_in r (cell w r 8) b.low in
+            rw z (on (cell w r 8) (omega (arith, b.low)) (handle_more (omega (arith, s.handle.low)) b) (one name cur lt s.handle ∙ rw (place, ← ex, ne_eqb x name ne)))
 
       -- by families
-      pub search_findable : Findable w (heads_at L) L.slots t.charges tag_stored
-      search_findable = record { room = record { records = omega (arith, st.sound.charges); heads = st.ready.room; narrow = omega (arith, st.ready.rows, st.sound.charges) }; index = st.sound.index; key = refl }
-
       module _ (f : ℕ) (ef : f ≡ cell w (cur - 1) 1) where
         at_place : cur - 1 < t.charges
         at_place = omega (arith, s.handle.low)
@@ -148,9 +145,6 @@ module _ {L : Limits} {w : List ℕ} {t : Counts} (st : Standing L w t) where
 
         start : First w f
         start = rw ef (st.sound.families.first (cur - 1) at_place is)
-
-        pub search_first : (g : ℕ) → g ≡ f → g * 12 + 12 ≤ length w
-        search_first g eg = omega (arith, low, s.handle.low, st.sound.charges, st.ready.room)
 
         split : value_named name (values_at w cur) ≡ at name f cur
         split =
@@ -176,37 +170,19 @@ module _ {L : Limits} {w : List ℕ} {t : Counts} (st : Standing L w t) where
           search_past None q e = rw (en, eg) (on (cell w f 8) (omega (arith, b.low, low)) (handle_more (omega (arith, low, s.handle.low)) b) (split ∙ rw (← q)))
           search_past (Some r) q e = absurd (let z : true ≡ false = e in let y : ◌≡◌ {A = ℕ} 0 1 = cc in omega arith)
 
--- ---- how many ids: those that are counted, and those of the list from here on
-pub record Counting (w : List ℕ) (h n cur : ℕ) : Type 0 where
-  pub walk : Walkable w tag_id cur
-  pub low : n + cur ≤ h
-  pub same : n + length (ids_at w cur) ≡ length (ids_at w h)
+-- ---- how many ids: as many as the records of the list
+list_length : (w : List ℕ) (n h : ℕ) → h ≤ n → Walkable w tag_id h → length (records_of w h) ≡ length (back (λ r. fixed_word w r 1) w h h)
+list_length w n zero le x = rw (records_none w {h = 0} refl, walk_end w (λ r. fixed_word w r 1) 0 (omega arith))
+list_length w zero (suc r) le x = absurd (omega arith)
+list_length w (suc n) (suc r) le x =
+    let some : 0 < suc r = omega arith in
+    let v : ℕ = cell w (suc r - 1) 8 in
+    let l : v < suc r = walk_less x some in
+    let z : suc r ≡ (suc r - 1) + 1 = omega arith in
+    let b : HandleBelow (clip (suc r - 1) v) (suc r - 1) v = record { same = sym (clip_in (suc r - 1) v (omega arith)); low = omega arith } in
+    let i : length (records_of w v) ≡ length (back (λ k. fixed_word w k 1) w v v) = list_length w n v (omega arith) (walk_next x some) in
+    rw (records_next w z b, walk_back x some (λ k. fixed_word w k 1) refl) (omega (arith, i))
 
-pub count_start : (w : List ℕ) (h : ℕ) → Walkable w tag_id h → (cur : ℕ) → cur ≡ h → Counting w h 0 cur
-count_start w h x cur e = rw e (record { walk = x; low = omega arith; same = omega arith })
-
-module _ {w : List ℕ} {h n cur : ℕ} (s : Counting w h n cur) where
-  pub count_end : cur ≤ 0 → n ≡ length (ids_at w h)
-  unfolding ids_at
-  count_end l =
-      let z : length (back (λ r. fixed_word w r 1) w cur cur) ≡ 0 = rw (walk_end w (λ r. fixed_word w r 1) cur l) in
-      omega (arith, s.same, rev_length (back (λ r. fixed_word w r 1) w cur cur) [])
-
-  module _ (some : 0 < cur) (next : ℕ) (en : next ≡ cell w (cur - 1) 8) where
-    pub count_less : next < cur
-    count_less = omega (arith, walk_less s.walk some)
-
-    pub count_next : Counting w h (n + 1) next
-    unfolding ids_at
-    count_next = rw en (record {
-      walk = walk_next s.walk some;
-      low = omega (arith, s.low, walk_less s.walk some);
-      same =
-          omega (
-            arith,
-            s.same,
-            rev_length (back (λ r. fixed_word w r 1) w cur cur) [],
-            rev_length (back (λ r. fixed_word w r 1) w (cell w (cur - 1) 8) (cell w (cur - 1) 8)) [],
-            ap length (walk_back s.walk some (λ r. fixed_word w r 1) refl),
-          );
-    })
+pub count_law : (w : List ℕ) (h : ℕ) → Walkable w tag_id h → length (records_of w h) ≡ length (ids_at w h)
+unfolding ids_at
+count_law w h x = list_length w h h (omega arith) x ∙ omega (arith, rev_length (back (λ r. fixed_word w r 1) w h h) [])

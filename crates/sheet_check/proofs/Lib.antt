@@ -1,2 +1,1 @@
-pub mod RoleLaws
 pub mod RunLaws

@@ -1,21 +1,19 @@
 -- One step of the check, at a place of the sheet.
-use mathlib.Core.Path.{◌≡◌, refl, sym, ap, ◌∙◌}
-use mathlib.Core.List.{List, [], ◌∷◌}
+use mathlib.Core.Path.{◌≡◌, sym, ap, ◌∙◌}
+use mathlib.Core.List.{List}
 use Rattle.sheet_check.specs.declared.grammar.Form.{Form}
-use Rattle.sheet_check.specs.declared.grammar.UnknownForm.{UnknownForm}
-use Prim.Native.Nat.{ℕ, zero, suc, ◌+◌, ◌≤◌, ◌<◌}
+use Prim.Native.Nat.{ℕ, suc, ◌+◌, ◌≤◌, ◌<◌}
 use native.Mathlib.Numerals.{add-one}
-use native.Mathlib.Omega.{arith}
-use lib.ListN.{length, get_or, drop, drop_of_length-le, get_or-eq_default}
+use lib.ListN.{length, get_or, drop, drop_of_length-le}
 use lib.Seq.{drop-cons}
 use Rattle.sheet_rows.specs.declared.row.Row.{Row}
 use Rattle.sheet_check.specs.declared.grammar.State.{State}
-use Rattle.std.specs.Prelude.{Option, Some, None, Ok, Err, ok_or}
+use Rattle.std.specs.Prelude.{Option, Some, None, Err, ok_or}
 use Rattle.sheet_check.specs.declared.BadRow.{BadRow}
-use Rattle.sheet_check.specs.Checked.{Checked, Fits, Bad}
+use Rattle.sheet_check.specs.Checked.{Fits, Bad}
 use Rattle.sheet_rows.specs.Rows.{blank}
 use Rattle.ast.specs.Choice.{choose}
-use Rattle.sheet_check.specs.Grammar.{run, go_on, fits, has_ended, form_of, checked_words, checked_numbered}
+use Rattle.sheet_check.specs.Grammar.{run, go_on, fits, has_ended}
 
 module _ (form : Form) (s : State) (R : List Row) (n : ℕ) where
   run_at : n < length R → run form s n (drop n R) ≡ go_on (fits form s (get_or R n blank)) (λ t. run form t (suc n) (drop (suc n) R)) n
@@ -39,23 +37,3 @@ bad_row {n} {b} h e =
     let k = rw h at e in
     let z : ◌≡◌ {A = BadRow} b (record { 0 = n }) = cc in
     ap Err z
-
--- the check by a number is that of its form
-pub numbered_form : (n : ℕ) (sheet : List ℕ) (form : Form) → Ok form ≡ form_of n → checked_words form sheet ≡ checked_numbered n sheet
-unfolding checked_numbered form_of
-numbered_form zero sheet form e = ap (λ (f : Form). checked_words f sheet) (cc)
-numbered_form (suc zero) sheet form e = ap (λ (f : Form). checked_words f sheet) (cc)
-numbered_form (suc (suc zero)) sheet form e = ap (λ (f : Form). checked_words f sheet) (cc)
-numbered_form (suc (suc (suc zero))) sheet form e = ap (λ (f : Form). checked_words f sheet) (cc)
-numbered_form (suc (suc (suc (suc zero)))) sheet form e = ap (λ (f : Form). checked_words f sheet) (cc)
-numbered_form (suc (suc (suc (suc (suc n))))) sheet form e = cc
-
--- and no row fits where it has none
-pub numbered_none : (n : ℕ) (sheet : List ℕ) (u : UnknownForm) → Err u ≡ form_of n → Bad 0 ≡ checked_numbered n sheet
-unfolding checked_numbered form_of
-numbered_none zero sheet u e = cc
-numbered_none (suc zero) sheet u e = cc
-numbered_none (suc (suc zero)) sheet u e = cc
-numbered_none (suc (suc (suc zero))) sheet u e = cc
-numbered_none (suc (suc (suc (suc zero)))) sheet u e = cc
-numbered_none (suc (suc (suc (suc (suc n))))) sheet u e = refl

@@ -2,7 +2,16 @@
 ghost use Rattle.std.specs.Prelude.{◌≡◌};
 ghost use Rattle.sheet_check.specs.Grammar.{form_of, is_library, takes_marks, begins_in, ends_in, starts_in, stays_expanded, allowed, role_of, opened_part, stands_in, comes_in, after_inner, by_role, moves, fits, has_ended, start};
 
+use sheet_rows::codes::{class, kind, origin, statement};
 use sheet_rows::row::{NONE, Row};
+
+// The parts that no kind of row opens: before a document, after its row and before the first of protos, before the first of
+// files or documents.
+const BEFORE: u32 = 0;
+
+const BEGUN: u32 = 1;
+
+const OUTSIDE: u32 = 12;
 
 // What a sheet is to be: a root sheet; a library; an expanded document, which is a root sheet without prototypes; expanded
 // documents one after another; protos without body statements.
@@ -49,8 +58,8 @@ impl Form {
         ensures { result ≡ begins_in self part }
     {
         match self {
-            Form::Documents => 11 <= part,
-            _ => part == 0,
+            Form::Documents => kind::TOP <= part,
+            _ => part == BEFORE,
         }
     }
 
@@ -60,7 +69,7 @@ impl Form {
     {
         match self {
             Form::Protos => true,
-            _ => 11 <= part,
+            _ => kind::TOP <= part,
         }
     }
 
@@ -69,9 +78,9 @@ impl Form {
         ensures { result ≡ starts_in self }
     {
         match self {
-            Form::Root | Form::Expanded => 0,
-            Form::Library | Form::Documents => 12,
-            Form::Protos => 1,
+            Form::Root | Form::Expanded => BEFORE,
+            Form::Library | Form::Documents => OUTSIDE,
+            Form::Protos => BEGUN,
         }
     }
 
@@ -88,14 +97,16 @@ impl Form {
         match self {
             Form::Root | Form::Library => true,
             Form::Expanded | Form::Documents => stays_expanded(s, r),
-            Form::Protos => (r.kind == 7) | (r.kind == 4) | (r.kind == 9),
+            Form::Protos => (r.kind == kind::PROTO)
+                | (r.kind == kind::INTERFACE)
+                | (r.kind == kind::ID),
         }
     }
 }
 
 // What a row does, by its kind: it starts a document; it opens a node, a proto, an extern or the top; it stands inside one
 // of these; it starts a file; it comes only where a row before it counted it; it fits nowhere.
-#[derive(Clone, Copy)]
+#[derive(Clone, Copy, Debug, PartialEq, Eq)]
 pub enum Role {
     Starts,
     Opens,
@@ -105,24 +116,25 @@ pub enum Role {
     Never,
 }
 
-fn role_of(kind: u32) -> Role
-    ensures { result ≡ role_of kind }
+#[tactic(auto, unfolding(crate::specs::Grammar::role_of))]
+fn role_of(k: u32) -> Role
+    ensures { result ≡ role_of k }
 {
-    match kind {
-        1 => Role::Starts,
-        2 | 7 | 8 | 11 => Role::Opens,
-        3..=6 | 10 | 13 => Role::Inner,
-        9 | 14 => Role::Owed,
-        12 => Role::Files,
+    match k {
+        kind::DOCUMENT => Role::Starts,
+        kind::NODE | kind::PROTO | kind::EXTERN_PROTO | kind::TOP => Role::Opens,
+        kind::FIELD..=kind::ORDER | kind::URL | kind::INSTANCE => Role::Inner,
+        kind::ID | kind::ASSOCIATION => Role::Owed,
+        kind::FILE => Role::Files,
         _ => Role::Never,
     }
 }
 
-// Where the check stands. part: 0 before a document, 1 after its row and before the first of protos, 2 in a node, 7 in a
-// proto, 8 in an extern, 11 in the top, 12 before the first of files or documents. last: the kind of the part's last row but
-// those owed, or 0. ids, routes, associations: how many such rows are owed, in this order.
-// Kept: parts are numbers, as kinds of rows are; a part is compared with the kind that opens the next.
-#[derive(Clone, Copy)]
+// Where the check stands. part: the kind of the row that opened a node, a proto, an extern or the top, or one of the three
+// numbers above. last: the kind of the part's last row but those owed, or 0. ids, routes, associations: how many such rows
+// are owed, in this order.
+// Kept: a part is a number and no enum's; it is the kind that opens it, and is compared with the kind that opens the next.
+#[derive(Clone, Copy, Debug, PartialEq, Eq)]
 pub struct State {
     pub part: u32,
     pub last: u32,
@@ -149,16 +161,17 @@ impl State {
 fn stands_in(part: u32, r: Row) -> bool
     ensures { result ≡ stands_in part r }
 {
-    (part == 2) & ((r.kind < 7) | (r.kind == 13))
-        | (part == 7) & ((r.kind == 4) | (r.kind == 5))
-        | (part == 8) & ((r.kind == 4) & (r.f == 0) | (r.kind == 10))
-        | (part == 11) & (r.kind == 5)
+    (part == kind::NODE) & ((r.kind < kind::PROTO) | (r.kind == kind::INSTANCE))
+        | (part == kind::PROTO) & ((r.kind == kind::INTERFACE) | (r.kind == kind::STATEMENT))
+        | (part == kind::EXTERN_PROTO)
+            & ((r.kind == kind::INTERFACE) & (r.f == class::NONE) | (r.kind == kind::URL))
+        | (part == kind::TOP) & (r.kind == kind::STATEMENT)
 }
 
 fn comes_in(s: State, r: Row) -> bool
     ensures { result ≡ comes_in s r }
 {
-    stands_in(s.part, r) & (s.last <= r.kind) & (s.last < 13)
+    stands_in(s.part, r) & (s.last <= r.kind) & (s.last < kind::INSTANCE)
 }
 
 // The state after a row inside a part: an instance owes what its row counts, a value of class 2 its ids.
@@ -169,14 +182,14 @@ fn after_inner(s: State, r: Row) -> State
         last: r.kind,
         ..State::opened(s.part)
     };
-    if r.kind == 13 {
+    if r.kind == kind::INSTANCE {
         State {
             ids: r.b,
             routes: r.c,
             associations: r.d,
             ..after
         }
-    } else if (r.kind < 5) & (r.f == 2) {
+    } else if (r.kind < kind::STATEMENT) & (r.f == class::NODES) {
         State { ids: r.g, ..after }
     } else {
         after
@@ -184,19 +197,21 @@ fn after_inner(s: State, r: Row) -> State
 }
 
 // A row when nothing is owed.
+// Kept: form, state and row as parameters here and below. The form stays, the state changes with each row, and no two of them
+// are one thing.
 fn by_role(form: Form, s: State, r: Row) -> Option<State>
     ensures { result ≡ by_role form s r (role_of r.kind) }
 {
     match role_of(r.kind) {
-        Role::Starts => form.begins_in(s.part).then_some(State::opened(1)),
+        Role::Starts => form.begins_in(s.part).then_some(State::opened(BEGUN)),
         Role::Opens => {
-            let opens = (1 <= s.part) & (s.part <= r.kind) & (s.part < 11);
+            let opens = (BEGUN <= s.part) & (s.part <= r.kind) & (s.part < kind::TOP);
             opens.then_some(State::opened(r.kind))
         }
         Role::Inner => comes_in(s, r).then_some(after_inner(s, r)),
         Role::Files => {
-            let ends = form.is_library() & (11 <= s.part);
-            ends.then_some(State::opened(0))
+            let ends = form.is_library() & (kind::TOP <= s.part);
+            ends.then_some(State::opened(BEFORE))
         }
         Role::Owed | Role::Never => None,
     }
@@ -208,17 +223,17 @@ fn moves(form: Form, s: State, r: Row) -> Option<State>
     ensures { result ≡ moves form s r }
 {
     if 0 < s.ids {
-        (r.kind == 9).then_some(State {
+        (r.kind == kind::ID).then_some(State {
             ids: s.ids - 1,
             ..s
         })
     } else if 0 < s.routes {
-        ((r.kind == 5) & (r.a == 3)).then_some(State {
+        ((r.kind == kind::STATEMENT) & (r.a == statement::ROUTE)).then_some(State {
             routes: s.routes - 1,
             ..s
         })
     } else if 0 < s.associations {
-        (r.kind == 14).then_some(State {
+        (r.kind == kind::ASSOCIATION).then_some(State {
             associations: s.associations - 1,
             ..s
         })
@@ -232,10 +247,15 @@ fn moves(form: Form, s: State, r: Row) -> Option<State>
 fn stays_expanded(s: State, r: Row) -> bool
     ensures { result ≡ stays_expanded s r }
 {
-    let prototype = (r.kind == 7) | (r.kind == 2) & (r.c == 1) | (r.kind == 5) & (r.a == 1);
-    let statement = (r.kind == 5) & (s.part == 2) & ((r.a == 0) | (r.a == 4));
-    let is_and_value = (r.kind == 4) & (r.d != NONE) & (0 < r.f);
-    !(prototype | statement | is_and_value)
+    let is_statement = r.kind == kind::STATEMENT;
+    let prototype = (r.kind == kind::PROTO)
+        | (r.kind == kind::NODE) & (r.c == origin::PROTO)
+        | is_statement & (r.a == statement::PROTO);
+    let in_node = is_statement
+        & (s.part == kind::NODE)
+        & ((r.a == statement::NODE) | (r.a == statement::OTHER));
+    let is_and_value = (r.kind == kind::INTERFACE) & (r.d != NONE) & (class::NONE < r.f);
+    !(prototype | in_node | is_and_value)
 }
 
 // The state after a row, where the row fits.

@@ -55,6 +55,7 @@ fn check_words(sheet: &[u32], form: Form) -> Result<(), BadRow>
 }
 
 // The same by the number of a form; no row fits a form of another number.
+#[tactic(auto, unfolding(crate::specs::Grammar::checked_numbered, crate::specs::Grammar::form_of))]
 pub fn check_numbered(sheet: &[u32], form: u32) -> Result<(), BadRow>
     ensures { result ≡ checked_numbered form sheet.now }
 {

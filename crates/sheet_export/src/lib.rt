@@ -1,5 +1,6 @@
 #![tactic(auto)]
 // The check of a sheet as C calls it: the answer in lent words.
+// Kept: 1 and 0 for what fits and what doesn't: C reads them.
 ghost use Rattle.std.specs.Prelude.{◌≡◌};
 ghost use Rattle.sheet_export.specs.Exports.{check_c};
 

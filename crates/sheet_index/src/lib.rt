@@ -1,5 +1,6 @@
 #![tactic(auto)]
 // An index of a part: a table of rows in lent words, so that a lookup walks at most from one slot to the next.
+// Kept: in `index` what is indexed stands beside the slots: a `PartIndex` holds filled slots only.
 ghost use Rattle.std.specs.Prelude.{◌*◌, ◌<◌, ◌≤◌, length};
 ghost use Rattle.sheet_rows.specs.Rows.{rows};
 ghost use Rattle.sheet_walks.specs.Walk.{Nth};
@@ -44,16 +45,11 @@ pub fn index(sheet: &[u32], part: Part, from: usize, stride: u32, slots: &mut [u
 
 impl PartIndex<'_> {
     // The last slot whose element is not after the n-th.
-    fn slot_of(&self, n: u32) -> u32
+    fn slot_of(&self, n: u32) -> usize
         requires { (0 < self.now.stride) × (0 < length self.now.slots.now) }
-        ensures { (result < length self.now.slots.now) × (result * self.now.stride ≤ n) }
+        ensures { (result < length self.now.slots.now) × (result * self.now.stride ≤ n) × (result ≤ n) }
     {
-        let j = n / self.stride;
-        if (j as usize) < self.slots.len() {
-            j
-        } else {
-            (self.slots.len() - 1) as u32
-        }
+        ((n / self.stride) as usize).min(self.slots.len() - 1)
     }
 
     // The n-th element, from the last slot before it.
@@ -64,8 +60,8 @@ impl PartIndex<'_> {
             return walk::nth(self.sheet, self.part, self.from, n);
         }
         let j = self.slot_of(n);
-        let left = n - j * self.stride;
-        walk::nth(self.sheet, self.part, self.slots[j as usize] as usize, left)
+        let left = n - j as u32 * self.stride;
+        walk::nth(self.sheet, self.part, self.slots[j] as usize, left)
     }
 
     // The n-th element, by an index of any size. An index of every element answers without a walk.

@@ -72,5 +72,5 @@ module _ {A : Type 0} (f : List Row → A) (g : Document → List A) (root libra
       record { is = rw z; below = tt }
 
 -- a lookup among what is read at the elements of a part
-pub looked : {A : Type 0} (f : List Row → A) (t : Part) (R : List Row) (p n : ℕ) (x : Found) → Child t R p n x → Looked f (map f (elements t (rest (drop p R)))) R n x
-looked f t R p n x s = record { is = at_map f (elements t (rest (drop p R))) n ∙ ap (map_o f) s.is; below = s.below }
+pub looked : {A : Type 0} (f : List Row → A) (t : Part) (R : List Row) (p n : ℕ) {x : Found} {l : List A} → l ≡ map f (elements t (rest (drop p R))) → Child t R p n x → Looked f l R n x
+looked f t R p n e s = rw e (record { is = at_map f (elements t (rest (drop p R))) n ∙ ap (map_o f) s.is; below = s.below })

@@ -1,13 +1,14 @@
 -- Lookups by id, as Document::node, proto and extern_proto: the row where that one stands, or nothing.
-use Rattle.std.specs.Prelude.{◌≡◌, List, ℕ, drop, eqb}
+use Rattle.std.specs.Prelude.{◌≡◌, refl, List, ℕ, map, drop, eqb}
 use Rattle.std.proofs.Math.Option.{Option}
 use Rattle.std.proofs.Math.ListN.{get_elem?}
 use Rattle.ast.specs.Ast.{Document}
 use Rattle.ast.specs.Choice.{choose, map_o}
 use Rattle.ast.specs.Lookups.{documents}
 use Rattle.sheet_rows.specs.declared.row.Row.{Row}
-use Rattle.sheet_rows.specs.Rows.{rows}
-use Rattle.sheet_rows.specs.Parse.{document_of, files_of}
+use Rattle.sheet_rows.specs.declared.part.Part.TheVariants.{Nodes, Protos, Externs}
+use Rattle.sheet_rows.specs.Rows.{rows, rest}
+use Rattle.sheet_rows.specs.Parse.{elements, node_of, proto_of, extern_proto_of, document_of, files_of}
 use Rattle.sheet_walks.specs.declared.walk.Found.{Found}
 use Rattle.sheet_walks.specs.Walk.{rows_at, Below}
 
@@ -21,6 +22,19 @@ root_and_files root library = documents (document_of (rows root)) (files_of (row
 
 abbrev pub document_at : List Row → ℕ → Document
 document_at R p = document_of (drop p R)
+
+-- what each group of ids numbers is read at the elements of a part
+pub nodes_at : (R : List Row) (p : ℕ) → (document_at R p).nodes ≡ map node_of (elements Nodes (rest (drop p R)))
+unfolding document_of
+nodes_at R p = refl
+
+pub protos_at : (R : List Row) (p : ℕ) → (document_at R p).protos ≡ map proto_of (elements Protos (rest (drop p R)))
+unfolding document_of
+protos_at R p = refl
+
+pub externs_at : (R : List Row) (p : ℕ) → (document_at R p).extern_protos ≡ map extern_proto_of (elements Externs (rest (drop p R)))
+unfolding document_of
+externs_at R p = refl
 
 -- x is where a document begins in the sheet that its number selects, whatever the root sheet is
 abbrev pub Begins : List ℕ → ℕ → Found → Type 0

@@ -1,9 +1,12 @@
-// Lookups by id in document 0 or in the n-th file. Node, prototype and extern ids are three numberings kept apart.
+// Lookups by id in document 0 or in the n-th file.
 ghost use Rattle.sheet_rows.specs.Rows.{rows};
 ghost use Rattle.sheet_rows.specs.Parse.{node_of, proto_of, extern_proto_of};
 ghost use Rattle.sheet_lookup.specs.Lookup.{Begins, document_at, root_and_files, sheet_of, Looked, Located};
+ghost use Rattle.std.proofs.Math.ListN.{get_elem?};
+ghost use Rattle.ast.specs.Choice.{and_then};
 ghost use Rattle.ast.specs.Lookups.{node_at, proto_at, extern_proto_at};
 
+use super::numbered::Numbered;
 use super::rows;
 use ast::{ExternProtoId, NodeId, ProtoId};
 use sheet_rows::part::Part;
@@ -23,51 +26,42 @@ pub fn document(library: &[u32], doc: u32) -> Found
     Found::At(q + 1)
 }
 
-// Of the document that begins at a row.
-pub fn node_row(sheet: &[u32], document: usize, id: NodeId) -> Found
-    ensures { Looked node_of (document_at (rows sheet.now) document).nodes (rows sheet.now) id.0 result }
+// The row of an id's element, of the document that begins at a row.
+pub fn row_of<I: Numbered>(sheet: &[u32], document: usize, id: I) -> Found
+    ensures { Looked I.read (I.all (document_at (rows sheet.now) document)) (rows sheet.now) (I.index id) result }
 {
-    walk::child(sheet, Part::Nodes, document, id.0)
+    walk::child(sheet, I::PART, document, id.number())
 }
 
-pub fn proto_row(sheet: &[u32], document: usize, id: ProtoId) -> Found
-    ensures { Looked proto_of (document_at (rows sheet.now) document).protos (rows sheet.now) id.0 result }
+// The same, of a document by its number.
+// Kept: the two sheets and the number side by side. A struct of the three would be made at each call, for `select` to take apart.
+pub fn find<'a, I: Numbered>(root: &'a [u32], library: &'a [u32], doc: u32, id: I) -> Found
+    ensures { Located I.read (and_then (get_elem? (root_and_files root.now library.now) doc) (λ d. get_elem? (I.all d) (I.index id))) (rows (sheet_of root.now library.now doc)) result }
 {
-    walk::child(sheet, Part::Protos, document, id.0)
+    let Found::At(at) = document(library, doc) else {
+        return Found::Nothing;
+    };
+    row_of(rows::select(root, library, doc), at, id)
 }
 
-pub fn extern_row(sheet: &[u32], document: usize, id: ExternProtoId) -> Found
-    ensures { Looked extern_proto_of (document_at (rows sheet.now) document).extern_protos (rows sheet.now) id.0 result }
-{
-    walk::child(sheet, Part::Externs, document, id.0)
-}
-
-// Document::node, of a document by its number.
+// Kept: three names, a line each. Document 01 has Document::node, proto and extern_proto.
+#[tactic(auto, unfolding(ast::specs::Lookups::node_at))]
 pub fn node<'a>(root: &'a [u32], library: &'a [u32], doc: u32, id: NodeId) -> Found
     ensures { Located node_of (node_at (root_and_files root.now library.now) doc id.0) (rows (sheet_of root.now library.now doc)) result }
 {
-    let Found::At(at) = document(library, doc) else {
-        return Found::Nothing;
-    };
-    node_row(rows::select(root, library, doc), at, id)
+    find::<NodeId>(root, library, doc, id)
 }
 
-// Document::proto, of a document by its number.
+#[tactic(auto, unfolding(ast::specs::Lookups::proto_at))]
 pub fn proto<'a>(root: &'a [u32], library: &'a [u32], doc: u32, id: ProtoId) -> Found
     ensures { Located proto_of (proto_at (root_and_files root.now library.now) doc id.0) (rows (sheet_of root.now library.now doc)) result }
 {
-    let Found::At(at) = document(library, doc) else {
-        return Found::Nothing;
-    };
-    proto_row(rows::select(root, library, doc), at, id)
+    find::<ProtoId>(root, library, doc, id)
 }
 
-// Document::extern_proto, of a document by its number.
+#[tactic(auto, unfolding(ast::specs::Lookups::extern_proto_at))]
 pub fn extern_proto<'a>(root: &'a [u32], library: &'a [u32], doc: u32, id: ExternProtoId) -> Found
     ensures { Located extern_proto_of (extern_proto_at (root_and_files root.now library.now) doc id.0) (rows (sheet_of root.now library.now doc)) result }
 {
-    let Found::At(at) = document(library, doc) else {
-        return Found::Nothing;
-    };
-    extern_row(rows::select(root, library, doc), at, id)
+    find::<ExternProtoId>(root, library, doc, id)
 }

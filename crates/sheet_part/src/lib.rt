@@ -1,5 +1,6 @@
 #![tactic(auto)]
 // A part of one of two sheets, and the rows of a prototype as such a part.
+// Kept: both sheets and a document's number as parameters: the callers lend the sheets as two, and select by many numbers.
 ghost use Rattle.std.specs.Prelude.{◌≡◌, ◌<◌, length};
 ghost use Rattle.ast.specs.Lookups.{proto_at};
 ghost use Rattle.sheet_rows.specs.Rows.{rows};
@@ -22,11 +23,7 @@ pub fn rows_of<'a>(
 ) -> &'a [u32]
     ensures { result.now ≡ part_of (sheet_of root.now library.now doc) from to }
 {
-    if doc == 0 {
-        rows_between(root, from, to)
-    } else {
-        rows_between(library, from, to)
-    }
+    rows_between(rows::select(root, library, doc), from, to)
 }
 
 fn rows_between(sheet: &[u32], from: usize, to: usize) -> &[u32]

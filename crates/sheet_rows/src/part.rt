@@ -2,8 +2,10 @@
 ghost use Rattle.std.specs.Prelude.{◌≡◌};
 ghost use Rattle.sheet_rows.specs.Parse.{kind_of, passes};
 
+use super::codes::kind;
+
 // What a walk over rows collects: the rows of one kind, each the first row of an element.
-#[derive(Clone, Copy)]
+#[derive(Clone, Copy, Debug, PartialEq, Eq)]
 pub enum Part {
     Files,
     Documents,
@@ -28,21 +30,21 @@ impl Part {
         ensures { result ≡ kind_of self }
     {
         match self {
-            Part::Files => 12,
-            Part::Documents => 1,
-            Part::Nodes => 2,
-            Part::Protos => 7,
-            Part::Externs => 8,
-            Part::Tops => 11,
-            Part::Fields => 3,
-            Part::Interfaces => 4,
-            Part::Statements => 5,
-            Part::BodyOrder => 6,
-            Part::Instances => 13,
-            Part::Ids => 9,
-            Part::Routes => 5,
-            Part::Associations => 14,
-            Part::Urls => 10,
+            Part::Files => kind::FILE,
+            Part::Documents => kind::DOCUMENT,
+            Part::Nodes => kind::NODE,
+            Part::Protos => kind::PROTO,
+            Part::Externs => kind::EXTERN_PROTO,
+            Part::Tops => kind::TOP,
+            Part::Fields => kind::FIELD,
+            Part::Interfaces => kind::INTERFACE,
+            Part::Statements => kind::STATEMENT,
+            Part::BodyOrder => kind::ORDER,
+            Part::Instances => kind::INSTANCE,
+            Part::Ids => kind::ID,
+            Part::Routes => kind::STATEMENT,
+            Part::Associations => kind::ASSOCIATION,
+            Part::Urls => kind::URL,
         }
     }
 
@@ -50,23 +52,26 @@ impl Part {
     pub fn passes(self, k: u32) -> bool
         ensures { result ≡ passes self k }
     {
-        let in_node = (3 <= k) & (k <= 6) | (k == 9) | (13 <= k) & (k <= 14);
+        let in_node = (kind::FIELD <= k) & (k <= kind::ORDER)
+            | (k == kind::ID)
+            | (kind::INSTANCE <= k) & (k <= kind::ASSOCIATION);
         match self {
-            Part::Files => (1 <= k) & (k <= 14),
-            Part::Documents => (1 <= k) & (k <= 14),
+            Part::Files => (kind::DOCUMENT <= k) & (k <= kind::ASSOCIATION),
+            Part::Documents => (kind::DOCUMENT <= k) & (k <= kind::ASSOCIATION),
             Part::Nodes => in_node,
-            Part::Protos => (k == 2) | in_node,
-            Part::Externs => (k == 2) | (k == 7) | (k == 10) | in_node,
-            Part::Tops => (2 <= k) & (k <= 10) | (13 <= k) & (k <= 14),
-            Part::Fields => k == 9,
-            Part::Interfaces => (k == 3) | (k == 9),
-            Part::Statements => (3 <= k) & (k <= 4) | (k == 9),
-            Part::BodyOrder => (3 <= k) & (k <= 5) | (k == 9),
-            Part::Instances => (3 <= k) & (k <= 6) | (k == 9),
+            Part::Protos => (k == kind::NODE) | in_node,
+            Part::Externs => (k == kind::NODE) | (k == kind::PROTO) | (k == kind::URL) | in_node,
+            Part::Tops => (kind::NODE <= k) & (k <= kind::URL)
+                | (kind::INSTANCE <= k) & (k <= kind::ASSOCIATION),
+            Part::Fields => k == kind::ID,
+            Part::Interfaces => (k == kind::FIELD) | (k == kind::ID),
+            Part::Statements => (kind::FIELD <= k) & (k <= kind::INTERFACE) | (k == kind::ID),
+            Part::BodyOrder => (kind::FIELD <= k) & (k <= kind::STATEMENT) | (k == kind::ID),
+            Part::Instances => (kind::FIELD <= k) & (k <= kind::ORDER) | (k == kind::ID),
             Part::Ids => false,
-            Part::Routes => k == 9,
-            Part::Associations => (k == 5) | (k == 9),
-            Part::Urls => (k == 4) | (k == 9),
+            Part::Routes => k == kind::ID,
+            Part::Associations => (k == kind::STATEMENT) | (k == kind::ID),
+            Part::Urls => (k == kind::INTERFACE) | (k == kind::ID),
         }
     }
 }

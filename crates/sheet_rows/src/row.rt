@@ -5,7 +5,7 @@ ghost use Rattle.sheet_rows.specs.Rows.{rows, blank};
 // What a column has for no name, no id, no value.
 pub const NONE: u32 = 4294967295;
 
-#[derive(Clone, Copy)]
+#[derive(Clone, Copy, Debug, PartialEq, Eq)]
 pub struct Row {
     pub kind: u32,
     pub a: u32,
@@ -17,7 +17,19 @@ pub struct Row {
     pub g: u32,
 }
 
+const BLANK: Row = Row {
+    kind: 0,
+    a: 0,
+    b: 0,
+    c: 0,
+    d: 0,
+    e: 0,
+    f: 0,
+    g: 0,
+};
+
 // The row at a place; past the end a row of kind 0, which no sheet has.
+// Kept: no Option, since a row of kind 0 ends each walk over rows as the end of the sheet does.
 pub fn row_at(sheet: &[u32], at: usize) -> Row
     ensures { result ≡ get_or (rows sheet.now) at blank }
 {
@@ -34,15 +46,6 @@ pub fn row_at(sheet: &[u32], at: usize) -> Row
             g: sheet[i + 7],
         }
     } else {
-        Row {
-            kind: 0,
-            a: 0,
-            b: 0,
-            c: 0,
-            d: 0,
-            e: 0,
-            f: 0,
-            g: 0,
-        }
+        BLANK
     }
 }

@@ -17,7 +17,3 @@ between P (suc n) lo k e h i = go (λ (j : suc lo ≤ k). between P n (suc lo) k
     go : (suc lo ≤ k → P k) → Dec (lo < k) → P k
     go f (yes j) = f j
     go f (no j) = let z : lo ≡ k = omega arith in rw z at e.0
-
--- a number from nine on that is no kind is fifteen or more
-pub beyond : (k : ℕ) → 9 ≤ k → (k ≡ 9 → ⊥) → (k ≡ 10 → ⊥) → (k ≡ 11 → ⊥) → (k ≡ 12 → ⊥) → (k ≡ 13 → ⊥) → (k ≡ 14 → ⊥) → 15 ≤ k
-beyond k h a b c d e f = omega arith

@@ -1,14 +1,17 @@
 // Walks over a part of a sheet: its first element from a row on, its n-th, the n-th of what stands at a row.
+// Kept: a row's place beside the sheet: callers keep many places of one sheet; a view would be made anew for each.
 ghost use Rattle.std.specs.Prelude.{◌≡◌, length, drop};
 ghost use Rattle.std.specs.Iterator.{at_most};
 ghost use Rattle.sheet_rows.specs.Rows.{rows};
 ghost use Rattle.sheet_rows.specs.Parse.{elements};
 ghost use Rattle.sheet_walks.specs.Walk.{Sought, Bared, Steps, Nth, Child};
 
+use sheet_rows::codes::kind;
 use sheet_rows::part::Part;
 use sheet_rows::row;
 
-#[derive(Clone, Copy)]
+// Kept: document 01 names this enum.
+#[derive(Clone, Copy, Debug, PartialEq, Eq)]
 pub enum Found {
     At(usize),
     Nothing,
@@ -73,18 +76,19 @@ pub fn bare(sheet: &[u32], from: usize) -> bool
     ensures { Bared (rows sheet.now) from result }
 {
     for at in from..sheet.len() / 8 {
-        let kind = row::row_at(sheet, at).kind;
-        if !Part::Interfaces.passes(kind) {
-            if kind < 4 {
+        let k = row::row_at(sheet, at).kind;
+        if !Part::Interfaces.passes(k) {
+            if k < kind::INTERFACE {
                 return true;
             }
-            return 6 < kind;
+            return kind::ORDER < k;
         }
     }
     true
 }
 
 // The n-th, from 0.
+// Kept: a loop and not Iterator's `nth`, whose usize and Option would be turned into this u32 and `Found`.
 pub fn nth(sheet: &[u32], part: Part, from: usize, n: u32) -> Found
     ensures { Nth part (rows sheet.now) from n result }
 {

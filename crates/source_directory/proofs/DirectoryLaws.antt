@@ -1,18 +1,20 @@
 -- The directory: what of it the documents rest on, and how the table of bases is written to it.
 use mathlib.Core.Path.{◌≡◌, sym, ap, subst, ◌∙◌}
 use mathlib.Core.List.{List, [], ◌∷◌, map}
-use mathlib.Core.Option.{none, some}
+use mathlib.Core.Option.{some}
 use Prim.Native.Nat.{ℕ, zero, suc, ◌+◌, ◌-◌, ◌*◌, ◌≤◌, ◌<◌}
 use native.Mathlib.Omega.{arith}
 use native.Mathlib.Decide.{ℕ_discrete}
 use lib.ListN.{length, get_or, drop, set, get_elem?}
-use borrow.Author.Tests.{ne_eqb}
+use borrow.Author.Tests.{eq-eqb, ne_eqb}
+use Rattle.std.specs.Prelude.{Option as Maybe, Some, None}
 use Rattle.ast.specs.Ast.{File}
 use Rattle.sheet_rows.specs.declared.row.Row.{Row}
 use Rattle.sheet_rows.specs.Rows.{rows}
 use Rattle.sheet_rows.specs.Parse.{document_of, files_of}
 use Rattle.sheet_lookup.specs.Lookup.{sheet_of, root_and_files, document_at}
 use Rattle.sheet_lookup.proofs.DocLaws.{begins_root}
+use Rattle.pick_table.specs.declared.table.Source.{Source}
 use Rattle.pick_table.specs.declared.table.Table.{Table}
 use Rattle.pick_definition.specs.Picks.{library_file}
 use Rattle.pick_table.specs.Table.{IsFileOf}
@@ -23,7 +25,7 @@ use Rattle.pick_table.proofs.TableLaws.{count_is, base_at}
 use Rattle.pick_definition.proofs.NewerLaws.{file_at_lem}
 use Rattle.pick_definition.proofs.WalkedLaws.{walked_whole}
 use Rattle.words_lent.specs.Words.{Outside}
-use Rattle.source_directory.specs.Directory.{size, number_of, row_of, base_of, base_count, Slot, DocumentBegins, TableStored, bases_found, Directory}
+use Rattle.source_directory.specs.Directory.{size, number_of, row_of, base_of, base_count, Slot, DocumentBegins, source_in, number_in, row_in, TableStored, bases_found, Directory}
 use Rattle.words_lent.proofs.WordLaws.{three, three_first, three_second, three_third, three_other}
 
 -- ---- the documents rest on the first 195 words alone
@@ -74,7 +76,7 @@ module _ (R : List Row) (t : Table) (dir : List ℕ) (long : size ≤ length dir
 
   module _ (n row : ℕ) (h : n < 64) (s : TableStored R t dir n) where
     abbrev f : ℕ
-    f = get_or t.files n 0
+    f = number_in (get_or t.files n None)
 
     abbrev b : ℕ
     b = get_or t.bases n 0
@@ -89,15 +91,15 @@ module _ (R : List Row) (t : Table) (dir : List ℕ) (long : size ≤ length dir
     base j i (yes z) = rw z (three_third dir (n + 1) f (65 + (n + 1)) row (130 + n) b (omega arith) (omega arith) (omega arith))
     base j i (no z) = apart (130 + j) (λ e. omega arith) (λ e. omega arith) (λ e. z (omega arith)) ∙ s.bases j (omega arith)
 
-    file : (j : ℕ) → j < n + 1 → Dec (j ≡ n) → number_of next (j + 1) ≡ get_or t.files j 0
+    file : (j : ℕ) → j < n + 1 → Dec (j ≡ n) → number_of next (j + 1) ≡ number_in (get_or t.files j None)
     file j i (yes z) = rw z (three_first dir (n + 1) f (65 + (n + 1)) row (130 + n) b (omega arith) (omega arith) (omega arith))
     file j i (no z) = apart (j + 1) (λ e. z (omega arith)) (λ e. omega arith) (λ e. omega arith) ∙ s.files j (omega arith)
 
-    row_at : drop row R ≡ drop (get_or t.rows n 0) R → (j : ℕ) → j < n + 1 → Dec (j ≡ n) → drop (row_of next (j + 1)) R ≡ drop (get_or t.rows j 0) R
+    row_at : drop row R ≡ drop (row_in (get_or t.files n None)) R → (j : ℕ) → j < n + 1 → Dec (j ≡ n) → drop (row_of next (j + 1)) R ≡ drop (row_in (get_or t.files j None)) R
     row_at e j i (yes z) = rw (z, three_second dir (n + 1) f (65 + (n + 1)) row (130 + n) b (omega arith) (omega arith) (omega arith)) e
     row_at e j i (no z) = rw (apart (65 + (j + 1)) (λ e. omega arith) (λ e. z (omega arith)) (λ e. omega arith)) (s.rows j (omega arith))
 
-    pub stored_more : drop row R ≡ drop (get_or t.rows n 0) R → TableStored R t next (n + 1)
+    pub stored_more : drop row R ≡ drop (row_in (get_or t.files n None)) R → TableStored R t next (n + 1)
     stored_more e = record {
       count = apart 194 (λ z. omega arith) (λ z. omega arith) (λ z. omega arith) ∙ s.count;
       number = apart 0 (λ z. omega arith) (λ z. omega arith) (λ z. omega arith) ∙ s.number;
@@ -126,22 +128,6 @@ module _ (root library dir : List ℕ) (t : Table) (f : Final (rows root) (rows 
   abbrev R : List Row
   R = rows library
 
-  begins_file : (j : ℕ) → Slot dir (j + 1) → DocumentBegins root library (number_of dir (j + 1)) (row_of dir (j + 1))
-  begins_file j h =
-      let i : j < 64 = omega (arith, h.upto, s.count, f.sound.room) in
-      let b = get_or t.bases j 0 in
-      let n = get_or t.files j 0 in
-      let x : n ≡ 0 → ⊥ = λ z. omega (arith, h.real (omega arith), s.files j i) in
-      let e : library_file b 1 (files_of R) ≡ some (n, record { base = b; document = document_at R (get_or t.rows j 0) }) =
-      f.sound.sources j (omega (arith, h.upto, s.count)) ∙ rw (ne_eqb n 0 x) in
-      rw (s.files j i, ne_eqb n 0 x, s.rows j i) (found_document root library b n _ e)
-
-  begins_at : (k : ℕ) → Slot dir k → DocumentBegins root library (number_of dir k) (row_of dir k)
-  begins_at zero h = rw (s.number, s.row) (begins_root library root)
-  begins_at (suc j) h =
-      let z : j + 1 ≡ suc j = omega arith in
-      subst (λ (k : ℕ). Slot dir k → DocumentBegins root library (number_of dir k) (row_of dir k)) z (begins_file j) h
-
   -- the table's j-th base
   base_is : (j : ℕ) → j < base_count dir → (j < t.count) × (j < 64)
   base_is j h = (omega (arith, s.count), omega (arith, s.count, f.sound.room))
@@ -149,8 +135,32 @@ module _ (root library dir : List ℕ) (t : Table) (f : Final (rows root) (rows 
   bases_are : (j : ℕ) → j < base_count dir → get_elem? (bases_found root library) j ≡ some (base_of dir j)
   bases_are j h = let i = base_is j h in rw (sym f.bases, s.bases j i.1) (base_at f.sound j i.0)
 
-  sources_are : (j : ℕ) → j < base_count dir → IsFileOf R (base_of dir j) (record { number = number_of dir (j + 1); row = row_of dir (j + 1) })
-  sources_are j h = let i = base_is j h in rw (s.bases j i.1, s.files j i.1, s.rows j i.1) (f.sound.sources j i.0)
+  -- and its file, as the two words say it
+  source_said : (b n row : ℕ) (x : Maybe Source) → IsFileOf R b x → n ≡ number_in x → drop row R ≡ drop (row_in x) R → IsFileOf R b (source_in n row)
+  source_said b n row None is e r = rw (eq-eqb n 0 e) is
+  source_said b n row (Some y) is e r =
+      let w = file_at_lem b 1 (files_of R) y.number (record { base = b; document = document_at R y.row }) is in
+      rw (e, ne_eqb y.number 0 (λ z. omega (arith, w.0)), r) is
+
+  sources_are : (j : ℕ) → j < base_count dir → IsFileOf R (base_of dir j) (source_in (number_of dir (j + 1)) (row_of dir (j + 1)))
+  sources_are j h = let i = base_is j h in rw (s.bases j i.1) (source_said (get_or t.bases j 0) (number_of dir (j + 1)) (row_of dir (j + 1)) (get_or t.files j None) (f.sound.sources j i.0) (s.files j i.1) (s.rows j i.1))
+
+  -- a file that has a slot
+  file_here : (j : ℕ) → Slot dir (j + 1) → library_file (base_of dir j) 1 (files_of R) ≡ some (number_of dir (j + 1), record { base = base_of dir j; document = document_at R (row_of dir (j + 1)) })
+  file_here j h =
+      let x : number_of dir (j + 1) ≡ 0 → ⊥ = λ z. omega (arith, h.real (omega arith)) in
+      sources_are j (omega (arith, h.upto)) ∙ rw (ne_eqb (number_of dir (j + 1)) 0 x)
+
+  begins_file : (j : ℕ) → Slot dir (j + 1) → DocumentBegins root library (number_of dir (j + 1)) (row_of dir (j + 1))
+  begins_file j h =
+      let x : number_of dir (j + 1) ≡ 0 → ⊥ = λ z. omega (arith, h.real (omega arith)) in
+      rw (ne_eqb (number_of dir (j + 1)) 0 x) (found_document root library (base_of dir j) (number_of dir (j + 1)) _ (file_here j h))
+
+  begins_at : (k : ℕ) → Slot dir k → DocumentBegins root library (number_of dir k) (row_of dir k)
+  begins_at zero h = rw (s.number, s.row) (begins_root library root)
+  begins_at (suc j) h =
+      let z : j + 1 ≡ suc j = omega arith in
+      subst (λ (k : ℕ). Slot dir k → DocumentBegins root library (number_of dir k) (row_of dir k)) z (begins_file j) h
 
   -- the picks of a file
   picked_file : (j : ℕ) → Slot dir (j + 1) → PickedBy (document_of (rows root)) (files_of R) (number_of dir (j + 1)) (document_at (rows (sheet_of root library (number_of dir (j + 1)))) (row_of dir (j + 1))).extern_protos
@@ -159,7 +169,7 @@ module _ (root library dir : List ℕ) (t : Table) (f : Final (rows root) (rows 
       let b = base_of dir j in
       let n = number_of dir (j + 1) in
       let x : n ≡ 0 → ⊥ = λ z. omega (arith, h.real (omega arith)) in
-      let e : library_file b 1 (files_of R) ≡ some (n, record { base = b; document = document_at R (row_of dir (j + 1)) }) = sources_are j k ∙ rw (ne_eqb n 0 x) in
+      let e = file_here j h in
       rw (ne_eqb n 0 x) ((walked_whole (document_of (rows root)) (files_of R)).fetched n (record { base = b; file = record { base = b; document = document_at R (row_of dir (j + 1)) }; among = member_here b (bases_found root library) j (bases_are j k); is = e }))
 
   picked_at : (k : ℕ) → Slot dir k → PickedBy (document_of (rows root)) (files_of R) (number_of dir k) (document_at (rows (sheet_of root library (number_of dir k))) (row_of dir k)).extern_protos

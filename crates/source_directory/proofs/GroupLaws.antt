@@ -1,7 +1,7 @@
 -- The indexes of the groups: one is written, those before it stay, and a lookup goes by one.
 use mathlib.Core.Path.{◌≡◌, refl, ◌∙◌}
 use mathlib.Core.List.{List, map}
-use Prim.Native.Nat.{ℕ, zero, suc, ◌+◌, ◌-◌, ◌*◌, ◌≤◌, ◌<◌}
+use Prim.Native.Nat.{ℕ, ◌+◌, ◌-◌, ◌*◌, ◌≤◌, ◌<◌}
 use native.Mathlib.Omega.{arith}
 use native.Mathlib.Decide.{ℕ_discrete}
 use lib.ListN.{length, get_or, take, drop, set, get_elem?, length-set, length-drop}
@@ -21,15 +21,16 @@ use Rattle.sheet_lookup.specs.Lookup.{sheet_of, root_and_files, document_at, Loo
 use Rattle.sheet_lookup.proofs.DocLaws.{looked}
 use Rattle.sheet_walks.proofs.WalkLaws.{child_of}
 use Rattle.words_lent.specs.Words.{Outside}
-use Rattle.source_directory.specs.Directory.{size, number_of, row_of, base_count, stride_of, group_part, group_of, index_place, filled_of, Slot, DocumentBegins, Directory, PartHeld, HeldAt}
+use Rattle.source_directory.specs.declared.indexes.Group.{Group}
+use Rattle.source_directory.specs.Directory.{size, number_of, row_of, base_count, stride_of, group_number, group_part, group_of, index_place, filled_of, Slot, DocumentBegins, Directory, PartHeld, HeldAt}
 use Rattle.source_directory.specs.Grouped.{Grouped, Indexing, AllGrouped}
 use Rattle.words_lent.proofs.WordLaws.{stays, stays_set, stays_on, stays_wide, pasted, pasted_at, pasted_stays}
 use Rattle.source_directory.proofs.DirectoryLaws.{slot_back, directory_kept}
 
-pub externs_are : (g : ℕ) → (g ≡ 0 → ⊥) → (g ≡ 1 → ⊥) → Externs ≡ group_part g
-externs_are zero m n = absurd (m refl)
-externs_are (suc zero) m n = absurd (n refl)
-externs_are (suc (suc g)) m n = refl
+pub group_low : (g : Group) → group_number g < 3
+group_low Group.Nodes = omega arith
+group_low Group.Protos = omega arith
+group_low Group.Externs = omega arith
 
 -- ---- an index, in the part of the words that a function is lent
 
@@ -125,13 +126,46 @@ module _ {root library dir dir' w w' : List ℕ} {lo place end next k s g : ℕ}
           (y.dir_stays.below (group_of u v + 1) (omega arith))
           (held_on (x.held u v h (omega arith) (slot_back x.directory outside z)) (omega arith) y.after (λ j p q. y.work_stays.below j q))
 
-pub indexing_start : {root library dir : List ℕ} (w : List ℕ) (lo : ℕ) → Directory root library dir → Indexing root library dir w lo lo 0
-indexing_start w lo d = record { directory = d; after = omega arith; held = λ s g h i z. absurd (omega arith) }
+-- the indexes of the first k groups have been written, and nothing else
+pub record SoFar (root library dir₀ dir w₀ w : List ℕ) (lo place end k : ℕ) : Type 0 where
+  pub upto : place ≤ end
+  pub dir_stays : Outside 200 size dir₀ dir
+  pub work_stays : Outside lo end w₀ w
+  pub indexing : Indexing root library dir w lo place k
 
-pub all_grouped : {root library dir₀ dir w₀ w : List ℕ} {lo end next k : ℕ} → Indexing root library dir w lo next k → next ≤ end → k ≡ 3 * (base_count dir₀ + 1) → Outside 200 size dir₀ dir → Outside lo end w₀ w → AllGrouped root library dir₀ dir w₀ w lo end next
-all_grouped {dir₀ = dir₀} {dir = dir} {k = k} x h e d w =
-    let z : k ≡ 3 * (base_count dir + 1) = omega (arith, d.below 194 (omega arith)) in
-    record { indexing = rw z at x; upto = h; dir_stays = d; work_stays = w }
+pub so_far_start : {root library dir : List ℕ} (w : List ℕ) (lo end : ℕ) → Directory root library dir → lo ≤ end → SoFar root library dir dir w w lo lo end 0
+so_far_start {dir = dir} w lo end d h = record { upto = h; dir_stays = stays dir; work_stays = stays w; indexing = record { directory = d; after = omega arith; held = λ s g h i z. absurd (omega arith) } }
+
+module _ {root library dir₀ w₀ : List ℕ} {lo end s : ℕ} (few : s < 65) where
+  one_group : {dir dir' w w' : List ℕ} {place next k : ℕ} (g : ℕ) → SoFar root library dir₀ dir w₀ w lo place end k → Grouped root library dir dir' w w' s g place end next → g < 3 → 3 * s + g ≡ k → SoFar root library dir₀ dir' w₀ w' lo next end (k + 1)
+  one_group g x y h e = record {
+    upto = y.upto;
+    dir_stays = stays_on 200 size x.dir_stays y.dir_stays (omega arith) (omega arith) (omega arith) (omega arith);
+    work_stays = stays_on lo end x.work_stays y.work_stays (omega arith) (omega (arith, x.indexing.after)) (omega arith) y.upto;
+    indexing = indexing_more x.indexing y few h e;
+  }
+
+  -- one, two or three of a slot
+  pub after_nodes : {dir dir₁ w w₁ : List ℕ} {place protos : ℕ} → SoFar root library dir₀ dir w₀ w lo place end (3 * s) → Grouped root library dir dir₁ w w₁ s 0 place end protos → SoFar root library dir₀ dir₁ w₀ w₁ lo protos end (3 * s + 1)
+  after_nodes x a = one_group 0 x a (omega arith) (omega arith)
+
+  pub after_protos : {dir dir₁ dir₂ w w₁ w₂ : List ℕ} {place protos externs : ℕ} → SoFar root library dir₀ dir w₀ w lo place end (3 * s) → Grouped root library dir dir₁ w w₁ s 0 place end protos → Grouped root library dir₁ dir₂ w₁ w₂ s 1 protos end externs → SoFar root library dir₀ dir₂ w₀ w₂ lo externs end (3 * s + 1 + 1)
+  after_protos x a b = one_group 1 (after_nodes x a) b (omega arith) (omega arith)
+
+  pub slot_grouped : {dir dir₁ dir₂ dir₃ w w₁ w₂ w₃ : List ℕ} {place protos externs next : ℕ}
+      → SoFar root library dir₀ dir w₀ w lo place end (3 * s)
+      → Grouped root library dir dir₁ w w₁ s 0 place end protos
+      → Grouped root library dir₁ dir₂ w₁ w₂ s 1 protos end externs
+      → Grouped root library dir₂ dir₃ w₂ w₃ s 2 externs end next
+      → SoFar root library dir₀ dir₃ w₀ w₃ lo next end (3 * (s + 1))
+  slot_grouped x a b c =
+      let z : 3 * s + 1 + 1 + 1 ≡ 3 * (s + 1) = omega arith in
+      rw z at (one_group 2 (after_protos x a b) c (omega arith) (omega arith))
+
+pub all_grouped : {root library dir₀ dir w₀ w : List ℕ} {lo end next k : ℕ} → SoFar root library dir₀ dir w₀ w lo next end k → k ≡ 3 * (base_count dir₀ + 1) → AllGrouped root library dir₀ dir w₀ w lo end next
+all_grouped {dir₀ = dir₀} {dir = dir} {k = k} x e =
+    let z : k ≡ 3 * (base_count dir + 1) = omega (arith, x.dir_stays.below 194 (omega arith)) in
+    record { indexing = rw z at x.indexing; upto = x.upto; dir_stays = x.dir_stays; work_stays = x.work_stays }
 
 -- ---- what stands in a group of a slot's document is what a document of that number has
 
@@ -140,8 +174,8 @@ module _ (root library : List ℕ) (d row : ℕ) (b : DocumentBegins root librar
     located_at : {id : ℕ} {x : Found} → Nth t (rows (sheet_of root library d)) (row + 1) id x → Located f (and_then (get_elem? (root_and_files root library) d) (λ y. get_elem? (g y) id)) (rows (sheet_of root library d)) x
     located_at {id} {x} n =
         let R = rows (sheet_of root library d) in
-        let s = looked f t R row id x (child_of t R row id x n) in
-        record { is = rw (b, is (drop row R)) s.is; below = s.below }
+        let s = looked f t R row id (is (drop row R)) (child_of t R row id x n) in
+        record { is = rw b s.is; below = s.below }
 
   pub node_at_lem : {id : ℕ} {x : Found} → Nth Nodes (rows (sheet_of root library d)) (row + 1) id x → Located node_of (node_at (root_and_files root library) d id) (rows (sheet_of root library d)) x
   unfolding node_at document_of
@@ -155,7 +189,7 @@ module _ (root library : List ℕ) (d row : ℕ) (b : DocumentBegins root librar
   unfolding extern_proto_at document_of
   extern_at = located_at extern_proto_of (λ y. y.extern_protos) Externs (λ l. refl)
 
--- an extern of the document that begins at a row
-pub extern_looked : (R : List Row) (row : ℕ) {id : ℕ} {x : Found} → Nth Externs R (row + 1) id x → Looked extern_proto_of (document_at R row).extern_protos R id x
-unfolding document_of
-extern_looked R row {id} {x} n = looked extern_proto_of Externs R row id x (child_of Externs R row id x n)
+  -- an extern of the document that begins at the row
+  pub extern_looked : {id : ℕ} {x : Found} → Located extern_proto_of (extern_proto_at (root_and_files root library) d id) (rows (sheet_of root library d)) x → Looked extern_proto_of (document_at (rows (sheet_of root library d)) row).extern_protos (rows (sheet_of root library d)) id x
+  unfolding extern_proto_at
+  extern_looked l = record { is = rw b at l.is; below = l.below }

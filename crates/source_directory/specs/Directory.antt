@@ -1,8 +1,9 @@
 -- The directory: for each slot the document and where its indexes and the picks of its externs stand; the table of bases.
 -- Slot 0 is the root, slot j + 1 the file of base j.
-use Rattle.std.specs.Prelude.{◌≡◌, List, ℕ, zero, suc, ◌+◌, ◌*◌, ◌≤◌, ◌<◌, length, get_or, drop}
+use Rattle.std.specs.Prelude.{Option as Maybe, Some, None, ◌≡◌, List, ℕ, zero, suc, ◌+◌, ◌*◌, ◌≤◌, ◌<◌, length, get_or, drop, eqb}
 use Rattle.std.proofs.Math.Option.{some}
 use Rattle.std.proofs.Math.ListN.{get_elem?}
+use Rattle.ast.specs.Choice.{choose}
 use Rattle.sheet_rows.specs.declared.row.Row.{Row}
 use Rattle.sheet_rows.specs.declared.part.Part.{Part}
 use Rattle.sheet_rows.specs.declared.part.Part.TheVariants.{Nodes, Protos, Externs}
@@ -11,10 +12,12 @@ use Rattle.sheet_rows.specs.Parse.{document_of, files_of}
 use Rattle.sheet_walks.specs.declared.walk.Found.TheVariants.{At}
 use Rattle.sheet_walks.specs.Walk.{Nth}
 use Rattle.sheet_lookup.specs.Lookup.{sheet_of, root_and_files, document_at}
+use Rattle.pick_table.specs.declared.table.Source.{Source}
 use Rattle.pick_table.specs.declared.table.Table.{Table}
 use Rattle.pick_definition.specs.Picks.{Bases, final_bases}
 use Rattle.pick_definition.specs.Walked.{PickedBy}
 use Rattle.pick_table.specs.Table.{IsFileOf}
+use Rattle.source_directory.specs.declared.indexes.Group.{Group}
 
 -- how many words it has at least
 abbrev pub size : ℕ
@@ -53,6 +56,11 @@ abbrev pub end_of : List ℕ → ℕ
 end_of dir = get_or dir 199 0
 
 -- a group of a document: 0 nodes, 1 prototypes, 2 externs; where its index stands, and how many words it has
+abbrev pub group_number : Group → ℕ
+group_number Group.Nodes = 0
+group_number Group.Protos = 1
+group_number Group.Externs = 2
+
 abbrev pub group_part : ℕ → Part
 group_part zero = Nodes
 group_part (suc zero) = Protos
@@ -79,10 +87,27 @@ pub record Slot (dir : List ℕ) (s : ℕ) : Type 0 where
   pub upto : s ≤ base_count dir
   pub real : 0 < s → 0 < number_of dir s
 
+-- x is the number of a slot's document, if it stands for one
+abbrev pub DocumentOf : List ℕ → ℕ → Maybe ℕ → Type 0
+DocumentOf dir s (Some n) = (n ≡ number_of dir s) × (0 < s → 0 < n)
+DocumentOf dir s None = (0 < s) × (number_of dir s ≡ 0)
+
 -- a document's number and the row where it begins
 abbrev pub DocumentBegins : List ℕ → List ℕ → ℕ → ℕ → Type 0
 DocumentBegins root library d row =
     get_elem? (root_and_files root library) d ≡ some (document_at (rows (sheet_of root library d)) row)
+
+-- a file as two words say it: its number, or 0 for none, and its row
+abbrev pub source_in : ℕ → ℕ → Maybe Source
+source_in n row = choose (eqb n 0) None (Some (record { number = n; row = row }))
+
+abbrev pub number_in : Maybe Source → ℕ
+number_in (Some s) = s.number
+number_in None = 0
+
+abbrev pub row_in : Maybe Source → ℕ
+row_in (Some s) = s.row
+row_in None = 0
 
 -- the directory holds the root and the first n entries of a table; a row past the library's end may stand as another
 pub record TableStored (R : List Row) (t : Table) (dir : List ℕ) (n : ℕ) : Type 0 where
@@ -90,8 +115,8 @@ pub record TableStored (R : List Row) (t : Table) (dir : List ℕ) (n : ℕ) : T
   pub number : number_of dir 0 ≡ 0
   pub row : row_of dir 0 ≡ 0
   pub bases : (j : ℕ) → j < n → base_of dir j ≡ get_or t.bases j 0
-  pub files : (j : ℕ) → j < n → number_of dir (j + 1) ≡ get_or t.files j 0
-  pub rows : (j : ℕ) → j < n → drop (row_of dir (j + 1)) R ≡ drop (get_or t.rows j 0) R
+  pub files : (j : ℕ) → j < n → number_of dir (j + 1) ≡ number_in (get_or t.files j None)
+  pub rows : (j : ℕ) → j < n → drop (row_of dir (j + 1)) R ≡ drop (row_in (get_or t.files j None)) R
 
 -- the table once the walk over the two sheets is done
 abbrev pub bases_found : List ℕ → List ℕ → Bases
@@ -108,7 +133,7 @@ pub record Directory (root library dir : List ℕ) : Type 0 where
   pub begins : (s : ℕ) → Slot dir s → DocumentBegins root library (number_of dir s) (row_of dir s)
   pub count : length (bases_found root library) ≡ base_count dir
   pub bases : (j : ℕ) → j < base_count dir → get_elem? (bases_found root library) j ≡ some (base_of dir j)
-  pub sources : (j : ℕ) → j < base_count dir → IsFileOf (rows library) (base_of dir j) (record { number = number_of dir (j + 1); row = row_of dir (j + 1) })
+  pub sources : (j : ℕ) → j < base_count dir → IsFileOf (rows library) (base_of dir j) (source_in (number_of dir (j + 1)) (row_of dir (j + 1)))
   -- the picks of a slot's document are those by the table
   pub picked : (s : ℕ) → Slot dir s → PickedBy (document_of (rows root)) (files_of (rows library)) (number_of dir s) (document_at (rows (sheet_of root library (number_of dir s))) (row_of dir s)).extern_protos
 

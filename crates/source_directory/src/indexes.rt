@@ -1,24 +1,44 @@
-// The indexes of the groups of each document: 0 nodes, 1 prototypes, 2 externs.
+// The indexes of the groups of each document.
 ghost use Rattle.std.specs.Prelude.{◌≡◌, ◌-◌, ◌*◌, ◌≤◌, ◌<◌, length};
-ghost use Rattle.source_directory.specs.Directory.{group_part, Directory};
+ghost use Rattle.source_directory.specs.Directory.{group_number, group_part, group_of, Directory};
 ghost use Rattle.source_directory.specs.Grouped.{Grouped, AllGrouped};
 
-use super::{COUNT, GROUPS, ROWS, STRIDE};
+use super::{COUNT, GROUPS, ROWS, STRIDE, document};
 use sheet_lookup::rows;
 use sheet_rows::part::Part;
-use words_lent::wide;
 
-pub fn part_of(group: usize) -> Part
-    requires { group < 3 }
-    ensures { result ≡ group_part group }
-{
-    if group == 0 {
-        return Part::Nodes;
+// A group of a document. The indexes of a slot's groups stand in this order.
+// Kept: an enum beside the trait `Numbered` of ids. An index is written for a group as a whole, where there is no id.
+#[derive(Clone, Copy, Debug, PartialEq, Eq)]
+pub enum Group {
+    Nodes,
+    Protos,
+    Externs,
+}
+
+impl Group {
+    pub fn part(self) -> Part
+        ensures { result ≡ group_part (group_number self) }
+    {
+        match self {
+            Group::Nodes => Part::Nodes,
+            Group::Protos => Part::Protos,
+            Group::Externs => Part::Externs,
+        }
     }
-    if group == 1 {
-        return Part::Protos;
+
+    // Where the group's entry stands in the directory: its index's place, then its size.
+    pub fn entry(self, slot: usize) -> usize
+        requires { slot < 65 }
+        ensures { result ≡ group_of slot (group_number self) }
+    {
+        let nodes = GROUPS + 6 * slot;
+        match self {
+            Group::Nodes => nodes,
+            Group::Protos => nodes + 2,
+            Group::Externs => nodes + 4,
+        }
     }
-    Part::Externs
 }
 
 // Three groups to each of 65 slots.
@@ -39,6 +59,8 @@ pub fn stride(total: usize, room: usize) -> u32
     (total / (room - INDEXES) + 1) as u32
 }
 
+// Kept: places and no slices. The directory says at which place of all the words an index stands.
+
 // Writes the index of a group of a slot's document to the words from a place on; the place after it.
 fn index_one<'a>(
     root: &'a [u32],
@@ -46,30 +68,21 @@ fn index_one<'a>(
     dir: &mut [u32],
     work: &mut [u32],
     slot: usize,
-    group: usize,
+    group: Group,
     place: usize,
     end: usize,
 ) -> usize
-    requires { Directory root.now library.now dir.old × (slot < 65) × (group < 3) × (place ≤ end) × (end ≤ length work.old) × (end ≤ 4294967295) }
-    ensures { Grouped root.now library.now dir.old dir.new work.old work.new slot group place end result }
+    requires { Directory root.now library.now dir.old × (slot < 65) × (place ≤ end) × (end ≤ length work.old) × (end ≤ 4294967295) }
+    ensures { Grouped root.now library.now dir.old dir.new work.old work.new slot (group_number group) place end result }
 {
-    let number = dir[slot];
-    if 0 < slot {
-        if number == 0 {
-            return place;
-        }
-    }
-    let row = wide(dir[ROWS + slot]);
+    let Some(number) = document(dir, slot) else {
+        return place;
+    };
+    let row = dir[ROWS + slot] as usize;
     let stride = dir[STRIDE];
-    let at = GROUPS + (6 * slot + 2 * group);
+    let at = group.entry(slot);
     let sheet = rows::select(root, library, number);
-    let n = sheet_index::index(
-        sheet,
-        part_of(group),
-        row + 1,
-        stride,
-        &mut work[place..end],
-    );
+    let n = sheet_index::index(sheet, group.part(), row + 1, stride, &mut work[place..end]);
     dir[at] = place as u32;
     dir[at + 1] = n as u32;
     place + n
@@ -87,10 +100,12 @@ pub fn index_all<'a>(
     requires { Directory root.now library.now dir.old × (at ≤ end) × (end ≤ length work.old) × (end ≤ 4294967295) }
     ensures { AllGrouped root.now library.now dir.old dir.new work.old work.new at end result }
 {
-    let count = 3 * (wide(dir[COUNT]) + 1);
+    let count = dir[COUNT] as usize;
     let mut place = at;
-    for k in 0..count {
-        place = index_one(root, library, dir, work, k / 3, k % 3, place, end);
+    for slot in 0..=count {
+        let protos = index_one(root, library, dir, work, slot, Group::Nodes, place, end);
+        let externs = index_one(root, library, dir, work, slot, Group::Protos, protos, end);
+        place = index_one(root, library, dir, work, slot, Group::Externs, externs, end);
     }
     place
 }

@@ -1,7 +1,9 @@
--- What a node is an instance of, by its origin.
+-- What a node is an instance of, by its origin; a pick in two words.
 use mathlib.Core.Path.{◌≡◌, refl, subst}
 use mathlib.Core.List.{List}
-use Prim.Native.Nat.{ℕ, zero, suc}
+use Prim.Native.Nat.{ℕ, zero, suc, ◌+◌, ◌*◌, ◌/◌, ◌%◌}
+use native.Mathlib.Omega.{arith}
+use borrow.Author.Tests.{ne_eqb}
 use Rattle.ast.specs.Ast.{Document, File}
 use Rattle.ast.specs.Choice.{map_o}
 use Rattle.pick_definition.specs.Picks.{prototype_of, pick_of, prototype_in}
@@ -9,7 +11,7 @@ use Rattle.source_lookup.specs.declared.instance.Target.{Target}
 use Rattle.source_lookup.specs.declared.instance.Taken.{Taken}
 use Rattle.std.specs.Prelude.{Option as Maybe, Some, None}
 use Rattle.source_directory.specs.Directory.{number_of, Slot}
-use Rattle.source_lookup.specs.Instance.{origin_from, Targeted, target_in}
+use Rattle.source_lookup.specs.Instance.{origin_from, Targeted, target_in, target_said, Packs}
 
 module _ (D : Document) (F : List File) (dir : List ℕ) (s : ℕ) (h : Slot dir s) (id : ℕ) where
   pub instance_proto : (origin : ℕ) → origin ≡ 1 → Targeted dir (prototype_in D F (number_of dir s) (origin_from origin id)) (Some (record { slot = s; proto = record { 0 = id } }))
@@ -34,3 +36,9 @@ module _ (D : Document) (F : List File) (dir : List ℕ) (s : ℕ) (h : Slot dir
   instance_plain (suc zero) a b = absurd (a refl)
   instance_plain (suc (suc zero)) a b = absurd (b refl)
   instance_plain (suc (suc (suc n))) a b = record { is = refl; valid = tt }
+
+-- a pick in two words is read as it was
+pub packed : (s p m : ℕ) → Packs (Some (record { slot = s; proto = record { 0 = p } })) m → (target_said (m * 65 + s) p ≡ Some (record { slot = s; proto = record { 0 = p } })) × ((m * 65 + s) / 65 ≡ m)
+packed s p m k =
+    let c : (m * 65 + s) % 65 ≡ s = omega (arith, k.2) in
+    (rw (ne_eqb (m * 65 + s) 0 (λ z. omega (arith, k.0)), c), omega (arith, k.2))

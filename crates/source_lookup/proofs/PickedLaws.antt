@@ -21,9 +21,9 @@ use Rattle.sheet_rows.specs.Parse.{elements, optional, extern_proto_of, document
 use Rattle.sheet_walks.specs.declared.walk.Found.{Found}
 use Rattle.sheet_walks.specs.declared.walk.Found.TheVariants as found
 use Rattle.sheet_walks.specs.Walk.{Stands}
-use Rattle.sheet_lookup.specs.Lookup.{sheet_of, document_at, Looked}
+use Rattle.ast.specs.Lookups.{extern_proto_at}
+use Rattle.sheet_lookup.specs.Lookup.{sheet_of, root_and_files, document_at, Looked, Located}
 use Rattle.pick_definition.specs.PickIn.{pick_in}
-use Rattle.pick_table.specs.declared.table.Source.{Source}
 use Rattle.pick_table.specs.declared.Chosen.{Chosen}
 use Rattle.std.specs.Prelude.{Option as Maybe, Some, None}
 use Rattle.pick_definition.specs.Picks.{Prototype, Pick, Bases, Picked, member, or_next, pick_urls, pick_of}
@@ -33,26 +33,27 @@ use Rattle.pick_definition.proofs.MemberLaws.{member_here, member_index}
 use Rattle.pick_definition.proofs.GrowLaws.{tried_known, tried_unknown}
 use Rattle.pick_definition.proofs.WalkedLaws.{some_below}
 use Rattle.pick_table.proofs.PickLaws.{url_in, urls_from, urls_at, urls_none, extern_urls, url_leads}
-use Rattle.source_directory.specs.Directory.{number_of, row_of, base_of, base_count, Slot, bases_found, Directory}
+use Rattle.source_directory.specs.Directory.{number_of, row_of, base_of, base_count, source_in, Slot, bases_found, Directory}
+use Rattle.source_directory.proofs.GroupLaws.{extern_looked}
 use Rattle.source_lookup.specs.Instance.{PickedAs, urls_picked}
 
 -- ---- what a url leads to stands in the file of its base
 
-lead_number : (R : List Row) (s : Source) (fragment : ℕ) (x : Chosen) → Leads R s fragment (Some x) → (x.document ≡ s.number) × (s.number ≡ 0 → ⊥)
-lead_number R s fragment x l = go (ℕ_discrete s.number 0)
+lead_number : (R : List Row) (number row : ℕ) (fragment : Option ℕ) (x : Chosen) → Leads R (source_in number row) fragment (Some x) → (x.document ≡ number) × (number ≡ 0 → ⊥)
+lead_number R number row fragment x l = go (ℕ_discrete number 0)
   where
-    with_file : (o : Option ℕ) → ◌≡◌ {A = Option Prototype} (some (record { document = x.document; proto = x.id.0 })) (and_then o (λ p. some (record { document = s.number; proto = p }))) → x.document ≡ s.number
+    with_file : (o : Option ℕ) → ◌≡◌ {A = Option Prototype} (some (record { document = x.document; proto = x.id.0 })) (and_then o (λ p. some (record { document = number; proto = p }))) → x.document ≡ number
     with_file none e = let z : ◌≡◌ {A = ℕ} 0 1 = cc in absurd (omega arith)
     with_file (some p) e =
-        let z : ◌≡◌ {A = Prototype} (record { document = x.document; proto = x.id.0 }) (record { document = s.number; proto = p }) = cc in
+        let z : ◌≡◌ {A = Prototype} (record { document = x.document; proto = x.id.0 }) (record { document = number; proto = p }) = cc in
         ap (λ (y : Prototype). y.document) z
 
-    go : Dec (s.number ≡ 0) → (x.document ≡ s.number) × (s.number ≡ 0 → ⊥)
+    go : Dec (number ≡ 0) → (x.document ≡ number) × (number ≡ 0 → ⊥)
     go (yes z) =
         let e : ◌≡◌ {A = Option Prototype} (some (record { document = x.document; proto = x.id.0 })) none = rw (eq-eqb _ _ z) at (l 0 false) in
         let y : ◌≡◌ {A = ℕ} 0 1 = cc in
         absurd (omega arith)
-    go (no z) = (with_file (pick_in (document_at R s.row) (optional fragment)) (rw (ne_eqb _ _ z) at (l 0 false)), z)
+    go (no z) = (with_file (pick_in (document_at R row) fragment) (rw (ne_eqb _ _ z) at (l 0 false)), z)
 
 -- ---- the urls of the extern at a row of a sheet: n before row `at` led to no pick
 
@@ -114,7 +115,7 @@ module _ {root library dir : List ℕ} (d : Directory root library dir) where
       here = w.is ∙ rw (urls_at h is)
 
       -- its base is the j-th
-      module _ {j : ℕ} (p : StandsAt (lent c) r.a j) (x : Maybe Chosen) (l : Leads (rows library) (record { number = number_of dir (j + 1); row = row_of dir (j + 1) }) r.b x) where
+      module _ {j : ℕ} (p : StandsAt (lent c) r.a j) (x : Maybe Chosen) (l : Leads (rows library) (source_in (number_of dir (j + 1)) (row_of dir (j + 1))) (optional r.b) x) where
         k : j < base_count dir
         k = lent_low c size p
 
@@ -124,12 +125,12 @@ module _ {root library dir : List ℕ} (d : Directory root library dir) where
         step : urls_picked root library sheet row ≡ or_next n (pick_urls (files_of (rows library)) (suc n) next) F (prototype_by x)
         step =
             here ∙ tried_known (files_of (rows library)) n (url_in r) next F (member_here r.a F j (d.bases j k ∙ ap some base_is)) ∙
-            ap (or_next n (pick_urls (files_of (rows library)) (suc n) next) F) (url_leads (rows library) (record { number = number_of dir (j + 1); row = row_of dir (j + 1) }) r x (rw base_is at (d.sources j k)) l)
+            ap (or_next n (pick_urls (files_of (rows library)) (suc n) next) F) (url_leads (rows library) (source_in (number_of dir (j + 1)) (row_of dir (j + 1))) r x (rw base_is at (d.sources j k)) l)
 
         pub try_proto : {chosen : Chosen} (m : ℕ) → x ≡ Some chosen → m ≡ n + 1 → PickedAs dir (urls_picked root library sheet row).0 (Some (record { slot = j + 1; proto = chosen.id })) m
         try_proto {chosen} m e is_mark =
-            let y : Leads (rows library) (record { number = number_of dir (j + 1); row = row_of dir (j + 1) }) r.b (Some chosen) = rw e at l in
-            let f = lead_number (rows library) (record { number = number_of dir (j + 1); row = row_of dir (j + 1) }) r.b chosen y in
+            let y : Leads (rows library) (source_in (number_of dir (j + 1)) (row_of dir (j + 1))) (optional r.b) (Some chosen) = rw e at l in
+            let f = lead_number (rows library) (number_of dir (j + 1)) (row_of dir (j + 1)) (optional r.b) chosen y in
             let g : ◌≡◌ {A = Picked} (urls_picked root library sheet row) (some (record { document = chosen.document; proto = chosen.id.0; url = n }), F) = step ∙ rw e in
             let z : (urls_picked root library sheet row).0 ≡ some (record { document = chosen.document; proto = chosen.id.0; url = n }) = ap (λ (o : Picked). o.0) g in
             rw z (record {
@@ -159,7 +160,10 @@ module _ {root library dir : List ℕ} (d : Directory root library dir) where
 
   -- ---- an extern of a slot's document
 
-  module _ {s : ℕ} (h : Slot dir s) {id : ℕ} {x : Found} (l : Looked extern_proto_of (document_at (rows (sheet_of root library (number_of dir s))) (row_of dir s)).extern_protos (rows (sheet_of root library (number_of dir s))) id x) where
+  module _ {s : ℕ} (h : Slot dir s) (id : ℕ) {x : Found} (located : Located extern_proto_of (extern_proto_at (root_and_files root library) (number_of dir s) id) (rows (sheet_of root library (number_of dir s))) x) where
+    l : Looked extern_proto_of (document_at (rows (sheet_of root library (number_of dir s))) (row_of dir s)).extern_protos (rows (sheet_of root library (number_of dir s))) id x
+    l = extern_looked root library (number_of dir s) (row_of dir s) (d.begins s h) located
+
     abbrev wanted : Option Pick
     wanted = pick_of (document_of (rows root)) (files_of (rows library)) (number_of dir s) id
 

@@ -46,8 +46,11 @@ mark_in (Some x) = x.mark
 mark_in None = 0
 
 -- a pick in two words: its mark and its slot, or 0 for a plain node, and the PROTO's id
+abbrev pub target_said : ℕ → ℕ → Maybe Target
+target_said x y = choose (eqb x 0) None (Some (record { slot = x % 65; proto = record { 0 = y } }))
+
 abbrev pub target_at : List ℕ → ℕ → Maybe Target
-target_at w p = choose (eqb (get_or w p 0) 0) None (Some (record { slot = get_or w p 0 % 65; proto = record { 0 = get_or w (p + 1) 0 } }))
+target_at w p = target_said (get_or w p 0) (get_or w (p + 1) 0)
 
 abbrev pub mark_at : List ℕ → ℕ → ℕ
 mark_at w p = get_or w p 0 / 65

@@ -19,11 +19,13 @@ ghost use Rattle.source_lookup.specs.Sourced.{Sourced};
 
 use ast::{ExternProtoId, NodeId, ProtoId};
 use instance::Target;
+use sheet_rows::codes;
 use sheet_walks::walk::Found;
 use source_directory;
-use words_lent::wide;
+use source_directory::indexes::Group;
 
 // What an expansion reads: the two sheets, and the directory of their documents.
+// Kept: the words are lent at each call, since the expansion writes its journal to others of them between two calls.
 #[derive(Clone, Copy)]
 pub struct Sources<'a> {
     pub root: &'a [u32],
@@ -32,12 +34,14 @@ pub struct Sources<'a> {
 }
 
 impl Sources<'_> {
+    // Kept: three names, a line each. Document 01 has Document::node, proto and extern_proto, each of its own id and element.
+
     // Document::node, of the document of a slot.
     pub fn node(&self, work: &[u32], slot: u32, id: NodeId) -> Found
         requires { Sourced self.now.root.now self.now.library.now self.now.dir.now work.now × Slot self.now.dir.now slot }
         ensures { Located node_of (node_at (root_and_files self.now.root.now self.now.library.now) (number_of self.now.dir.now slot) id.0) (rows (sheet_of self.now.root.now self.now.library.now (number_of self.now.dir.now slot))) result }
     {
-        self.locate(work, slot, 0, id.0)
+        self.locate(work, slot, Group::Nodes, id.0)
     }
 
     // Document::proto.
@@ -45,7 +49,7 @@ impl Sources<'_> {
         requires { Sourced self.now.root.now self.now.library.now self.now.dir.now work.now × Slot self.now.dir.now slot }
         ensures { Located proto_of (proto_at (root_and_files self.now.root.now self.now.library.now) (number_of self.now.dir.now slot) id.0) (rows (sheet_of self.now.root.now self.now.library.now (number_of self.now.dir.now slot))) result }
     {
-        self.locate(work, slot, 1, id.0)
+        self.locate(work, slot, Group::Protos, id.0)
     }
 
     // Document::extern_proto.
@@ -53,21 +57,21 @@ impl Sources<'_> {
         requires { Sourced self.now.root.now self.now.library.now self.now.dir.now work.now × Slot self.now.dir.now slot }
         ensures { Located extern_proto_of (extern_proto_at (root_and_files self.now.root.now self.now.library.now) (number_of self.now.dir.now slot) id.0) (rows (sheet_of self.now.root.now self.now.library.now (number_of self.now.dir.now slot))) result }
     {
-        self.locate(work, slot, 2, id.0)
+        self.locate(work, slot, Group::Externs, id.0)
     }
 
-    // What a node of a slot's document is an instance of, by its origin: 0 Builtin, 1 Proto, 2 ExternProto, 3 Unknown.
+    // What a node of a slot's document is an instance of, by its origin, as its row's column has it.
     pub fn target(&self, work: &[u32], slot: u32, origin: u32, id: u32) -> Option<Target>
         requires { Sourced self.now.root.now self.now.library.now self.now.dir.now work.now × Slot self.now.dir.now slot }
         ensures { Targeted self.now.dir.now (prototype_in (document_of (rows self.now.root.now)) (files_of (rows self.now.library.now)) (number_of self.now.dir.now slot) (origin_from origin id)) result }
     {
-        if origin == 1 {
+        if origin == codes::origin::PROTO {
             return Some(Target {
                 slot,
                 proto: ProtoId(id),
             });
         }
-        if origin == 2 {
+        if origin == codes::origin::EXTERN_PROTO {
             let picked = self.picked(work, slot, ExternProtoId(id))?;
             return Some(picked.target);
         }
@@ -75,6 +79,7 @@ impl Sources<'_> {
     }
 
     // The mark of the url that the pick of an extern of a slot's document took: its index with one added, 0 where there is no pick.
+    // Kept: a number and no Option. It is a word of the extern's record, 0 where no url was taken.
     pub fn mark(&self, work: &[u32], slot: u32, id: ExternProtoId) -> u32
         requires { Sourced self.now.root.now self.now.library.now self.now.dir.now work.now × Slot self.now.dir.now slot }
         ensures { result ≡ mark_of (url_taken (pick_of (document_of (rows self.now.root.now)) (files_of (rows self.now.library.now)) (number_of self.now.dir.now slot) id.0)) }
@@ -93,11 +98,13 @@ impl Sources<'_> {
         let number = source_directory::number(self.dir, slot);
         let sheet = sheet_lookup::rows::select(self.root, self.library, number);
         let i = source_names::place_of(self.root, number, node);
-        if i < wide(self.dir[source_directory::SPREAD]) {
-            let at = wide(work[wide(self.dir[source_directory::NAMES]) + i]);
+        if i < self.dir[source_directory::SPREAD] as usize {
+            let at = work[self.dir[source_directory::NAMES] as usize + i] as usize;
             if 0 < at {
-                if wide(work[at]) == node {
-                    return source_names::named(sheet, work, at + 2, wide(work[at + 1]), node, name);
+                if work[at] as usize == node {
+                    let fields = at + 2;
+                    let end = fields + work[at + 1] as usize;
+                    return source_names::named(sheet, &work[fields..end], node, name);
                 }
             }
         }

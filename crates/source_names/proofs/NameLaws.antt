@@ -3,11 +3,10 @@ use mathlib.Core.Path.{◌≡◌, refl, sym, ap, ◌∙◌}
 use mathlib.Core.Bool.{cond}
 use mathlib.Core.List.{List, [], ◌∷◌, ◌++◌}
 use mathlib.Core.Option.{Option, none, some}
-use Prim.Native.Nat.{ℕ, suc, ◌+◌, ◌-◌, ◌*◌, ◌≤◌, ◌<◌, ◌/◌}
+use Prim.Native.Nat.{ℕ, ◌+◌, ◌-◌, ◌*◌, ◌≤◌, ◌<◌, ◌/◌}
 use native.Mathlib.Omega.{arith}
-use native.Mathlib.Numerals.{add-one}
 use native.Mathlib.Decide.{ℕ_discrete}
-use lib.ListN.{length, get_or, take, drop, set, length-set, length-drop, length-append, get_or-append}
+use lib.ListN.{length, get_or, take, drop, set, length-set, length-drop, get_or-append}
 use lib.Seq.{length-take-le, get_or-set_same, get_or-set_other, get_or-take, get_or-drop, ext_get_or}
 use lib.Dec.{eqb}
 use borrow.Author.Tests.{eq-eqb, ne_eqb, le-leb, lt-leb}
@@ -32,7 +31,7 @@ use Rattle.ast.proofs.OptionLaws.{or_assoc, or_none_lem}
 use Rattle.expansion_definition.specs.Input.{last_field}
 use Rattle.words_lent.specs.Words.{Outside, Cleared}
 use Rattle.words_lent.proofs.WordLaws.{stays, stays_set, stays_on, stays_wide, stays_front}
-use Rattle.source_names.specs.Names.{LastField, name_of, FieldRows, NameTable, NodeTabled, table_sheet, TablesListed, FieldsUpto, FieldsListed, TablesGrown}
+use Rattle.source_names.specs.Names.{LastField, name_of, NameTable, NodeTabled, table_sheet, TablesListed, FieldsListed, TablesGrown}
 
 -- ---- the fields of a node
 pub fields_at : {R : List Row} {p q : ℕ} → Stands Fields R p q → fields_of (drop p R) ≡ field_of (drop q R) ∷ fields_of (drop (q + 1) R)
@@ -131,15 +130,28 @@ fill_at e f = rw e at f
 
 -- ---- what a table tells
 
-module _ {sheet w : List ℕ} {n count at : ℕ} (t : NameTable sheet n count w at) (within : at + count ≤ length w) where
-  sorted_is : take count (drop at w) ≡ sort_by (name_of sheet) t.fields
+module _ {sheet w : List ℕ} {n : ℕ} (t : NameTable sheet n (length w) w 0) where
+  sorted_is : w ≡ sort_by (name_of sheet) t.fields
   sorted_is =
-      let a = length-take-le count (drop at w) (omega (arith, length-drop at w)) in
-      ext_get_or 0 (take count (drop at w)) (sort_by (name_of sheet) t.fields) (omega (arith, a, sort_length (name_of sheet) t.fields, t.long))
-      (λ i h. let g : i < count = omega (arith, a) in get_or-take count (drop at w) i 0 g ∙ get_or-drop at w i 0 ∙ t.sorted i g)
+      ext_get_or 0 w (sort_by (name_of sheet) t.fields) (omega (arith, sort_length (name_of sheet) t.fields, t.long))
+      (λ i h. let z : 0 + i ≡ i = omega arith in rw z at (t.sorted i h))
 
-  pub named_is : {c m : ℕ} {x : Found} → IsLast (name_of sheet) m (take c (drop at w)) x → c ≡ count → LastField m (rows sheet) n x
-  named_is {m = m} l e = rw (l.is t.fields (rw e sorted_is)) (t.tells m)
+  pub named_is : {m : ℕ} {x : Found} → IsLast (name_of sheet) m w x → LastField m (rows sheet) n x
+  named_is {m} l = rw (l.is t.fields sorted_is) (t.tells m)
+
+-- it is a table alone too
+pub table_alone : {sheet w : List ℕ} {n count at c : ℕ} → NameTable sheet n count w at → at + count ≤ length w → c ≡ count → NameTable sheet n (length (take c (drop at w))) (take c (drop at w)) 0
+table_alone {sheet} {w} {at = at} {c} t within e =
+    let a = length-take-le c (drop at w) (omega (arith, e, length-drop at w)) in
+    record {
+      fields = t.fields;
+      long = omega (arith, t.long, e, a);
+      sorted = λ i h.
+          let g : i < c = omega (arith, a) in
+          let z : 0 + i ≡ i = omega arith in
+          rw z (get_or-take c (drop at w) i 0 g ∙ get_or-drop at w i 0 ∙ t.sorted i (omega (arith, e)));
+      tells = t.tells;
+    }
 
 -- a node's place is for its sheet
 module _ (root library : List ℕ) (n d : ℕ) where

@@ -9,14 +9,21 @@ ghost use Rattle.source_names.specs.Names.{LastField, NameTable, table_sheet, Ta
 
 use sheet_lookup::rows;
 use sheet_rows::part::Part;
-use sheet_rows::row;
-use sheet_sorted::Column;
+use sheet_rows::{codes, row};
+use sheet_sorted::{Column, NAME};
 use sheet_walks::walk;
 use sheet_walks::walk::Found;
-use words_lent::wide;
 
-// The column of a field's name.
-const NAME: u32 = 1;
+// Where the words of the tables stand: scratch up to `free`, the list of so many places from `at` on, the tables behind it up
+// to `end`.
+// Kept: places and no slices, since the lent words of the list and of a table hold places (no heap).
+#[derive(Clone, Copy)]
+pub struct Room {
+    pub free: usize,
+    pub at: usize,
+    pub many: usize,
+    pub end: usize,
+}
 
 // By a walk: the row of the last field of a name, of the node that stands at a row.
 pub fn walked(sheet: &[u32], node: usize, name: u32) -> Found
@@ -32,17 +39,16 @@ pub fn walked(sheet: &[u32], node: usize, name: u32) -> Found
     best
 }
 
-// By the node's table, of so many fields, whose rows stand from a place on.
-pub fn named(sheet: &[u32], work: &[u32], at: usize, count: usize, node: usize, name: u32) -> Found
-    requires { (at + count ≤ length work.now) × NameTable sheet.now node count work.now at }
+// By the node's table: the rows of its fields, sorted by name.
+pub fn named(sheet: &[u32], table: &[u32], node: usize, name: u32) -> Found
+    requires { NameTable sheet.now node (length table.now) table.now 0 }
     ensures { LastField name (rows sheet.now) node result }
 {
-    let end = at + count;
     let names = Column {
         sheet,
         number: NAME,
     };
-    names.last(&work[at..end], name)
+    names.last(table, name)
 }
 
 // The place in the list for a node of the document of a number.
@@ -88,43 +94,40 @@ fn fill(sheet: &[u32], node: usize, work: &mut [u32], at: usize, end: usize) -> 
 }
 
 // Writes the table of a node of the document of a number to the words from place on, if it is an instance of many rows and
-// there is room; the place after it. The words up to free are scratch.
+// there is room; the place after it.
 fn add<'a>(
     root: &'a [u32],
     library: &'a [u32],
     number: u32,
     node: usize,
     work: &mut [u32],
-    free: usize,
-    at: usize,
-    many: usize,
+    room: Room,
     place: usize,
-    end: usize,
 ) -> usize
-    requires root_len_bound { (length root.now ≤ 8 * 1048576) × (length library.now ≤ 8 * 1048576) × (node < length (rows (sheet_of root.now library.now number))) × (free ≤ at) × (place ≤ end) × (end ≤ length work.old) × (end ≤ 4294967295) }
-    requires tables_listed { TablesListed root.now library.now work.old at many place }
-    ensures { TablesGrown root.now library.now free at many place end result work.old work.new }
+    requires root_len_bound { (length root.now ≤ 8 * 1048576) × (length library.now ≤ 8 * 1048576) × (node < length (rows (sheet_of root.now library.now number))) × (room.free ≤ room.at) × (place ≤ room.end) × (room.end ≤ length work.old) × (room.end ≤ 4294967295) }
+    requires tables_listed { TablesListed root.now library.now work.old room.at room.many place }
+    ensures { TablesGrown root.now library.now room.free room.at room.many place room.end result work.old work.new }
 {
     let sheet = rows::select(root, library, number);
-    if row::row_at(sheet, node).c == 0 {
+    if row::row_at(sheet, node).c == codes::origin::BUILTIN {
         return place;
     }
     let i = place_of(root, number, node);
-    if many <= i {
+    if room.many <= i {
         return place;
     }
     if narrow(sheet, node) {
         return place;
     }
-    if end - place < 2 {
+    if room.end - place < 2 {
         return place;
     }
     let list = place + 2;
-    let Some(next) = fill(sheet, node, work, list, end) else {
+    let Some(next) = fill(sheet, node, work, list, room.end) else {
         return place;
     };
     let count = next - list;
-    if free < count / 2 {
+    if room.free < count / 2 {
         return place;
     }
     let names = Column {
@@ -134,7 +137,7 @@ fn add<'a>(
     names.sort(&mut work[..next], list);
     work[place] = node as u32;
     work[place + 1] = count as u32;
-    work[at + i] = place as u32;
+    work[room.at + i] = place as u32;
     next
 }
 
@@ -145,20 +148,17 @@ pub fn build<'a>(
     number: u32,
     row: usize,
     work: &mut [u32],
-    free: usize,
-    at: usize,
-    many: usize,
+    room: Room,
     place: usize,
-    end: usize,
 ) -> usize
-    requires root_len_bound { (length root.now ≤ 8 * 1048576) × (length library.now ≤ 8 * 1048576) × (row ≤ 4294967295) × (free ≤ at) × (place ≤ end) × (end ≤ length work.old) × (end ≤ 4294967295) }
-    requires tables_listed { TablesListed root.now library.now work.old at many place }
-    ensures { TablesGrown root.now library.now free at many place end result work.old work.new }
+    requires root_len_bound { (length root.now ≤ 8 * 1048576) × (length library.now ≤ 8 * 1048576) × (row ≤ 4294967295) × (room.free ≤ room.at) × (place ≤ room.end) × (room.end ≤ length work.old) × (room.end ≤ 4294967295) }
+    requires tables_listed { TablesListed root.now library.now work.old room.at room.many place }
+    ensures { TablesGrown root.now library.now room.free room.at room.many place room.end result work.old work.new }
 {
     let sheet = rows::select(root, library, number);
     let mut next = place;
     for node in walk::elements(sheet, Part::Nodes, row + 1) {
-        next = add(root, library, number, node, work, free, at, many, next, end);
+        next = add(root, library, number, node, work, room, next);
     }
     next
 }

@@ -2,12 +2,11 @@
 use mathlib.Core.Path.{◌≡◌, refl, sym, subst, ◌∙◌}
 use mathlib.Core.List.{List, ◌++◌}
 use mathlib.Core.Option.{Option, none, some}
-use Prim.Native.Nat.{ℕ, ◌+◌, ◌*◌, ◌/◌, ◌%◌, ◌≤◌, ◌<◌}
+use Prim.Native.Nat.{ℕ, ◌+◌, ◌*◌, ◌/◌, ◌≤◌, ◌<◌}
 use native.Mathlib.Omega.{arith}
 use native.Mathlib.Decide.{ℕ_discrete, dec_lt}
 use lib.ListN.{length, get_or, take, drop, set, length-set, get_or-append}
 use lib.Seq.{length-take-le, get_or-set_same, get_or-set_other, get_or-take}
-use borrow.Author.Tests.{ne_eqb}
 use Rattle.sheet_rows.specs.declared.row.Row.{Row}
 use Rattle.sheet_rows.specs.Rows.{rows}
 use Rattle.sheet_rows.specs.Parse.{document_of, files_of}
@@ -18,7 +17,7 @@ use Rattle.std.specs.Prelude.{Option as Maybe, Some, None}
 use Rattle.words_lent.specs.Words.{Outside}
 use Rattle.pick_memo.specs.Memo.{MemoSound}
 use Rattle.source_directory.specs.Directory.{size, base_count, picks_place, cache_of, from_of, end_of, number_of, group_of, Slot, Directory, HeldAt}
-use Rattle.source_lookup.specs.Instance.{Targeted, PickedAs, target_at, Packs}
+use Rattle.source_lookup.specs.Instance.{Targeted, PickedAs, target_at, target_said, Packs}
 use Rattle.source_lookup.specs.Sourced.{PickAt, SlotCached, Cached, Sourced}
 use Rattle.source_setup.specs.Prepared.{PickKept, NoneCached, CachedBefore, SlotAdded, PicksCached}
 use Rattle.pick_memo.proofs.MemoLaws.{kept_on}
@@ -30,25 +29,17 @@ use Rattle.source_lookup.proofs.SourcedLaws.{cache_wide, cache_on, sourced_on}
 
 -- ---- a pick in two words
 
-module _ (w : List ℕ) (at : ℕ) (h : at + 1 < length w) where
-  pub kept_of : (s p m : ℕ) → Packs (Some (record { slot = s; proto = record { 0 = p } })) m → PickKept w (set (set w at (m * 65 + s)) (at + 1) p) at (Some (record { slot = s; proto = record { 0 = p } })) m
-  kept_of s p m k =
-      let x = m * 65 + s in
-      let w₁ = set w at x in
-      let a : get_or (set w₁ (at + 1) p) at 0 ≡ x = get_or-set_other w₁ (at + 1) at p 0 (λ z. omega arith) ∙ get_or-set_same w at x 0 (omega arith) in
-      let b : get_or (set w₁ (at + 1) p) (at + 1) 0 ≡ p = get_or-set_same w₁ (at + 1) p 0 (omega (arith, length-set w at x)) in
-      let c : (m * 65 + s) % 65 ≡ s = omega (arith, k.2) in
-      let d : (m * 65 + s) / 65 ≡ m = omega (arith, k.2) in
-      record {
-        target = rw (a, b, ne_eqb (m * 65 + s) 0 (λ z. omega (arith, k.0)), c);
-        mark = rw (a, d);
-        stays = stays_on at (at + 2) (stays_set {a = at} {b = at + 1} w at x (omega arith) (omega arith)) (stays_set {a = at + 1} {b = at + 2} w₁ (at + 1) p (omega arith) (omega arith)) (omega arith) (omega arith) (omega arith) (omega arith);
-      }
-
-  pub kept_plain : {m : ℕ} → m ≡ 0 → PickKept w (set w at 0) at None m
-  kept_plain k =
-      let a : get_or (set w at 0) at 0 ≡ 0 = get_or-set_same w at 0 0 (omega arith) in
-      record { target = rw a; mark = rw (a, k); stays = stays_set w at 0 (omega arith) (omega arith) }
+-- it is read as it was written
+pub kept_words : (w : List ℕ) (at : ℕ) → at + 1 < length w → (x y : ℕ) {t : Maybe Target} {m : ℕ} → target_said x y ≡ t → x / 65 ≡ m → PickKept w (set (set w at x) (at + 1) y) at t m
+kept_words w at h x y e f =
+    let w₁ = set w at x in
+    let a : get_or (set w₁ (at + 1) y) at 0 ≡ x = get_or-set_other w₁ (at + 1) at y 0 (λ z. omega arith) ∙ get_or-set_same w at x 0 (omega arith) in
+    let b : get_or (set w₁ (at + 1) y) (at + 1) 0 ≡ y = get_or-set_same w₁ (at + 1) y 0 (omega (arith, length-set w at x)) in
+    record {
+      target = rw (a, b, e);
+      mark = rw (a, f);
+      stays = stays_on at (at + 2) (stays_set {a = at} {b = at + 1} w at x (omega arith) (omega arith)) (stays_set {a = at + 1} {b = at + 2} w₁ (at + 1) y (omega arith) (omega arith)) (omega arith) (omega arith) (omega arith) (omega arith);
+    }
 
 -- a pick can be said so
 pub packs : {root library dir : List ℕ} {o : Option Pick} (x : Maybe Target) {m : ℕ} → Directory root library dir → m ≤ 1048576 → PickedAs dir o x m → Packs x m
@@ -93,13 +84,6 @@ before_first {root} {library} {dir} {w} {m} {at} {lo} ys n k e f g =
     }
 
 -- ---- the picks of a slot
-
--- it stands for a document
-pub slot_file : {dir : List ℕ} {s : ℕ} → s ≤ base_count dir → (number_of dir s ≡ 0 → ⊥) → Slot dir s
-slot_file h n = record { upto = h; real = λ z. omega (arith, n) }
-
-pub slot_first : {dir : List ℕ} {s : ℕ} → s ≤ base_count dir → s ≤ 0 → Slot dir s
-slot_first h n = record { upto = h; real = λ z. absurd (omega arith) }
 
 module _ {root library dir w₀ : List ℕ} {m₀ : Memo} {s at : ℕ} (b : CachedBefore root library dir w₀ m₀ s at) where
   pub add_start : SlotAdded root library dir w₀ w₀ m₀ s at at

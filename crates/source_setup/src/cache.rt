@@ -10,20 +10,15 @@ use sheet_walks::walk::Found;
 use source_directory;
 use source_lookup::Sources;
 use source_lookup::instance::Taken;
-use words_lent::wide;
 
-// A pick is kept in two words: its mark * 65 + its slot, or 0 for a plain node; the PROTO's id.
+// Writes a pick to the two words at a place.
 fn keep(pick: Option<Taken>, work: &mut [u32], at: usize)
     requires { (at + 1 < length work.old) × Packs (target_in pick) (mark_in pick) }
     ensures { PickKept work.old work.new at (target_in pick) (mark_in pick) }
 {
-    match pick {
-        Some(taken) => {
-            work[at] = taken.mark * 65 + taken.target.slot;
-            work[at + 1] = taken.target.proto.0;
-        }
-        None => work[at] = 0,
-    }
+    let (word, proto) = Taken::pack(pick);
+    work[at] = word;
+    work[at + 1] = proto;
 }
 
 // Writes the picks of the externs of a slot's document, in order, to the words from a place on, while the region has room; the
@@ -38,26 +33,21 @@ fn of_slot(
     requires { CachedBefore sources.now.root.now sources.now.library.now sources.now.dir.now work.old memo.old slot place × (slot ≤ base_count sources.now.dir.now) }
     ensures { SlotAdded sources.now.root.now sources.now.library.now sources.now.dir.now work.old work.new memo.new slot place result }
 {
-    if 0 < slot {
-        if source_directory::number(sources.dir, slot) == 0 {
-            return place;
-        }
+    if source_directory::document(sources.dir, slot as usize).is_none() {
+        return place;
     }
-    let from = wide(sources.dir[source_directory::FROM]);
-    let end = wide(sources.dir[source_directory::END]);
-    let mut at = place;
-    let mut i = 0;
-    // Kept: the loop ends at the room's end or at the last extern, and a count of the pairs that fit is no plainer.
-    while at + 2 <= end {
-        let Found::At(row) = sources.slot_extern(work, slot, ExternProtoId(i)) else {
+    let from = sources.dir[source_directory::FROM] as usize;
+    let end = sources.dir[source_directory::END] as usize;
+    let room = (end - place) / 2;
+    for i in 0..room {
+        let at = place + 2 * i;
+        let Found::At(row) = sources.extern_proto(work, slot, ExternProtoId(i as u32)) else {
             return at;
         };
         let pick = sources.pick_row(slot, row, memo, &mut work[..from]);
         keep(pick, work, at);
-        i += 1;
-        at += 2;
     }
-    at
+    place + 2 * room
 }
 
 // Adds the picks of all documents to the cache, the root's first, while the region has room.
@@ -65,13 +55,13 @@ pub fn remember<'a>(root: &'a [u32], library: &'a [u32], dir: &mut [u32], work: 
     requires { NoneCached root.now library.now dir.old work.old }
     ensures { PicksCached root.now library.now dir.old dir.new work.old work.new }
 {
-    let from = wide(dir[source_directory::FROM]);
+    let from = dir[source_directory::FROM] as usize;
     let count = dir[source_directory::COUNT];
     let mut memo = Memo::fresh(&mut work[..from]);
-    let mut at = wide(dir[source_directory::PICKS]);
+    let mut at = dir[source_directory::PICKS] as usize;
     for slot in 0..=count {
         let sources = Sources { root, library, dir };
         at = of_slot(&sources, work, slot, at, &mut memo);
-        dir[source_directory::PICKS + (wide(slot) + 1)] = at as u32;
+        dir[source_directory::PICKS + (slot as usize + 1)] = at as u32;
     }
 }

@@ -1,6 +1,6 @@
 #![tactic(auto)]
-// What `source` answers by is written here: the directory, and in the lent words the indexes, the tables of names and the cache of
-// picks.
+// What `source_lookup` answers by is written here: the directory, and in the lent words the indexes, the tables of names and the
+// cache of picks.
 mod cache;
 mod listing;
 
@@ -27,6 +27,9 @@ fn write_directory<'a>(
     dir[source_directory::FROM] = at as u32;
     dir[source_directory::END] = (at + len) as u32;
 }
+
+// Kept: places and no slices. What is written says places, counted from the first of all the words, and the scratch is lent
+// with them.
 
 // Writes the directory, and to the words [at, at + len) of work the indexes, the tables of names and the cache of picks.
 // The words before them are scratch; those after them stay.

@@ -5,7 +5,7 @@ ghost use Rattle.source_directory.specs.Directory.{size, base_count};
 ghost use Rattle.source_setup.specs.Listing.{Listing};
 
 use source_directory;
-use words_lent::wide;
+use source_names::Room;
 
 // Writes the tables of a slot's document to the words from place on; the place after them.
 fn of_slot<'a>(
@@ -14,45 +14,36 @@ fn of_slot<'a>(
     dir: &[u32],
     slot: usize,
     work: &mut [u32],
-    free: usize,
-    at: usize,
-    many: usize,
+    room: Room,
     place: usize,
-    end: usize,
 ) -> usize
-    requires root_len_bound { (length root.now ≤ 8 * 1048576) × (length library.now ≤ 8 * 1048576) × (size ≤ length dir.now) × (slot < 65) × (free ≤ at) × (place ≤ end) × (end ≤ length work.old) × (end ≤ 4294967295) }
-    requires tables_listed { TablesListed root.now library.now work.old at many place }
-    ensures { TablesGrown root.now library.now free at many place end result work.old work.new }
+    requires root_len_bound { (length root.now ≤ 8 * 1048576) × (length library.now ≤ 8 * 1048576) × (size ≤ length dir.now) × (slot < 65) × (room.free ≤ room.at) × (place ≤ room.end) × (room.end ≤ length work.old) × (room.end ≤ 4294967295) }
+    requires tables_listed { TablesListed root.now library.now work.old room.at room.many place }
+    ensures { TablesGrown root.now library.now room.free room.at room.many place room.end result work.old work.new }
 {
-    let number = dir[slot];
-    if 0 < slot {
-        if number == 0 {
-            return place;
-        }
-    }
-    let row = wide(dir[source_directory::ROWS + slot]);
-    source_names::build(root, library, number, row, work, free, at, many, place, end)
+    let Some(number) = source_directory::document(dir, slot) else {
+        return place;
+    };
+    let row = dir[source_directory::ROWS + slot] as usize;
+    source_names::build(root, library, number, row, work, room, place)
 }
 
-// Writes the list of so many places to the words from at on, and the tables of all documents behind it; the place after them.
+// Writes the list, and the tables of all documents behind it; the place after them.
 fn of_all<'a>(
     root: &'a [u32],
     library: &'a [u32],
     dir: &[u32],
     work: &mut [u32],
-    free: usize,
-    at: usize,
-    many: usize,
-    end: usize,
+    room: Room,
 ) -> usize
-    requires { (length root.now ≤ 8 * 1048576) × (length library.now ≤ 8 * 1048576) × (size ≤ length dir.now) × (base_count dir.now ≤ 64) × (free ≤ at) × (at + many ≤ end) × (end ≤ length work.old) × (end ≤ 4294967295) }
-    ensures { TablesGrown root.now library.now free at many at end result work.old work.new }
+    requires { (length root.now ≤ 8 * 1048576) × (length library.now ≤ 8 * 1048576) × (size ≤ length dir.now) × (base_count dir.now ≤ 64) × (room.free ≤ room.at) × (room.at + room.many ≤ room.end) × (room.end ≤ length work.old) × (room.end ≤ 4294967295) }
+    ensures { TablesGrown root.now library.now room.free room.at room.many room.at room.end result work.old work.new }
 {
-    words_lent::clear(work, at, at + many);
-    let count = wide(dir[source_directory::COUNT]);
-    let mut place = at + many;
+    words_lent::clear(work, room.at, room.at + room.many);
+    let count = dir[source_directory::COUNT] as usize;
+    let mut place = room.at + room.many;
     for slot in 0..=count {
-        place = of_slot(root, library, dir, slot, work, free, at, many, place, end);
+        place = of_slot(root, library, dir, slot, work, room, place);
     }
     place
 }
@@ -83,5 +74,11 @@ pub fn list<'a>(
         return at;
     }
     dir[source_directory::SPREAD] = many as u32;
-    of_all(root, library, dir, work, free, at, many, end)
+    let room = Room {
+        free,
+        at,
+        many,
+        end,
+    };
+    of_all(root, library, dir, work, room)
 }

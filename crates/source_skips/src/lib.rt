@@ -4,7 +4,7 @@
 
 // What a walk looks for: the end of a prototype, or the body order of a node; of a body the Node, ExternProto and Route
 // statements; of a node the ExternProto and Route statements; of a prototype the interfaces with a value; the interfaces.
-#[derive(Clone, Copy)]
+#[derive(Clone, Copy, Debug, PartialEq, Eq)]
 pub enum Aim {
     End,
     Body,

@@ -1,12 +1,10 @@
 // What a case is made of: two lines of numbers, then the rows of its sheets as lines.
+// Kept: a count of lines beside the lent words; the words behind those that are read stay, for the cases to come.
 ghost use Rattle.std.specs.Prelude.{◌≡◌};
 ghost use Rattle.test_cases.specs.Frame.{call_read, or_stay, Text, Lines, SheetRead};
 
 use std::io;
-use text_lines::{LINE, ReadError};
-
-// The words of a row.
-const WORDS: usize = 8;
+use text_lines::{LINE, ReadError, WORDS};
 
 // Why a case is malformed.
 #[derive(Clone, Copy, Debug, PartialEq, Eq)]
@@ -27,7 +25,7 @@ impl From<ReadError> for FrameError {
 
 // What Expand is called with: the limits, the words of both sheets and of what is lent, and the rows of each sheet that are
 // kept from the cases before.
-#[derive(Clone, Copy)]
+#[derive(Clone, Copy, Debug, PartialEq, Eq)]
 pub struct Call {
     pub max_nodes: u32,
     pub max_depth: u32,

@@ -17,7 +17,7 @@ pub fn of_words(before: u32, words: &[u32]) -> u32
 }
 
 // The same of bytes.
-// Kept: a generic function would bound what an element's number is, and be no plainer than this second fold.
+// Kept: a function over any element would need a bound for its number, and be longer than this fold.
 pub fn of_bytes(before: u32, bytes: &[u8]) -> u32
     ensures { result ≡ checksum_of before bytes.now }
 {

@@ -1,5 +1,6 @@
 #![tactic(auto)]
 // The ten flights of document 01 ("Flights to prove"), run through the code: each function's contract is its flight's answer.
+// Kept: a function to each flight, some alike but for numbers; the numbers are the flight, and stand with their contract.
 mod instances;
 mod loops;
 mod plain;

@@ -6,6 +6,7 @@ ghost use Rattle.test_flights.specs.Flights.{flight_answer};
 use expander_run::{Expanded, Refusal};
 
 // Expand on some rows, with no library and 400 charges.
+// Kept: the program `expand` makes such a call with its own limits. A function of both would be a library crate for one call.
 pub fn answer<'a>(root: &'a [u32], nodes: u32, depth: u32) -> Result<Expanded, Refusal>
     ensures { numbers_of result ≡ flight_answer root.now nodes depth }
 {

@@ -2,6 +2,7 @@
 // Runs the stored cases of Expand on standard input and writes a line for each: refusal, its places, nodes, scopes,
 // charges, rows, and a sum over out, ledger and scopes as they stand after the call. vectors/README.md says what a case is
 // made of.
+// Kept: the sheets and the lent slices as parameters, as Expand has them; the slices are local arrays (no heap).
 use std::io::Read;
 use test_cases::frame::{Call, FrameError};
 use test_cases::{answer, fill, frame};
@@ -17,10 +18,10 @@ fn run<'a>(
     scopes: &mut [u32],
     work: &mut [u32],
 ) {
-    fill::fill(out, 1509949440, 1);
-    fill::fill(ledger, 1526726656, 1);
-    fill::fill(scopes, 1543503872, 1);
-    fill::fill(work, 0, 2654435761);
+    fill::fill(out, 0x5A000000, 1);
+    fill::fill(ledger, 0x5B000000, 1);
+    fill::fill(scopes, 0x5C000000, 1);
+    fill::fill(work, 0, 0x9E3779B1);
     let outcome = expander_call::expand(
         root,
         library,

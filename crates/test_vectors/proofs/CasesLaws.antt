@@ -2,16 +2,26 @@
 use mathlib.Core.Path.{◌≡◌, refl}
 use mathlib.Core.Bool.{Bool, true, false, ◌&&◌}
 use mathlib.Core.List.{List}
-use Rattle.std.specs.Prelude.{Option, Some, None}
-use Prim.Native.Nat.{ℕ, ◌+◌, ◌-◌, ◌/◌, ◌≤◌, ◌<◌}
+use Rattle.std.specs.Prelude.{Option, Some, None, Ok, Err}
+use Prim.Native.Nat.{ℕ, zero, suc, ◌+◌, ◌-◌, ◌/◌, ◌≤◌, ◌<◌}
 use native.Mathlib.Omega.{arith}
 use borrow.Author.Tests.{le-leb, lt-leb}
 use lib.Dec.{leb}
 use lib.ListN.{length}
 use Rattle.ast.specs.Choice.{choose}
 use Rattle.sheet_rows.specs.declared.row.Row.{Row}
+use Rattle.sheet_check.specs.declared.grammar.UnknownForm.{UnknownForm}
+use Rattle.sheet_check.specs.Grammar.{form_of}
 use Rattle.test_vectors.specs.Frame.{rows_read}
 use Rattle.test_vectors.specs.Cases.{check_at, read_at, write_at, lookup_at}
+
+-- a number of no form is none of the first three
+pub formless : (n : ℕ) {u : UnknownForm} → Err u ≡ form_of n → 2 < n
+unfolding form_of
+formless zero e = absurd (cc)
+formless (suc zero) e = absurd (cc)
+formless (suc (suc zero)) e = absurd (cc)
+formless (suc (suc (suc n))) e = omega arith
 
 -- none either way
 either : (b : Bool) → choose {A = Option ℕ} b None None ≡ None

@@ -1,16 +1,10 @@
 -- The place after a case's data, if the case is well formed, and the lent words then.
-use Rattle.std.specs.Prelude.{Bool, Option, Some, None, ◌&&◌, List, ℕ, ◌+◌, ◌/◌, leb, eqb, length}
+use Rattle.std.specs.Prelude.{Bool, Option, Some, None, ◌&&◌, List, ℕ, ◌+◌, ◌/◌, leb, length}
 use Rattle.ast.specs.Choice.{choose}
 use Rattle.sheet_rows.specs.declared.row.Row.{Row}
-use Rattle.sheet_check.specs.declared.grammar.Form.{Form}
-use Rattle.sheet_check.specs.declared.grammar.Form.TheVariants.{Root, Library, Expanded}
 use Rattle.test_vectors.specs.Frame.{rows_read}
 
--- the form that a number names
-abbrev pub form_of : ℕ → Form
-form_of n = choose (eqb n 0) Root (choose (eqb n 1) Library Expanded)
-
--- check: one of three forms, and rows that hold the words of the sheet, which fit into those lent
+-- check: one of the first three forms, and rows that hold the words of the sheet, which fit into those lent
 unfoldable pub check_at : List ℕ → ℕ → Row → List ℕ → Option ℕ × List ℕ
 check_at input at h w =
     let x = rows_read input at h.c ((h.b + 7) / 8) w in

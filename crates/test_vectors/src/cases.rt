@@ -1,8 +1,10 @@
 // The cases, by their tag. Each prints its answer and hands back the place after its data, unless it is malformed.
+// Kept: the input, a place in it and a header as parameters; each function is called once, with what `case` has just read.
 ghost use Rattle.std.specs.Prelude.{◌≡◌};
-ghost use Rattle.test_vectors.specs.Cases.{form_of, check_at, read_at, write_at, lookup_at};
+ghost use Rattle.test_vectors.specs.Cases.{check_at, read_at, write_at, lookup_at};
 
 use super::frame;
+use super::frame::tag;
 use ast::{ExternProtoId, NodeId, ProtoId};
 use sheet_check::BadRow;
 use sheet_check::grammar::Form;
@@ -10,17 +12,31 @@ use sheet_lookup::document;
 use sheet_rows::row::Row;
 use sheet_walks::walk::Found;
 
+// What a lookup may ask for.
+mod wanted {
+    pub const NODE: u32 = 0;
+
+    pub const PROTO: u32 = 1;
+
+    pub const EXTERN_PROTO: u32 = 2;
+
+    pub const PROTO_ROWS: u32 = 3;
+}
+
 // Writes the line of a case.
 fn print(rt: &impl Print, tag: u32, a: u32, b: u32, c: u32, d: u32) {
     let text = frame::line(tag, a, b, c, d);
     let _ = rt.write_all(&text);
 }
 
-// 1 check: a form, b number of words, c number of rows kept; the other rows follow.
+// Check: a form, b number of words, c number of rows kept; the other rows follow.
 pub fn check(rt: &impl Print, input: &[u8], at: usize, h: Row, words: &mut [u32]) -> Option<usize>
     ensures { check_at input.now at h words.old ≡ (result, words.new) }
 {
     let n = h.b as usize;
+    let Ok(form) = Form::try_from(h.a) else {
+        return None;
+    };
     if 2 < h.a {
         return None;
     }
@@ -28,28 +44,18 @@ pub fn check(rt: &impl Print, input: &[u8], at: usize, h: Row, words: &mut [u32]
     if words.len() < n {
         return None;
     }
-    print_check(rt, sheet_check::check(&words[..n], form_of(h.a)));
+    print_check(rt, sheet_check::check(&words[..n], form));
     Some(next)
-}
-
-fn form_of(n: u32) -> Form
-    ensures { result ≡ form_of n }
-{
-    match n {
-        0 => Form::Root,
-        1 => Form::Library,
-        _ => Form::Expanded,
-    }
 }
 
 fn print_check(rt: &impl Print, checked: Result<(), BadRow>) {
     match checked {
-        Ok(()) => print(rt, 1, 0, 0, 0, 0),
-        Err(BadRow(place)) => print(rt, 1, 3, frame::word(place), 0, 0),
+        Ok(()) => print(rt, tag::CHECK, 0, 0, 0, 0),
+        Err(BadRow(place)) => print(rt, tag::CHECK, 3, frame::word(place), 0, 0),
     }
 }
 
-// 2 read lines: a number of bytes, b number of words lent; the bytes follow.
+// Read lines: a number of bytes, b number of words lent; the bytes follow.
 pub fn read(rt: &impl Print, input: &[u8], at: usize, h: Row) -> Option<usize>
     ensures { result ≡ read_at input.now at h }
 {
@@ -74,12 +80,19 @@ fn print_read(rt: &impl Print, text: &[u8], words: &mut [u32]) {
     let read = text_lines::read_lines(text, words);
     let sum = test_checksum::of_words(0, words);
     match read {
-        Ok(rows) => print(rt, 2, 0, 0, frame::word(rows), sum),
-        Err(error) => print(rt, 2, u32::from(error), frame::word(error.place()), 0, sum),
+        Ok(rows) => print(rt, tag::READ, 0, 0, frame::word(rows), sum),
+        Err(error) => print(
+            rt,
+            tag::READ,
+            u32::from(error),
+            frame::word(error.place()),
+            0,
+            sum,
+        ),
     }
 }
 
-// 3 write lines: a number of words, b number of bytes lent, c number of rows kept; the other rows follow.
+// Write lines: a number of words, b number of bytes lent, c number of rows kept; the other rows follow.
 pub fn write(rt: &impl Print, input: &[u8], at: usize, h: Row, words: &mut [u32]) -> Option<usize>
     ensures { write_at input.now at h words.old ≡ (result, words.new) }
 {
@@ -101,13 +114,12 @@ fn print_write(rt: &impl Print, words: &[u32], bytes: &mut [u8]) {
     let written = text_lines::write_lines(words, bytes);
     let sum = test_checksum::of_bytes(0, bytes);
     match written {
-        Ok(n) => print(rt, 3, 0, frame::word(n), sum, 0),
-        Err(error) => print(rt, 3, u32::from(error), 0, sum, 0),
+        Ok(n) => print(rt, tag::WRITE, 0, frame::word(n), sum, 0),
+        Err(error) => print(rt, tag::WRITE, u32::from(error), 0, sum, 0),
     }
 }
 
-// 4 lookup: a rows of the root, b rows of the library, c document, d what is looked up (0 node, 1 proto, 2 extern, 3 the rows
-// of a proto), e its id, f and g number of rows kept of each; the other rows follow.
+// Lookup: a rows of the root, b rows of the library, c document, d what is looked up, e its id, f and g number of rows kept of each; the other rows follow.
 pub fn lookup<'a>(
     rt: &impl Print,
     input: &[u8],
@@ -120,7 +132,7 @@ pub fn lookup<'a>(
 {
     let n = h.a as usize;
     let m = h.b as usize;
-    if 3 < h.d {
+    if wanted::PROTO_ROWS < h.d {
         return None;
     }
     let after_root = frame::rows(input, at, h.f, n, root)?;
@@ -140,9 +152,9 @@ fn print_lookup<'a>(rt: &impl Print, root: &'a [u32], library: &'a [u32], h: Row
     let which = h.d;
     let id = h.e;
     match which {
-        0 => print_found(rt, document::node(root, library, doc, NodeId(id))),
-        1 => print_found(rt, document::proto(root, library, doc, ProtoId(id))),
-        2 => print_found(
+        wanted::NODE => print_found(rt, document::node(root, library, doc, NodeId(id))),
+        wanted::PROTO => print_found(rt, document::proto(root, library, doc, ProtoId(id))),
+        wanted::EXTERN_PROTO => print_found(
             rt,
             document::extern_proto(root, library, doc, ExternProtoId(id)),
         ),
@@ -152,15 +164,15 @@ fn print_lookup<'a>(rt: &impl Print, root: &'a [u32], library: &'a [u32], h: Row
 
 fn print_found(rt: &impl Print, found: Found) {
     match found {
-        Found::At(row) => print(rt, 4, 1, frame::word(row), 0, 0),
-        Found::Nothing => print(rt, 4, 0, 0, 0, 0),
+        Found::At(row) => print(rt, tag::LOOKUP, 1, frame::word(row), 0, 0),
+        Found::Nothing => print(rt, tag::LOOKUP, 0, 0, 0, 0),
     }
 }
 
 fn print_part(rt: &impl Print, part: &[u32]) {
     print(
         rt,
-        4,
+        tag::LOOKUP,
         frame::word(part.len()),
         test_checksum::of_words(0, part),
         0,

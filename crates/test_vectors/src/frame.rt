@@ -1,12 +1,25 @@
 // What cases are made of: headers and rows as lines, and the lines of the answers.
+// Kept: a place and not the rest of the input: the line of a malformed case tells it.
 ghost use Rattle.std.specs.Prelude.{◌≡◌, min};
 ghost use Rattle.text_lines.specs.Write.{line as line_bytes};
 ghost use Rattle.test_vectors.specs.Frame.{lines_at, rows_read, case_numbers};
 
-use text_lines::LINE;
+use text_lines::{LINE, WORDS};
 
-// The words of a row.
-const WORDS: usize = 8;
+// The tags: what a case is, and 9, which is none.
+// Kept: numbers with names and no enum. A tag is read from a line and written in one, so an enum would be turned into a number
+// again at each answer; the same of what a lookup asks for.
+pub mod tag {
+    pub const CHECK: u32 = 1;
+
+    pub const READ: u32 = 2;
+
+    pub const WRITE: u32 = 3;
+
+    pub const LOOKUP: u32 = 4;
+
+    pub const MALFORMED: u32 = 9;
+}
 
 // A number for an answer; none of the cases has a longer one.
 pub fn word(n: usize) -> u32

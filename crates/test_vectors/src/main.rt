@@ -6,6 +6,7 @@ mod frame;
 
 ghost use Rattle.std.specs.Prelude.{◌≤◌, length};
 
+use frame::tag;
 use sheet_rows::row;
 use std::io::Read;
 
@@ -21,22 +22,23 @@ fn case<'a>(
     let data = frame::lines(input, at, 1, &mut header)?;
     let h = row::row_at(&header, 0);
     match h.kind {
-        1 => cases::check(rt, input, data, h, root),
-        2 => cases::read(rt, input, data, h),
-        3 => cases::write(rt, input, data, h, root),
-        4 => cases::lookup(rt, input, data, h, root, library),
+        tag::CHECK => cases::check(rt, input, data, h, root),
+        tag::READ => cases::read(rt, input, data, h),
+        tag::WRITE => cases::write(rt, input, data, h, root),
+        tag::LOOKUP => cases::lookup(rt, input, data, h, root, library),
         _ => None,
     }
 }
 
-// 9, which is no case, and the place of what is malformed.
+// The place of what is malformed.
 fn print_malformed(rt: &impl Print, at: u32) {
-    let text = frame::line(9, at, 0, 0, 0);
+    let text = frame::line(tag::MALFORMED, at, 0, 0, 0);
     let _ = rt.write_all(&text);
 }
 
 fn run<'a>(rt: &impl Print, input: &[u8], root: &'a mut [u32], library: &'a mut [u32]) {
     let mut at = 0;
+    // Kept: a case tells where the next begins, so the places are no range's, and a case that is malformed ends them.
     while at < input.len() {
         match case(rt, input, at, root, library) {
             Some(next) if at < next => at = next,
@@ -45,8 +47,8 @@ fn run<'a>(rt: &impl Print, input: &[u8], root: &'a mut [u32], library: &'a mut 
     }
 }
 
-// Kept: the loop reads into lent bytes; the library's reading to the end fills memory of its own, and there is no heap.
 // What a reader has, up to as many bytes as are lent: how many it gave. A read that fails counts as the end.
+// Kept: the loop reads into lent bytes; the library's reading to the end fills memory of its own, and there is no heap.
 fn read_full<R: Read>(reader: &mut R, bytes: &mut [u8]) -> usize
     ensures { result ≤ length bytes.old }
 {

@@ -1,15 +1,15 @@
 -- The bytes of a number, in any width: how many, stored one by one, and that different numbers have different bytes.
 use mathlib.Core.Path.{◌≡◌, refl, sym, ap, ◌∙◌}
-use mathlib.Core.List.{List, [], ◌∷◌, ◌++◌}
+use mathlib.Core.List.{List, [], ◌∷◌, ◌++◌, append-nil}
 use Prim.Native.Nat.{ℕ, zero, suc, ◌+◌, ◌-◌, ◌^◌, ◌/◌, ◌%◌, ◌≤◌, ◌<◌}
 use native.Mathlib.Omega.{arith}
 use native.Mathlib.Decide.{ℕ_discrete}
 use native.Mathlib.Nat.{pow-zero, pow-suc}
 use lib.ListN.{length, get_or, take, set, length-append, get_or-append}
-use lib.Seq.{sets, take_at, get_or_at}
+use lib.Seq.{sets, take_at, get_or_at, drop-length}
 use borrow.Author.Tests.{eq-eqb, ne_eqb}
-use Rattle.text_decimal.specs.Decimal.{digit_left, before, justified, spaces}
-use Rattle.text_decimal.proofs.StoreLaws.{sets_last}
+use Rattle.text_decimal.specs.Decimal.{digit_left, before, justified}
+use Rattle.text_decimal.proofs.StoreLaws.{sets_last, sets_front}
 
 -- ---- how many
 
@@ -25,43 +25,26 @@ justified_length (suc k) n = simp length-append (let h = before_length k (n / 10
 
 -- ---- stored from right to left
 
--- the last digit, stored first
-pub justified_put : (l : List ℕ) (at w n : ℕ) → 0 < w → sets (set l (at + (w - 1)) (48 + n % 10)) at (before (w - 1) (n / 10)) ≡ sets l at (justified w n)
-unfolding justified
-justified_put l at w n h =
-    let e : w ≡ suc (w - 1) = omega arith in
-    sym
-    (ap (λ (k : ℕ). sets l at (justified k n)) e ∙
-    sets_last l at (at + (w - 1)) (before (w - 1) (n / 10)) _ (ap (λ (k : ℕ). at + k) (before_length (w - 1) (n / 10))))
-
--- and each byte before the one stored last
-pub before_put : (l : List ℕ) (at i n : ℕ) → 0 < i → sets (set l (at + (i - 1)) (digit_left n)) at (before (i - 1) (n / 10)) ≡ sets l at (before i n)
+-- each byte before the one stored last
+pub before_put : (l : List ℕ) (i n : ℕ) → 0 < i → sets (set l (i - 1) (digit_left n)) 0 (before (i - 1) (n / 10)) ≡ sets l 0 (before i n)
 unfolding before
-before_put l at i n h =
+before_put l i n h =
     let e : i ≡ suc (i - 1) = omega arith in
-    sym
-    (ap (λ (k : ℕ). sets l at (before k n)) e ∙
-    sets_last l at (at + (i - 1)) (before (i - 1) (n / 10)) _ (ap (λ (k : ℕ). at + k) (before_length (i - 1) (n / 10))))
+    sym (ap (λ (k : ℕ). sets l 0 (before k n)) e ∙ sets_last l 0 (i - 1) (before (i - 1) (n / 10)) _ (omega (arith, before_length (i - 1) (n / 10))))
 
-pub before_end : (l : List ℕ) (at i n : ℕ) → i ≤ 0 → sets l at (before i n) ≡ l
+pub before_end : (l : List ℕ) (i n : ℕ) → i ≤ 0 → sets l 0 (before i n) ≡ l
 unfolding before
-before_end l at i n h = let e : i ≡ 0 = omega arith in rw e
+before_end l i n h = let e : i ≡ 0 = omega arith in rw e
 
--- ---- spaces, stored from left to right
-
--- what is left of them, from here, leaves what all leave
-abbrev pub spaces_left : (at width i : ℕ) → List ℕ → List ℕ
-spaces_left at width i l = sets l (at + i) (spaces (width - i))
-
-pub spaces_start : (at width : ℕ) (l : List ℕ) → spaces_left at width 0 l ≡ sets l at (spaces width)
-spaces_start at width l = let e : at + 0 ≡ at = omega arith in let f : width - 0 ≡ width = omega arith in rw (e, f)
-
-pub spaces_turn : (at width i : ℕ) (l : List ℕ) → i < width → spaces_left at width (i + 1) (set l (at + i) 32) ≡ spaces_left at width i l
-spaces_turn at width i l h =
-    let e : width - i ≡ suc (width - (i + 1)) = omega arith in let f : at + (i + 1) ≡ suc (at + i) = omega arith in rw (e, f)
-
-pub spaces_end : (at width i : ℕ) (l : List ℕ) → width ≤ i → spaces_left at width i l ≡ l
-spaces_end at width i l h = let e : width - i ≡ 0 = omega arith in rw e
+-- and the last digit, stored first
+pub justified_put : (l : List ℕ) (n : ℕ) → 0 < length l → sets (set l (length l - 1) (48 + n % 10)) 0 (before (length l - 1) (n / 10)) ≡ justified (length l) n
+unfolding justified
+justified_put l n h =
+    let k = length l - 1 in
+    let e : length l ≡ suc k = omega arith in
+    let J = before k (n / 10) ++ ((48 + n % 10) ∷ []) in
+    let j : length J ≡ length l = length-append (before k (n / 10)) ((48 + n % 10) ∷ []) ∙ (let b = before_length k (n / 10) in omega arith) in
+    sym (sets_last l 0 k (before k (n / 10)) _ (omega (arith, before_length k (n / 10)))) ∙ sets_front l J (length l) j (omega arith) ∙ ap (λ (r : List ℕ). J ++ r) (drop-length l) ∙ append-nil J ∙ sym (ap (λ (w : ℕ). justified w n) e)
 
 -- ---- different numbers have different bytes
 

@@ -1,7 +1,6 @@
 #![tactic(auto)]
-// Decimal text: a number right-justified with spaces in any width of bytes.
-ghost use Rattle.std.specs.Prelude.{◌≡◌, ◌+◌, ◌%◌, ◌≤◌, ◌<◌, length};
-ghost use Rattle.std.proofs.lemmas.List.Edits.{sets};
+// Decimal text: a number right-justified with spaces in any number of bytes.
+ghost use Rattle.std.specs.Prelude.{◌≡◌, ◌+◌, ◌%◌, ◌<◌, length};
 ghost use Rattle.text_decimal.specs.Decimal.{digit_left, justified, spaces};
 
 // The last digit of a number.
@@ -18,29 +17,23 @@ fn digit_left(n: u32) -> u8
     if n == 0 { b' ' } else { digit(n) }
 }
 
-// A number, right-justified, into the `width` bytes at a place.
-pub fn put_number(bytes: &mut [u8], at: usize, width: usize, n: u32)
-    requires { (0 < width) × (at + width ≤ length bytes.old) }
-    ensures { bytes.new ≡ sets bytes.old at (justified width n) }
+// A number, right-justified in all the bytes.
+pub fn put_number(bytes: &mut [u8], n: u32)
+    requires { 0 < length bytes.old }
+    ensures { bytes.new ≡ justified (length bytes.old) n }
 {
-    let mut i = width - 1;
+    let last = bytes.len() - 1;
     let mut rest = n / 10;
-    bytes[at + i] = digit(n);
-    while 0 < i {
-        i -= 1;
-        bytes[at + i] = digit_left(rest);
+    bytes[last] = digit(n);
+    for i in (0..last).rev() {
+        bytes[i] = digit_left(rest);
         rest /= 10;
     }
 }
 
-// Spaces, into the `width` bytes at a place.
-pub fn put_spaces(bytes: &mut [u8], at: usize, width: usize)
-    requires { at + width ≤ length bytes.old }
-    ensures { bytes.new ≡ sets bytes.old at (spaces width) }
+// Spaces in all the bytes.
+pub fn put_spaces(bytes: &mut [u8])
+    ensures { bytes.new ≡ spaces (length bytes.old) }
 {
-    let mut i = 0;
-    while i < width {
-        bytes[at + i] = b' ';
-        i += 1;
-    }
+    bytes.fill(b' ');
 }

@@ -1,12 +1,10 @@
 #![tactic(auto)]
 // Read lines and Write lines as C calls them: the answer in lent words.
+// Kept: the parameters are those of the C functions.
 ghost use Rattle.std.specs.Prelude.{◌≡◌};
 ghost use Rattle.text_export.specs.Exports.{read_c, write_c};
 
-use text_lines::{LINE, ReadError, WriteError};
-
-// The words of a row.
-const WORDS: usize = 8;
+use text_lines::{LINE, ReadError, WORDS, WriteError};
 
 // The lines that a u32 counts.
 const MOST_LINES: usize = 4294967295;

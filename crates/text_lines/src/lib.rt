@@ -6,7 +6,7 @@ ghost use Rattle.text_lines.specs.Read.{with_digit, next, column_read, number_in
 ghost use Rattle.text_lines.specs.Write.{line, lines_of, write_number, write_answer, write_lines};
 
 // The words of a row.
-const WORDS: usize = 8;
+pub const WORDS: usize = 8;
 
 // The bytes of a field, and of a line: eight fields and a line feed.
 const FIELD: usize = 11;
@@ -14,7 +14,7 @@ const FIELD: usize = 11;
 pub const LINE: usize = 89;
 
 // What the bytes of a field come to: spaces alone, a number, or neither.
-// Kept: these are the three states of a parser; an option in an option is no plainer.
+// Kept: the three states of a parser have names; an Option in a Result would be read by matching twice.
 #[derive(Clone, Copy, Debug, PartialEq, Eq)]
 enum Field {
     Spaces,
@@ -180,7 +180,7 @@ fn put_row(row: &[u32], text: &mut [u8])
     ensures { text.new ≡ line row.now }
 {
     for (i, n) in row.iter().enumerate() {
-        text_decimal::put_number(text, FIELD * i, FIELD, *n);
+        text_decimal::put_number(&mut text[FIELD * i..FIELD * (i + 1)], *n);
     }
     text[LINE - 1] = b'\n';
 }

@@ -1,13 +1,13 @@
--- Words that stay: of one word that is written, of a part that was lent, of one change after another; words that are cleared; words written from a slice's start on.
+-- Words that stay: of one word that is written, of a part that was lent, of one change after another; words written from a slice's start on.
 use mathlib.Core.Path.{◌≡◌, refl, sym, ap, ◌∙◌}
 use mathlib.Core.List.{List, ◌++◌}
 use Prim.Native.Nat.{ℕ, suc, ◌+◌, ◌-◌, ◌≤◌, ◌<◌}
 use native.Mathlib.Numerals.{add-one}
 use native.Mathlib.Omega.{arith}
-use native.Mathlib.Decide.{dec_lt, ℕ_discrete}
+use native.Mathlib.Decide.{dec_lt}
 use lib.ListN.{length, get_or, take, drop, set, length-set, length-append, length-drop, get_or-append}
 use lib.Seq.{length-take-le, get_or-set_same, get_or-set_other, get_or-append-add, get_or-take, get_or-drop, take_at, drop_at, take-length, paste-suc}
-use Rattle.words_lent.specs.Words.{over, Outside, Cleared}
+use Rattle.words_lent.specs.Words.{over, Outside}
 
 pub stays : {a b : ℕ} (l : List ℕ) → Outside a b l l
 stays l = record { long = refl; below = λ k h. refl; above = λ k h. refl }
@@ -107,25 +107,6 @@ module _ (l : List ℕ) (a x b y c z : ℕ) (p : a < b) (q : b < c) (h : c < len
 
   pub three_other : (k : ℕ) → (k ≡ a → ⊥) → (k ≡ b → ⊥) → (k ≡ c → ⊥) → get_or three k 0 ≡ get_or l k 0
   three_other k d e f = get_or-set_other l₂ c k z 0 f ∙ get_or-set_other l₁ b k y 0 e ∙ get_or-set_other l a k x 0 d
-
--- ---- words are cleared
-
-module _ {a b : ℕ} {w₀ : List ℕ} where
-  pub clear_start : Cleared a b a w₀ w₀
-  clear_start = record { stays = stays w₀; zero = λ k h g. absurd (omega arith) }
-
-  pub clear_more : {i : ℕ} {w : List ℕ} → Cleared a b i w₀ w → a ≤ i → i < b → i < length w → Cleared a b (i + 1) w₀ (set w i 0)
-  clear_more {i} {w} c low h long = record {
-    stays = stays_on a b c.stays (stays_set {a = a} {b = b} w i 0 low h) (omega arith) (omega arith) (omega arith) (omega arith);
-    zero = λ k e g. go k e g (ℕ_discrete k i);
-  }
-    where
-      go : (k : ℕ) → a ≤ k → k < i + 1 → Dec (k ≡ i) → get_or (set w i 0) k 0 ≡ 0
-      go k e g (yes z) = rw z (get_or-set_same w i 0 0 long)
-      go k e g (no z) = get_or-set_other w i k 0 0 z ∙ c.zero k e (omega arith)
-
-  pub clear_end : {i : ℕ} {w : List ℕ} → Cleared a b i w₀ w → b ≤ i → Cleared a b b w₀ w
-  clear_end c h = record { stays = c.stays; zero = λ k e g. c.zero k e (omega arith) }
 
 -- ---- words written from a slice's start on
 

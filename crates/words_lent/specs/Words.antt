@@ -11,11 +11,6 @@ pub record Outside (a b : ℕ) (before after : List ℕ) : Type 0 where
   pub below : (k : ℕ) → k < a → get_or after k 0 ≡ get_or before k 0
   pub above : (k : ℕ) → b ≤ k → get_or after k 0 ≡ get_or before k 0
 
--- a word made wide
-pub record Wide (x r : ℕ) : Type 0 where
-  pub same : r ≡ x
-  pub small : r < 4294967296
-
 -- the words from a up to b are 0, of those up to i
 pub record Cleared (a b i : ℕ) (w₀ w : List ℕ) : Type 0 where
   pub stays : Outside a b w₀ w

@@ -1,21 +1,15 @@
 #![tactic(auto)]
 // Lent words.
 ghost use Rattle.std.specs.Prelude.{◌≤◌, length};
-ghost use Rattle.words_lent.specs.Words.{Wide, Cleared};
+ghost use Rattle.words_lent.specs.Words.{Cleared};
 
-pub fn wide(x: u32) -> usize
-    ensures { Wide x result }
-{
-    x as usize
-}
-
+// Kept: `fill` of a range with a law of its own, which three crates use; each would have to prove it again, and that the other
+// words stay.
 pub fn clear(work: &mut [u32], from: usize, to: usize)
     requires { to ≤ length work.old }
     ensures { Cleared from to to work.old work.new }
 {
-    let mut i = from;
-    while i < to {
-        work[i] = 0;
-        i += 1;
+    if from < to {
+        work[from..to].fill(0);
     }
 }

@@ -1,14 +1,11 @@
 -- The rows of a record: its first row, and those of its ids.
 use mathlib.Core.Path.{◌≡◌, refl, sym, ap, ◌∙◌}
-use mathlib.Core.Bool.{Bool, true, false}
 use mathlib.Core.List.{List, [], ◌∷◌}
-use Prim.Native.Nat.{ℕ, zero, suc, ◌+◌, ◌-◌, ◌<◌, ◌≤◌}
+use Prim.Native.Nat.{ℕ, zero, suc, min, ◌+◌, ◌-◌, ◌≤◌}
 use native.Mathlib.Omega.{arith}
 use native.Mathlib.Decide.{ℕ_discrete}
 use lib.ListN.{length, length-map}
-use lib.Dec.{ltb}
-use borrow.Author.Tests.{eq-eqb, ne_eqb, ltb-true, ltb-false}
-use Rattle.ast.specs.Choice.{choose}
+use borrow.Author.Tests.{eq-eqb, ne_eqb}
 use Rattle.sheet_rows.specs.Rows.{none#, front}
 use Rattle.sheet_rows.specs.Parse.{optional, statement_of, route_of, body_element_of}
 use Rattle.sheet_rows.specs.Print.{row, or_none, id_row, statement_row, body_element_row}
@@ -17,25 +14,14 @@ use Rattle.writer_lists.specs.declared.Kind.{Kind}
 use Rattle.writer_lists.specs.declared.Kind.TheVariants.{Fields, Interfaces, Statements, Order, Roots, Routes, Associations}
 use Rattle.writer_lists.specs.Writing.{RowsFit, Wrote}
 use Rattle.writer_lists.specs.Cells.{cell_ids}
-use Rattle.writer_lists.specs.Lists.{clip, id_rows, record_rows, ids_handle, HandleBelow}
+use Rattle.journal_records.specs.Lists.{clip, HandleBelow}
+use Rattle.writer_lists.specs.Lists.{id_rows, record_rows, ids_handle}
 use Rattle.writer_lists.proofs.Writing.{Stage, begin_one, split}
 use Rattle.writer_lists.proofs.Chains.{chain_end, ids_rows}
 
--- a number below a bound, or the bound
-pub under : (x top : ℕ) → x < top → x ≡ choose (ltb x top) x top
-under x top lt = by (ltb x top) refl
-  where
-    by : (t : Bool) → ltb x top ≡ t → x ≡ choose t x top
-    by true e = refl
-    by false e = absurd (omega (arith, ltb-false x top e))
-
--- from the bound on it is the bound
-pub over : (x top : ℕ) → top ≤ x → top ≡ choose (ltb x top) x top
-over x top le = by (ltb x top) refl
-  where
-    by : (t : Bool) → ltb x top ≡ t → top ≡ choose t x top
-    by true e = absurd (omega (arith, ltb-true x top e))
-    by false e = refl
+-- a number at a bound or above is cut off there
+cut : (x top : ℕ) → top ≤ x → min x top ≡ top
+cut x top le = omega arith
 
 -- a number or none is written as it is read
 pub or_none_lem : (n : ℕ) → or_none (optional n) ≡ n
@@ -48,24 +34,24 @@ or_none_lem n = go (ℕ_discrete n none#)
 -- ---- rows whose first column is a choice
 
 -- a statement that is no ROUTE
-other_row : (x b c d e f g : ℕ) → (x ≡ 3 → ⊥) → row 5 (choose (ltb x 4) x 4) b 0 0 0 0 0 ≡ statement_row (statement_of (row 5 x b c d e f g ∷ []))
+other_row : (x b c d e f g : ℕ) → (x ≡ 3 → ⊥) → row 5 (min x 4) b 0 0 0 0 0 ≡ statement_row (statement_of (row 5 x b c d e f g ∷ []))
 unfolding statement_of
 other_row zero b c d e f g n = refl
 other_row (suc zero) b c d e f g n = refl
 other_row (suc (suc zero)) b c d e f g n = refl
 other_row (suc (suc (suc zero))) b c d e f g n = absurd (n refl)
-other_row (suc (suc (suc (suc x)))) b c d e f g n = ap (λ (k : ℕ). row 5 k b 0 0 0 0 0) (sym (over (suc (suc (suc (suc x)))) 4 (omega arith)))
+other_row (suc (suc (suc (suc x)))) b c d e f g n = ap (λ (k : ℕ). row 5 k b 0 0 0 0 0) (cut (suc (suc (suc (suc x)))) 4 (omega arith))
 
-mark_row : (x : ℕ) → row 6 (choose (ltb x 2) x 2) 0 0 0 0 0 0 ≡ body_element_row (body_element_of (row 6 x 0 0 0 0 0 0 ∷ []))
+mark_row : (x : ℕ) → row 6 (min x 2) 0 0 0 0 0 0 ≡ body_element_row (body_element_of (row 6 x 0 0 0 0 0 0 ∷ []))
 unfolding body_element_of
 mark_row zero = refl
 mark_row (suc zero) = refl
-mark_row (suc (suc x)) = ap (λ (k : ℕ). row 6 k 0 0 0 0 0 0) (sym (over (suc (suc x)) 2 (omega arith)))
+mark_row (suc (suc x)) = ap (λ (k : ℕ). row 6 k 0 0 0 0 0 0) (cut (suc (suc x)) 2 (omega arith))
 
 -- ---- the ids of a record
 
 ids_none : (w : List ℕ) → id_rows w 0 ≡ []
-ids_none w = chain_end (λ r. id_row (cell w r 1) ∷ []) w (omega arith)
+ids_none w = chain_end (λ r. id_row (cell w r 1) ∷ []) w {h = 0} refl
 
 ids_length : (w : List ℕ) (r g : ℕ) → length (id_rows w (clip r g)) ≡ length (cell_ids w r g)
 ids_length w r g = sym (ap length (ids_rows w r g)) ∙ length-map (cell_ids w r g) id_row
@@ -161,11 +147,11 @@ module _ (w : List ℕ) (r : ℕ) where
   statement_route a = rw (a, or_none_lem (cell w r 6), or_none_lem (cell w r 7))
 
   -- of any other statement
-  pub statement_other : (cell w r 1 ≡ 3 → ⊥) → row 5 (choose (ltb (cell w r 1) 4) (cell w r 1) 4) (cell w r 2) 0 0 0 0 0 ≡ front (record_rows Statements w r)
+  pub statement_other : (cell w r 1 ≡ 3 → ⊥) → row 5 (min (cell w r 1) 4) (cell w r 2) 0 0 0 0 0 ≡ front (record_rows Statements w r)
   statement_other a = other_row (cell w r 1) (cell w r 2) (cell w r 3) (cell w r 4) (cell w r 5) (cell w r 6) (cell w r 7) a
 
   -- of a mark in the body order
-  pub order_row : row 6 (choose (ltb (cell w r 1) 2) (cell w r 1) 2) 0 0 0 0 0 0 ≡ front (record_rows Order w r)
+  pub order_row : row 6 (min (cell w r 1) 2) 0 0 0 0 0 0 ≡ front (record_rows Order w r)
   order_row = mark_row (cell w r 1)
 
   -- of a remapped route

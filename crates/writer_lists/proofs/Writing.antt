@@ -1,10 +1,10 @@
 -- Words and rows written into a list of words.
 use mathlib.Core.Path.{◌≡◌, refl, sym, ap, ◌∙◌}
 use mathlib.Core.List.{List, [], ◌∷◌, ◌++◌, append-nil, append_assoc}
-use Prim.Native.Nat.{ℕ, suc, ◌+◌, ◌*◌, ◌-◌, ◌≤◌}
+use Prim.Native.Nat.{ℕ, ◌+◌, ◌*◌, ◌-◌, ◌≤◌}
 use native.Mathlib.Omega.{arith}
-use lib.ListN.{length, take, drop, set, length-set, length-append, take-append-drop}
-use lib.Seq.{sets-eq, length-take-le, take-append-le, take_at, drop_at, drop-drop}
+use lib.ListN.{length, take, drop, length-append, length-drop, take-append-drop}
+use lib.Seq.{length-take-le, take-append-le, take_at, drop_at, drop-drop}
 use Rattle.expansion_operation.proofs.Said.{words_length}
 use Rattle.sheet_rows.specs.declared.row.Row.{Row}
 use Rattle.sheet_rows.specs.Rows.{words}
@@ -15,24 +15,6 @@ use Rattle.writer_lists.specs.Writing.{Pasted, RowsFit, Wrote}
 -- no words
 pub paste_none : (o : List ℕ) (p : ℕ) → Pasted [] o o p
 paste_none o p = let z : p + 0 ≡ p = omega arith in record { long = refl; same = rw z (sym (take-append-drop p o)) }
-
--- three stores
-pub paste_3 : (o : List ℕ) (p a b c : ℕ) → p + 3 ≤ length o → Pasted (a ∷ b ∷ c ∷ []) o (set (set (set o p a) (p + 1) b) (p + 2) c) p
-paste_3 o p a b c h =
-    let vs : List ℕ = a ∷ b ∷ c ∷ [] in
-    let e1 : p + 1 ≡ suc p = omega arith in
-    let e2 : p + 2 ≡ suc (suc p) = omega arith in
-    record { long = simp length-set; same = rw (e1, e2) (sets-eq vs o p h ∙ append_assoc (take p o) vs (drop (p + 3) o)) }
-
--- five stores
-pub paste_5 : (o : List ℕ) (p a b c d e : ℕ) → p + 5 ≤ length o → Pasted (a ∷ b ∷ c ∷ d ∷ e ∷ []) o (set (set (set (set (set o p a) (p + 1) b) (p + 2) c) (p + 3) d) (p + 4) e) p
-paste_5 o p a b c d e h =
-    let vs : List ℕ = a ∷ b ∷ c ∷ d ∷ e ∷ [] in
-    let e1 : p + 1 ≡ suc p = omega arith in
-    let e2 : p + 2 ≡ suc (suc p) = omega arith in
-    let e3 : p + 3 ≡ suc (suc (suc p)) = omega arith in
-    let e4 : p + 4 ≡ suc (suc (suc (suc p))) = omega arith in
-    record { long = simp length-set; same = rw (e1, e2, e3, e4) (sets-eq vs o p h ∙ append_assoc (take p o) vs (drop (p + 5) o)) }
 
 module _ {a b o o1 o2 : List ℕ} {p q : ℕ} (e : q ≡ p + length a) where
   -- one text after another
@@ -71,22 +53,20 @@ unfolding words
 words_append [] b = refl
 words_append (r ∷ a) b = rw (words_append a b)
 
--- eight stores put a row
-pub put_law : (o : List ℕ) (p : ℕ) (r : Row) → 8 * p + 8 ≤ length o
-    → Wrote (r ∷ []) o (set (set (set (set (set (set (set (set o (8 * p) r.kind) (8 * p + 1) r.a) (8 * p + 2) r.b) (8 * p + 3) r.c) (8 * p + 4) r.d) (8 * p + 5) r.e) (8 * p + 6) r.f) (8 * p + 7) r.g) (p + 1) p
+-- eight words in the place of m words put a row
+pub put_law : (o : List ℕ) (p m : ℕ) (r : Row) → 8 * p + 8 ≤ length o → m ≡ 8
+    → Wrote (r ∷ []) o (take (8 * p) o ++ ((r.kind ∷ r.a ∷ r.b ∷ r.c ∷ r.d ∷ r.e ∷ r.f ∷ r.g ∷ []) ++ drop m (drop (8 * p) o))) (p + 1) p
 unfolding words
-put_law o p r h =
+put_law o p m r h e =
     let vs : List ℕ = r.kind ∷ r.a ∷ r.b ∷ r.c ∷ r.d ∷ r.e ∷ r.f ∷ r.g ∷ [] in
-    let e1 : 8 * p + 1 ≡ suc (8 * p) = omega arith in
-    let e2 : 8 * p + 2 ≡ suc (suc (8 * p)) = omega arith in
-    let e3 : 8 * p + 3 ≡ suc (suc (suc (8 * p))) = omega arith in
-    let e4 : 8 * p + 4 ≡ suc (suc (suc (suc (8 * p)))) = omega arith in
-    let e5 : 8 * p + 5 ≡ suc (suc (suc (suc (suc (8 * p))))) = omega arith in
-    let e6 : 8 * p + 6 ≡ suc (suc (suc (suc (suc (suc (8 * p)))))) = omega arith in
-    let e7 : 8 * p + 7 ≡ suc (suc (suc (suc (suc (suc (suc (8 * p))))))) = omega arith in
+    let rest : List ℕ = drop m (drop (8 * p) o) in
+    let z : 8 * p + m ≡ 8 * p + 8 = omega arith in
     record {
       sum = omega arith;
-      pasted = record { long = simp length-set; same = rw (e1, e2, e3, e4, e5, e6, e7) (sets-eq vs o (8 * p) h ∙ append_assoc (take (8 * p) o) vs (drop (8 * p + 8) o)) };
+      pasted = record {
+        long = omega (arith, length-append (take (8 * p) o) (vs ++ rest), length-append vs rest, length-drop m (drop (8 * p) o), length-drop (8 * p) o, length-take-le (8 * p) o (omega arith));
+        same = ap (λ (d : List ℕ). take (8 * p) o ++ (vs ++ d)) (drop-drop m (8 * p) o ∙ ap (λ (k : ℕ). drop k o) z);
+      };
     }
 
 -- a row put before row e

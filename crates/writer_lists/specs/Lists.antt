@@ -1,17 +1,14 @@
 -- The rows of the journal's lists.
-use Rattle.std.specs.Prelude.{◌≡◌, List, [], ◌∷◌, ℕ, ◌+◌, ◌*◌, ◌<◌, ◌≤◌, length, eqb, leb}
+use Rattle.std.specs.Prelude.{List, [], ◌∷◌, ℕ, ◌+◌, ◌*◌, ◌<◌, ◌≤◌, length, eqb}
 use Rattle.ast.specs.Choice.{choose}
 use Rattle.sheet_rows.specs.declared.row.Row.{Row}
 use Rattle.ast.specs.Lists.{flat}
 use Rattle.sheet_rows.specs.Print.{id_row, field_rows, interface_rows, statement_row, body_element_row, route_row, association_row}
 use Rattle.journal_records.specs.Records.{cell}
+use Rattle.journal_records.specs.Lists.{clip}
 use Rattle.writer_lists.specs.declared.Kind.{Kind}
 use Rattle.writer_lists.specs.declared.Kind.TheVariants.{Fields, Interfaces, Statements, Order, Roots, Routes, Associations}
 use Rattle.writer_lists.specs.Cells.{cell_chain, field_cells, interface_cells, statement_cells, order_cells, root_cell, route_cells, association_cells}
-
--- a handle as a list is looked for below a place: none that is not below
-unfoldable pub clip : ℕ → ℕ → ℕ
-clip top h = choose (leb h top) h 0
 
 -- the rows of a list, each record's printed by g
 unfoldable pub chain_rows : (ℕ → List Row) → List ℕ → ℕ → List Row
@@ -43,11 +40,6 @@ ids_handle Order w r = 0
 ids_handle Roots w r = 0
 ids_handle Routes w r = 0
 ids_handle Associations w r = 0
-
--- a handle below a place
-pub record HandleBelow (x top h : ℕ) : Type 0 where
-  pub same : h ≡ x
-  pub low : h ≤ top
 
 -- word j of record r is the handle of a list within w
 pub record ListAt (w : List ℕ) (r j : ℕ) : Type 0 where

@@ -1,21 +1,26 @@
 #![tactic(auto)]
 // The lists of the journal, each walked from its last record. A handle is a record's place with one added, 0 for none.
+// Kept: the journal's words with a record's place or handle, 0 for none: a view of a record would be made anew for each record.
+// Kept: the output's words with the row that is reached: it is counted down, and the next list ends there.
 pub mod rows;
 
-ghost use Rattle.std.specs.Prelude.{◌≡◌, ◌+◌, ◌*◌, ◌<◌, ◌≤◌, length, ltb};
-ghost use Rattle.ast.specs.Choice.{choose};
+ghost use Rattle.std.specs.Prelude.{◌≡◌, ◌+◌, ◌*◌, ◌<◌, ◌≤◌, length};
 ghost use Rattle.sheet_rows.specs.Rows.{front};
 ghost use Rattle.journal_records.specs.Records.{cell};
+ghost use Rattle.journal_records.specs.Lists.{HandleBelow};
 ghost use Rattle.writer_lists.specs.declared.Kind.TheVariants.{Fields, Interfaces, Statements, Routes, Associations};
 ghost use Rattle.writer_lists.specs.Writing.{most, RowsFit, Wrote};
-ghost use Rattle.writer_lists.specs.Lists.{clip, id_rows, record_rows, list_rows, ids_handle, HandleBelow, ListAt};
+ghost use Rattle.writer_lists.specs.Lists.{id_rows, record_rows, list_rows, ids_handle, ListAt};
 
 use journal_records;
+use journal_records::list::{below, records};
 use journal_records::words;
+use sheet_rows::codes;
 use sheet_rows::row::Row;
-use words_lent::wide;
 
-#[derive(Clone, Copy)]
+// Kept: a kind of list is handed on to `ids_of` and `head`, which are tables over it, as in specs/Lists: a match is their plain
+// form, and closures for the two would be handed on together.
+#[derive(Clone, Copy, Debug, PartialEq, Eq)]
 pub enum Kind {
     Fields,
     Interfaces,
@@ -26,45 +31,12 @@ pub enum Kind {
     Associations,
 }
 
-fn below(h: u32, top: usize) -> usize
-    ensures { HandleBelow (clip top h) top result }
-{
-    let x = wide(h);
-    if x <= top {
-        return x;
-    }
-    0
-}
-
-// The handle of what stands before record `r` in its list.
-pub fn before(work: &[u32], r: usize) -> usize
-    requires { r * 12 + 12 ≤ length work.now }
-    ensures { HandleBelow (clip r (cell work.now r 8)) r result }
-{
-    below(journal_records::word(work, r, words::BEFORE), r)
-}
-
-pub fn up_to(x: u32, top: u32) -> u32
-    ensures { result ≡ choose (ltb x top) x top }
-{
-    if x < top {
-        return x;
-    }
-    top
-}
-
 pub fn count_ids(work: &[u32], h: usize) -> usize
     requires h_in_bounds { h * 12 ≤ length work.now }
     requires h_len_bound { length (id_rows work.now h) ≤ most }
     ensures { result ≡ length (id_rows work.now h) }
 {
-    let mut n = 0;
-    let mut cur = h;
-    while 0 < cur {
-        n += 1;
-        cur = before(work, cur - 1);
-    }
-    n
+    records(work, h).count()
 }
 
 fn ids(work: &[u32], h: usize, out: &mut [u32], end: usize) -> usize
@@ -72,15 +44,13 @@ fn ids(work: &[u32], h: usize, out: &mut [u32], end: usize) -> usize
     requires rows_fit { RowsFit (id_rows work.now h) out.old end }
     ensures { Wrote (id_rows work.now h) out.old out.new end result }
 {
-    let mut cur = h;
     let mut p = end;
-    while 0 < cur {
-        let r = cur - 1;
+    for r in records(work, h) {
         p = rows::back(
             out,
             p,
             rows::line(
-                9,
+                codes::kind::ID,
                 journal_records::word(work, r, words::id::ID),
                 0,
                 0,
@@ -90,7 +60,6 @@ fn ids(work: &[u32], h: usize, out: &mut [u32], end: usize) -> usize
                 0,
             ),
         );
-        cur = before(work, r);
     }
     p
 }
@@ -99,7 +68,7 @@ fn interface_ids(work: &[u32], r: usize) -> usize
     requires { r * 12 + 12 ≤ length work.now }
     ensures { HandleBelow (ids_handle Interfaces work.now r) r result }
 {
-    if journal_records::word(work, r, words::value::CLASS) == 2 {
+    if journal_records::word(work, r, words::value::CLASS) == codes::class::NODES {
         return below(journal_records::word(work, r, words::value::PAYLOAD), r);
     }
     0
@@ -109,7 +78,7 @@ fn field_ids(work: &[u32], r: usize) -> usize
     requires { r * 12 + 12 ≤ length work.now }
     ensures { HandleBelow (ids_handle Fields work.now r) r result }
 {
-    if journal_records::word(work, r, words::field::IS) == 1 {
+    if journal_records::word(work, r, words::field::IS) == codes::field::IS {
         return 0;
     }
     interface_ids(work, r)
@@ -135,11 +104,11 @@ fn field(work: &[u32], r: usize, n: u32) -> Row
 {
     let name = journal_records::word(work, r, words::field::NAME);
     let inferred = journal_records::word(work, r, words::field::INFERRED);
-    if journal_records::word(work, r, words::field::IS) == 1 {
+    if journal_records::word(work, r, words::field::IS) == codes::field::IS {
         return rows::line(
-            3,
+            codes::kind::FIELD,
             name,
-            1,
+            codes::field::IS,
             journal_records::word(work, r, words::field::TARGET),
             inferred,
             0,
@@ -148,17 +117,26 @@ fn field(work: &[u32], r: usize, n: u32) -> Row
         );
     }
     let tag = journal_records::word(work, r, words::value::TYPE);
-    if journal_records::word(work, r, words::value::CLASS) == 2 {
-        return rows::line(3, name, 0, 0, inferred, tag, 2, n);
+    if journal_records::word(work, r, words::value::CLASS) == codes::class::NODES {
+        return rows::line(
+            codes::kind::FIELD,
+            name,
+            codes::field::VALUE,
+            0,
+            inferred,
+            tag,
+            codes::class::NODES,
+            n,
+        );
     }
     rows::line(
-        3,
+        codes::kind::FIELD,
         name,
-        0,
+        codes::field::VALUE,
         0,
         inferred,
         tag,
-        1,
+        codes::class::PAYLOAD,
         journal_records::word(work, r, words::value::PAYLOAD),
     )
 }
@@ -174,20 +152,38 @@ fn interface(work: &[u32], r: usize, n: u32) -> Row
     let is = journal_records::word(work, r, words::interface::TARGET);
     let tag = journal_records::word(work, r, words::value::TYPE);
     let class = journal_records::word(work, r, words::value::CLASS);
-    if class == 0 {
-        return rows::line(4, access, of, name, is, 0, 0, 0);
+    if class == codes::class::NONE {
+        return rows::line(
+            codes::kind::INTERFACE,
+            access,
+            of,
+            name,
+            is,
+            0,
+            codes::class::NONE,
+            0,
+        );
     }
-    if class == 2 {
-        return rows::line(4, access, of, name, is, tag, 2, n);
+    if class == codes::class::NODES {
+        return rows::line(
+            codes::kind::INTERFACE,
+            access,
+            of,
+            name,
+            is,
+            tag,
+            codes::class::NODES,
+            n,
+        );
     }
     rows::line(
-        4,
+        codes::kind::INTERFACE,
         access,
         of,
         name,
         is,
         tag,
-        1,
+        codes::class::PAYLOAD,
         journal_records::word(work, r, words::value::PAYLOAD),
     )
 }
@@ -198,13 +194,13 @@ fn statement(work: &[u32], r: usize) -> Row
 {
     let a = journal_records::word(work, r, words::statement::KIND);
     let b = journal_records::word(work, r, words::statement::ID);
-    if a == 3 {
+    if a == codes::statement::ROUTE {
         let c = journal_records::word(work, r, words::route::FROM_FIELD);
         let d = journal_records::word(work, r, words::route::TO_NODE);
         let e = journal_records::word(work, r, words::route::TO_FIELD);
         return rows::line(
-            5,
-            3,
+            codes::kind::STATEMENT,
+            codes::statement::ROUTE,
             b,
             c,
             d,
@@ -213,7 +209,16 @@ fn statement(work: &[u32], r: usize) -> Row
             journal_records::word(work, r, words::route::TO),
         );
     }
-    rows::line(5, up_to(a, 4), b, 0, 0, 0, 0, 0)
+    rows::line(
+        codes::kind::STATEMENT,
+        a.min(codes::statement::OTHER),
+        b,
+        0,
+        0,
+        0,
+        0,
+        0,
+    )
 }
 
 fn route(work: &[u32], r: usize) -> Row
@@ -225,8 +230,8 @@ fn route(work: &[u32], r: usize) -> Row
     let d = journal_records::word(work, r, words::route::TO_NODE);
     let e = journal_records::word(work, r, words::route::TO_FIELD);
     rows::line(
-        5,
-        3,
+        codes::kind::STATEMENT,
+        codes::statement::ROUTE,
         b,
         c,
         d,
@@ -243,7 +248,7 @@ fn association(work: &[u32], r: usize) -> Row
     let a = journal_records::word(work, r, words::association::INTERFACE);
     let b = journal_records::word(work, r, words::association::NODE);
     rows::line(
-        14,
+        codes::kind::ASSOCIATION,
         a,
         b,
         journal_records::word(work, r, words::association::FIELD),
@@ -265,8 +270,8 @@ fn head(work: &[u32], kind: Kind, r: usize, n: u32) -> Row
         Kind::Interfaces => interface(work, r, n),
         Kind::Statements => statement(work, r),
         Kind::Order => rows::line(
-            6,
-            up_to(journal_records::word(work, r, words::order::MARK), 2),
+            codes::kind::ORDER,
+            journal_records::word(work, r, words::order::MARK).min(codes::mark::STATEMENT),
             0,
             0,
             0,
@@ -275,7 +280,7 @@ fn head(work: &[u32], kind: Kind, r: usize, n: u32) -> Row
             0,
         ),
         Kind::Roots => rows::line(
-            9,
+            codes::kind::ID,
             journal_records::word(work, r, words::root::NODE),
             0,
             0,
@@ -295,11 +300,8 @@ pub fn count_list(work: &[u32], kind: Kind, h: usize) -> usize
     ensures { result ≡ length (list_rows kind work.now h) }
 {
     let mut n = 0;
-    let mut cur = h;
-    while 0 < cur {
-        let r = cur - 1;
+    for r in records(work, h) {
         n += 1 + count_ids(work, ids_of(work, kind, r));
-        cur = before(work, r);
     }
     n
 }
@@ -318,12 +320,9 @@ pub fn list(work: &[u32], kind: Kind, h: usize, out: &mut [u32], end: usize) -> 
     requires rows_fit { RowsFit (list_rows kind work.now h) out.old end }
     ensures { Wrote (list_rows kind work.now h) out.old out.new end result }
 {
-    let mut cur = h;
     let mut p = end;
-    while 0 < cur {
-        let r = cur - 1;
+    for r in records(work, h) {
         p = item(work, kind, r, out, p);
-        cur = before(work, r);
     }
     p
 }
@@ -334,11 +333,7 @@ pub fn list_at(work: &[u32], kind: Kind, r: usize, j: usize, out: &mut [u32], en
     requires rows_fit { RowsFit (list_rows kind work.now (cell work.now r j)) out.old end }
     ensures { Wrote (list_rows kind work.now (cell work.now r j)) out.old out.new end result }
 {
-    let h = handle(work, r, j);
-    if h == 0 {
-        return end;
-    }
-    list(work, kind, h, out, end)
+    list(work, kind, handle(work, r, j), out, end)
 }
 
 pub fn count_at(work: &[u32], kind: Kind, r: usize, j: usize) -> usize
@@ -346,16 +341,12 @@ pub fn count_at(work: &[u32], kind: Kind, r: usize, j: usize) -> usize
     requires j_len_bound { length (list_rows kind work.now (cell work.now r j)) ≤ most }
     ensures { result ≡ length (list_rows kind work.now (cell work.now r j)) }
 {
-    let h = handle(work, r, j);
-    if h == 0 {
-        return 0;
-    }
-    count_list(work, kind, h)
+    count_list(work, kind, handle(work, r, j))
 }
 
 pub fn handle(work: &[u32], r: usize, j: usize) -> usize
     requires { (r * 12 + 12 ≤ length work.now) × (j < 12) }
     ensures { result ≡ cell work.now r j }
 {
-    wide(journal_records::word(work, r, j))
+    journal_records::word(work, r, j) as usize
 }

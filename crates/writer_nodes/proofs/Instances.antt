@@ -20,12 +20,18 @@ use Rattle.writer_lists.specs.declared.Kind.{Kind}
 use Rattle.writer_lists.specs.declared.Kind.TheVariants.{Fields, Interfaces, Statements, Order, Roots, Routes, Associations}
 use Rattle.writer_lists.specs.Writing.{RowsFit, Wrote}
 use Rattle.writer_lists.specs.Cells.{cell_chain, root_cell, route_cells, association_cells}
-use Rattle.writer_lists.specs.Lists.{clip, list_rows, HandleBelow, ListAt}
+use Rattle.journal_records.specs.Lists.{clip, HandleBelow}
+use Rattle.journal_records.proofs.Handles.{clip_in, scan_step, some_below}
+use Rattle.writer_lists.specs.Lists.{list_rows, ListAt}
 use Rattle.writer_nodes.specs.Instances.{Legible, own_word, nested_rows}
 use Rattle.writer_lists.proofs.Writing.{backwards, Stage, begin, begin_one, split}
 use Rattle.writer_lists.proofs.Walks.{Summing, sum_room, sum_again}
-use Rattle.writer_lists.proofs.Chains.{clip_in, scan_step, scan_map, chain_rows_lem, some_below}
+use Rattle.writer_lists.proofs.Chains.{scan_map, chain_rows_lem}
 use Rattle.writer_nodes.proofs.Tagged.{roots_read, routes_read, map_read}
+
+-- the last record, and the list before it
+scan_back : {A : Type 0} (d : ℕ → A) (p : ℕ → ℕ) (h v : ℕ) → 0 < h → v ≡ clip (h - 1) (p (h - 1)) → scan d p h h ≡ d (h - 1) ∷ scan d p v v
+scan_back d p h v lt e = let z : h ≡ (h - 1) + 1 = omega arith in ap (λ (k : ℕ). scan d p k k) z ∙ scan_step d p (h - 1) v e
 
 -- ---- where an instance's handles lead
 
@@ -77,6 +83,14 @@ module _ {w : List ℕ} {c : ℕ} where
     pub instance_next : {v : ℕ} → HandleBelow (clip (h - 1) (cell w (h - 1) 8)) (h - 1) v → HandleAt w c tag_instance v
     instance_next b = rw (b.same ∙ clip_in (h - 1) (cell w (h - 1) 8) nested.low) (record { low = omega (arith, nested.low, i.low); tag = nested.tag })
 
+  -- the instance that a walk comes to
+  module _ {h r : ℕ} (L : Legible w c) (i : HandleAt w c tag_instance h) (e : h ≡ r + 1) where
+    pub own_here : (k : Kind) → ListAt w r (own_word k)
+    own_here k = let z : h - 1 ≡ r = omega arith in rw z at (own_list L i (omega arith) k)
+
+    pub instance_on : {v : ℕ} → HandleBelow (clip r (cell w r 8)) r v → HandleAt w c tag_instance v
+    instance_on b = let z : r ≡ h - 1 = omega arith in instance_next L i (omega arith) (rw z at b)
+
 -- ---- instances read by their words
 
 abbrev instance_cells : List ℕ → ℕ → InstanceRead
@@ -114,7 +128,7 @@ module _ (k : Kind) (w : List ℕ) where
     -- an instance's own rows, and then those of the nested one
     pub nested_step : nested_rows k w h ≡ list_rows k w (cell w (h - 1) (own_word k)) ++ nested_rows k w v
     unfolding nested_rows
-    nested_step = ap (flat (λ r. list_rows k w (cell w r (own_word k)))) (scan_step (λ r. r) (λ r. cell w r 8) h v lt b.same)
+    nested_step = ap (flat (λ r. list_rows k w (cell w r (own_word k)))) (scan_back (λ r. r) (λ r. cell w r 8) h v lt b.same)
 
     nested_length : length (nested_rows k w h) ≡ length (nested_rows k w v) + length (list_rows k w (cell w (h - 1) (own_word k)))
     nested_length = ap length nested_step ∙ length-append (list_rows k w (cell w (h - 1) (own_word k))) (nested_rows k w v) ∙ omega arith
@@ -123,14 +137,17 @@ module _ (k : Kind) (w : List ℕ) where
     pub nested_stage : {o : List ℕ} {e : ℕ} → RowsFit (nested_rows k w h) o e → Stage (nested_rows k w h) (nested_rows k w v ∷ list_rows k w (cell w (h - 1) (own_word k)) ∷ []) o o e e
     nested_stage m = split nested_step (begin_one m)
 
-  module _ {h cur n : ℕ} (u : Summing (nested_rows k w) h cur n) (lt : 0 < cur) where
+  module _ {h cur n : ℕ} (r : ℕ) (u : Summing (nested_rows k w) h cur n) (z : cur ≡ r + 1) where
+    here_length : {v : ℕ} → HandleBelow (clip r (cell w r 8)) r v → length (nested_rows k w cur) ≡ length (nested_rows k w v) + length (list_rows k w (cell w r (own_word k)))
+    here_length b = let q : r ≡ cur - 1 = omega arith in rw q (nested_length (omega arith) (rw q at b))
+
     -- the count stays within the whole
-    pub nested_room : n + length (list_rows k w (cell w (cur - 1) (own_word k))) ≤ length (nested_rows k w h)
-    nested_room = sum_room (nested_rows k w) u (clip (cur - 1) (cell w (cur - 1) 8)) (length (list_rows k w (cell w (cur - 1) (own_word k)))) (nested_length lt (some_below (λ r. []) w (cur - 1)))
+    pub nested_room : n + length (list_rows k w (cell w r (own_word k))) ≤ length (nested_rows k w h)
+    nested_room = sum_room (nested_rows k w) u (clip r (cell w r 8)) (length (list_rows k w (cell w r (own_word k)))) (here_length (some_below w r))
 
     -- an instance's own rows are counted
-    pub nested_again : {v m : ℕ} → HandleBelow (clip (cur - 1) (cell w (cur - 1) 8)) (cur - 1) v → m ≡ length (list_rows k w (cell w (cur - 1) (own_word k))) → Summing (nested_rows k w) h v (n + m)
-    nested_again b e = sum_again (nested_rows k w) u (omega (arith, b.low)) (nested_length lt b) e
+    pub nested_again : {v m : ℕ} → HandleBelow (clip r (cell w r 8)) r v → m ≡ length (list_rows k w (cell w r (own_word k))) → Summing (nested_rows k w) h v (n + m)
+    nested_again b e = sum_again (nested_rows k w) u (omega (arith, z, b.low)) (here_length b) e
 
 -- ---- an instance
 
@@ -199,7 +216,7 @@ module _ {w : List ℕ} {c h : ℕ} (L : Legible w c) (i : HandleAt w c tag_inst
   instance_shape =
       let v : ℕ = clip (h - 1) (cell w (h - 1) 8) in
       let l : List ℕ = scan (λ r. r) (λ r. cell w r 8) v v in
-      let e : scan (λ r. r) (λ r. cell w r 8) h h ≡ (h - 1) ∷ l = scan_step (λ r. r) (λ r. cell w r 8) h v lt refl in
+      let e : scan (λ r. r) (λ r. cell w r 8) h h ≡ (h - 1) ∷ l = scan_back (λ r. r) (λ r. cell w r 8) h v lt refl in
       ap (λ (l : List _). any_instance_rows (merged l)) (instances_read L i ∙ scan_map (instance_cells w) (λ r. cell w r 8) h h ∙ ap (map (instance_cells w)) e) ∙ shape w (h - 1) l ∙ rw e
 
   -- so many rows an instance has

@@ -1,5 +1,6 @@
 #![tactic(auto)]
 // The nodes of the journal, with their instances.
+// Kept: the journal's words with a record's place, and the output's with the row that is reached, as in `writer_lists`.
 ghost use Rattle.std.specs.Prelude.{◌≡◌, ◌+◌, ◌*◌, ◌<◌, ◌≤◌, length};
 ghost use Rattle.sheet_rows.specs.Rows.{front};
 ghost use Rattle.sheet_rows.specs.Print.{node_rows, any_instance_rows};
@@ -10,11 +11,14 @@ ghost use Rattle.writer_lists.specs.Writing.{most, RowsFit, Wrote};
 ghost use Rattle.writer_nodes.specs.Instances.{Legible, NodeIn, own_word, nested_rows};
 
 use journal_records;
+use journal_records::list::{before, records};
 use journal_records::words;
+use sheet_rows::codes;
 use sheet_rows::row::Row;
 use writer_lists;
 use writer_lists::{Kind, rows};
 
+// Kept: a match with `_`: extra roots and routes alone are asked for, and the definition gives all others the word of the routes.
 fn own_word(kind: Kind) -> usize
     ensures { result ≡ own_word kind }
 {
@@ -33,11 +37,8 @@ fn count_nested(work: &[u32], c: usize, kind: Kind, h: usize) -> usize
 {
     let j = own_word(kind);
     let mut n = 0;
-    let mut cur = h;
-    while 0 < cur {
-        let r = cur - 1;
+    for r in records(work, h) {
         n += writer_lists::count_at(work, kind, r, j);
-        cur = writer_lists::before(work, r);
     }
     n
 }
@@ -53,7 +54,7 @@ fn nested(work: &[u32], c: usize, kind: Kind, h: usize, out: &mut [u32], end: us
         return end;
     }
     let r = h - 1;
-    let p = nested(work, c, kind, writer_lists::before(work, r), out, end);
+    let p = nested(work, c, kind, before(work, r), out, end);
     writer_lists::list_at(work, kind, r, own_word(kind), out, p)
 }
 
@@ -99,7 +100,7 @@ fn instance(work: &[u32], c: usize, h: usize, out: &mut [u32], end: usize) -> us
     let d = nested(work, c, Kind::Roots, h, out, b);
     let name = journal_records::word(work, r, words::instance::NAME);
     let first = rows::line(
-        13,
+        codes::kind::INSTANCE,
         name,
         (b - d) as u32,
         (a - b) as u32,
@@ -118,12 +119,21 @@ fn first(work: &[u32], r: usize) -> Row
     let of = journal_records::word(work, r, words::node::TYPE);
     let name = journal_records::word(work, r, words::node::DEF);
     let origin = journal_records::word(work, r, words::node::ORIGIN);
-    if origin == 0 {
-        return rows::line(2, of, name, 0, 0, 0, 0, 0);
-    }
-    if origin < 3 {
+    if origin == codes::origin::BUILTIN {
         return rows::line(
-            2,
+            codes::kind::NODE,
+            of,
+            name,
+            codes::origin::BUILTIN,
+            0,
+            0,
+            0,
+            0,
+        );
+    }
+    if origin < codes::origin::UNKNOWN {
+        return rows::line(
+            codes::kind::NODE,
             of,
             name,
             origin,
@@ -133,7 +143,16 @@ fn first(work: &[u32], r: usize) -> Row
             0,
         );
     }
-    rows::line(2, of, name, 3, 0, 0, 0, 0)
+    rows::line(
+        codes::kind::NODE,
+        of,
+        name,
+        codes::origin::UNKNOWN,
+        0,
+        0,
+        0,
+        0,
+    )
 }
 
 // The rows of node `r`.

@@ -1,11 +1,13 @@
 // The output sheet, the ledger and the scopes.
+// Kept: the journal's words with how many records there are, and the words that the writing fills: C lends each by itself.
+// Kept: `some`, of which only 0 is told apart, is the journal's own count; a bool would be made of it for this call.
 ghost use Rattle.std.specs.Prelude.{length};
 ghost use Rattle.writer_lists.specs.Writing.{RowsFit};
 ghost use Rattle.writer_tables.specs.Tables.{TablesRoom};
 ghost use Rattle.writer_pass.specs.Document.{journal_rows, Printable, Written};
 
 use super::{externs, pass};
-use sheet_rows::row;
+use sheet_rows::{codes, row};
 use writer_lists;
 use writer_lists::{Kind, rows};
 
@@ -29,12 +31,21 @@ pub fn write<'a>(
     rows::put(
         out,
         0,
-        rows::line(1, row::row_at(root, 0).a, 0, 0, 0, 0, 0, 0),
+        rows::line(
+            codes::kind::DOCUMENT,
+            row::row_at(root, 0).a,
+            0,
+            0,
+            0,
+            0,
+            0,
+            0,
+        ),
     );
     let a = pass::pass(work, c, out, 1, ledger, scopes);
     let b = externs::externs(root, library, work, c, some, out, a);
-    rows::put(out, b, rows::line(11, 0, 0, 0, 0, 0, 0, 0));
-    let last = words_lent::wide(tops);
+    rows::put(out, b, rows::line(codes::kind::TOP, 0, 0, 0, 0, 0, 0, 0));
+    let last = tops as usize;
     let end = b + 1 + writer_lists::count_list(work, Kind::Statements, last);
     writer_lists::list(work, Kind::Statements, last, out, end);
     end

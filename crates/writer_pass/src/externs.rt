@@ -1,8 +1,9 @@
 // The externs of the journal, read from the sheets that declare them.
+// Kept: the output's words with the row that is reached, as in `writer_lists`.
 ghost use Rattle.std.specs.Prelude.{◌≡◌, ◌+◌, ◌*◌, ◌≤◌, length, drop};
 ghost use Rattle.sheet_rows.specs.Rows.{rows};
 ghost use Rattle.ast.specs.Lists.{flat};
-ghost use Rattle.sheet_rows.specs.Print.{mark, extern_proto_rows};
+ghost use Rattle.sheet_rows.specs.Print.{extern_proto_rows};
 ghost use Rattle.journal_records.specs.Records.{tag_extern};
 ghost use Rattle.journal_reading.specs.Reading.{externs_of, below};
 ghost use Rattle.writer_lists.specs.Writing.{RowsFit, Wrote};
@@ -12,31 +13,27 @@ use journal_records;
 use journal_records::{TAG_EXTERN, words};
 use sheet_lookup::rows as sheets;
 use sheet_rows::part::Part;
-use sheet_rows::row;
 use sheet_rows::row::Row;
+use sheet_rows::{codes, row};
 use sheet_walks::walk;
-use sheet_walks::walk::Found;
 use writer_lists;
 use writer_lists::rows;
 
-// The mark of a url.
-fn mark_of(used: bool) -> u32
-    ensures { result ≡ mark used }
-{
-    if used { 1 } else { 0 }
-}
-
+// The row of an element of a part.
+// Kept: the part picks the row: with a function for each part it would be handed to `copy_part` beside the part that it goes with.
 fn declared(of: Part, used: bool, r: Row) -> Row
     ensures { result ≡ declared_row of used r }
 {
-    if of.kind() == 10 {
-        return rows::line(10, r.a, r.b, mark_of(used), 0, 0, 0, 0);
+    if of.kind() == codes::kind::URL {
+        return rows::line(codes::kind::URL, r.a, r.b, u32::from(used), 0, 0, 0, 0);
     }
-    rows::line(4, r.a, r.b, r.c, r.d, 0, 0, 0)
+    rows::line(codes::kind::INTERFACE, r.a, r.b, r.c, r.d, 0, 0, 0)
 }
 
 // The elements of a part from row `from` on, each a row from row `start` on; the row after. `taken` is the number, from 1, of the
 // url that was taken, 0 where none was.
+// Kept: `taken` is a number and no Option, as the word of the record that it is read from and the definition's mark.
+// Kept: the rows are counted by hand, since the row that is reached is the answer, too.
 fn copy_part(
     sheet: &[u32],
     of: Part,
@@ -48,17 +45,13 @@ fn copy_part(
     requires { RowsFit (declared_rows of taken (drop from (rows sheet.now))) out.old (start + length (declared_rows of taken (drop from (rows sheet.now)))) }
     ensures { Wrote (declared_rows of taken (drop from (rows sheet.now))) out.old out.new result start }
 {
-    let mut at = from;
     let mut p = start;
-    loop {
-        let Found::At(q) = walk::seek(sheet, of, at) else {
-            return p;
-        };
+    for q in walk::elements(sheet, of, from) {
         let n = p - start + 1;
         rows::put(out, p, declared(of, n == taken, row::row_at(sheet, q)));
         p += 1;
-        at = q + 1;
     }
+    p
 }
 
 // The extern that stands at a row.
@@ -70,7 +63,16 @@ fn declaration(sheet: &[u32], at: usize, taken: usize, out: &mut [u32], p: usize
     rows::put(
         out,
         p,
-        rows::line(8, row::row_at(sheet, at).a, 0, 0, 0, 0, 0, 0),
+        rows::line(
+            codes::kind::EXTERN_PROTO,
+            row::row_at(sheet, at).a,
+            0,
+            0,
+            0,
+            0,
+            0,
+            0,
+        ),
     );
     let a = copy_part(sheet, Part::Interfaces, at + 1, 0, out, p + 1);
     copy_part(sheet, Part::Urls, at + 1, taken, out, a)
@@ -102,8 +104,8 @@ pub fn externs<'a>(
                 library,
                 journal_records::word(work, r, words::extern_proto::DOCUMENT),
             );
-            let at = words_lent::wide(journal_records::word(work, r, words::extern_proto::ROW));
-            let taken = words_lent::wide(journal_records::word(work, r, words::extern_proto::MARK));
+            let at = journal_records::word(work, r, words::extern_proto::ROW) as usize;
+            let taken = journal_records::word(work, r, words::extern_proto::MARK) as usize;
             p = declaration(sheet, at, taken, out, p);
         }
     }

@@ -1,4 +1,6 @@
 // The records, gone through once: each node gives its rows and its entry of the ledger, each scope its entry.
+// Kept: words with the places that are reached in them, counted by hand: an iterator over the scopes' entries would hold them
+// borrowed, and a node's entry reads them; the ledger's place is counted as theirs is.
 ghost use Rattle.std.specs.Prelude.{◌+◌, length};
 ghost use Rattle.ast.specs.Lists.{flat};
 ghost use Rattle.sheet_rows.specs.Print.{node_rows};

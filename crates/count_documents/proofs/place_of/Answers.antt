@@ -1,6 +1,5 @@
 use mathlib.Core.Path.{subst, sym}
 use Prim.Native.Nat.{◌+◌}
-use native.Mathlib.Omega.{arith}
 use Rattle.count_documents.specs.Steps.{PlaceUpTo}
 use Rattle.count_documents.proofs.PlaceLaws.{place_hit, place_miss}
 use Rattle.count_documents.proofs.place_of.Goals.{then-known-name, else-known-name}

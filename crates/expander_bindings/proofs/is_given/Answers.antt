@@ -5,9 +5,6 @@ use Rattle.std.specs.declared.result.Result.TheVariants.{Ok}
 use Rattle.expander_bindings.proofs.Stored.{given_outside, given_without, storable, given_stored, given_full}
 use Rattle.expander_bindings.proofs.is_given.Goals as goal
 
-pub target_value-requires : goal.target_value-requires
-target_value-requires c = record { standing = c.requires.standing; env_at = c.requires.env_at }
-
 pub store-requires : goal.store-requires
 store-requires c = record { standing = (storable _ _ _ _ c.args.target c.args.name c.args.h c.requires.standing c.requires.handle_at c.target_value.ensures (c.in_ok-target_value.was ∙ ap Ok c.in-With.is)).0; storable = (storable _ _ _ _ c.args.target c.args.name c.args.h c.requires.standing c.requires.handle_at c.target_value.ensures (c.in_ok-target_value.was ∙ ap Ok c.in-With.is)).1 }
 

@@ -6,9 +6,6 @@ use Rattle.expander_call.proofs.Refusals.{bad_low, at_1, at_2_root, at_2_library
 use native.Mathlib.Omega.{arith}
 use Rattle.expander_call.proofs.expand.Goals as goal
 
-pub run-requires : goal.run-requires
-run-requires c = allowed _ (sym c.lacks_room.ensures ∙ c.if-lacks_room.false) (sym c.wrong_length.ensures ∙ c.if-wrong_length.false) (sym c.wrong_length-2.ensures ∙ c.if-wrong_length-2.false)
-
 pub overflow_cast-result : goal.overflow_cast-result
 overflow_cast-result c = omega (arith, bad_low form.Root c.args.root.now (sym c.check.ensures ∙ c.in-Err.is), (allowed (call_of c.args.root.now c.args.library.now c.args.max_nodes c.args.max_depth c.args.max_rows c.args.out.now c.args.ledger.now c.args.scopes.now c.args.work.now) (sym c.lacks_room.ensures ∙ c.if-lacks_room.false) (sym c.wrong_length.ensures ∙ c.if-wrong_length.false) (sym c.wrong_length-2.ensures ∙ c.if-wrong_length-2.false)).1.0.cap)
 

@@ -1,10 +1,14 @@
-use Prim.Native.Nat.{◌+◌, ◌*◌, ◌-◌, ◌≤◌}
+use Prim.Native.Nat.{◌+◌, ◌*◌, ◌≤◌}
 use lib.ListN.{length}
+use Rattle.std.specs.Iterator.Adapters.{enumerate_source, enumerate_count}
+use Rattle.sheet_rows.specs.declared.part.Part.TheVariants.{Ids, Fields, Interfaces, Statements}
+use Rattle.sheet_walks.proofs.OverLaws.{Over}
 use Rattle.expander_contracts.proofs.ValueLaws.{Valuing}
 use Rattle.expander_contracts.proofs.FieldLaws.{Fielding}
 use Rattle.expander_parts.specs.Contract.{rows_of}
 use Rattle.expander_contracts.proofs.InterfaceLaws.{Interfacing}
 use Rattle.sheet_rows.specs.Rows.{rows}
+use Rattle.expander_contracts.specs.Contract.{root_id, root_place, Rooted}
 use Rattle.expander_contracts.proofs.BodyLaws.{Bodying}
 use Rattle.expander_contracts.proofs.ValuesLaws.{Storing}
 use Rattle.expander_cycle.proofs.+field_fields_interface_interfaces_copy_body_given_instantiate_statement_values_plain_value.Given as goal
@@ -46,31 +50,17 @@ abbrev pub decreases-values::value : goal.decreases-values::value
 decreases-values::value l = l.depth * 16 + 1
 
 abbrev pub invariant-contents::fields-loop-q : goal.invariant-contents::fields-loop-q
-invariant-contents::fields-loop-q l = Fielding l.sources.root.now l.sources.library.now l.sources.dir.now l.initial.journal.work.now l.lim l.initial.journal.counts l.env l.new.0 l.row l.depth l.journal.work.now l.journal.counts l.h l.at
-
-abbrev pub decreases-contents::fields-loop-q : goal.decreases-contents::fields-loop-q
-decreases-contents::fields-loop-q l = length (rows_of l.sources.root.now l.sources.library.now l.sources.dir.now l.env.slot) - l.at
+invariant-contents::fields-loop-q l = Over Fields (rows_of l.sources.root.now l.sources.library.now l.sources.dir.now l.env.slot) l.q-iterator × Fielding l.sources.root.now l.sources.library.now l.sources.dir.now l.initial.journal.work.now l.lim l.initial.journal.counts l.env l.new.0 l.row l.depth l.journal.work.now l.journal.counts l.h l.q-iterator.next
 
 abbrev pub invariant-contents::interfaces-loop-q : goal.invariant-contents::interfaces-loop-q
-invariant-contents::interfaces-loop-q l = Interfacing l.sources.root.now l.sources.library.now l.sources.dir.now l.initial.journal.work.now l.lim l.initial.journal.counts l.env l.new.0 l.row l.depth l.journal.work.now l.journal.counts l.h l.at
-
-abbrev pub decreases-contents::interfaces-loop-q : goal.decreases-contents::interfaces-loop-q
-decreases-contents::interfaces-loop-q l = length (rows_of l.sources.root.now l.sources.library.now l.sources.dir.now l.env.slot) - l.at
+invariant-contents::interfaces-loop-q l = Over Interfaces (rows_of l.sources.root.now l.sources.library.now l.sources.dir.now l.env.slot) l.q-iterator × Interfacing l.sources.root.now l.sources.library.now l.sources.dir.now l.initial.journal.work.now l.lim l.initial.journal.counts l.env l.new.0 l.row l.depth l.journal.work.now l.journal.counts l.h l.q-iterator.next
 
 abbrev pub invariant-instances::body-loop-q : goal.invariant-instances::body-loop-q
-invariant-instances::body-loop-q l = Bodying l.sources.root.now l.sources.library.now l.sources.dir.now l.initial.journal.work.now l.lim l.initial.journal.counts l.env l.id.0 l.inner (rows l.part) l.depth l.journal.work.now l.journal.counts l.root.id.0 l.root.place l.at
+invariant-instances::body-loop-q l = Over Statements (rows l.part) l.q-iterator × Bodying l.sources.root.now l.sources.library.now l.sources.dir.now l.initial.journal.work.now l.lim l.initial.journal.counts l.env l.id.0 l.inner (rows l.part) l.depth l.journal.work.now l.journal.counts (root_id l.root) (root_place l.root) l.q-iterator.next × Rooted l.root
 
-abbrev pub decreases-instances::body-loop-q : goal.decreases-instances::body-loop-q
-decreases-instances::body-loop-q l = length (rows l.part) - l.at
-
-abbrev pub invariant-instances::values-loop-q : goal.invariant-instances::values-loop-q
-invariant-instances::values-loop-q l = (l.at ≤ length (rows l.part)) × Storing l.sources.root.now l.sources.library.now l.sources.dir.now l.initial.journal.work.now l.lim l.initial.journal.counts l.env l.row l.slot l.proto.0 l.decl l.depth l.journal.work.now l.journal.counts l.h (l.decl + l.at) l.k
-
-abbrev pub decreases-instances::values-loop-q : goal.decreases-instances::values-loop-q
-decreases-instances::values-loop-q l = length (rows l.part) - l.at
+abbrev pub invariant-instances::values-loop-k : goal.invariant-instances::values-loop-k
+invariant-instances::values-loop-k l =
+    Over Interfaces (rows l.part) (enumerate_source l.k-iterator) × ((enumerate_source l.k-iterator).next ≤ length (rows l.part)) × Storing l.sources.root.now l.sources.library.now l.sources.dir.now l.initial.journal.work.now l.lim l.initial.journal.counts l.env l.row l.target.slot l.target.proto.0 l.decl l.depth l.journal.work.now l.journal.counts l.h (l.decl + (enumerate_source l.k-iterator).next) (enumerate_count l.k-iterator)
 
 abbrev pub invariant-values::value-loop-q : goal.invariant-values::value-loop-q
-invariant-values::value-loop-q l = Valuing l.sources.root.now l.sources.library.now l.sources.dir.now l.initial.journal.work.now l.lim l.initial.journal.counts l.env l.row l.depth l.journal.work.now l.journal.counts l.h l.at
-
-abbrev pub decreases-values::value-loop-q : goal.decreases-values::value-loop-q
-decreases-values::value-loop-q l = length (rows_of l.sources.root.now l.sources.library.now l.sources.dir.now l.env.slot) - l.at
+invariant-values::value-loop-q l = Over Ids (rows_of l.sources.root.now l.sources.library.now l.sources.dir.now l.env.slot) l.q-iterator × Valuing l.sources.root.now l.sources.library.now l.sources.dir.now l.initial.journal.work.now l.lim l.initial.journal.counts l.env l.row l.depth l.journal.work.now l.journal.counts l.h l.q-iterator.next

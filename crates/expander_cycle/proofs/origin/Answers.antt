@@ -9,8 +9,8 @@ row_of-r-requires c = slot_within c.requires.lent.sourced c.requires.slot
 pub extern_proto-requires : goal.extern_proto-requires
 extern_proto-requires c = record { standing = c.requires.standing; lent = c.requires.lent; slot = c.requires.slot }
 
-pub returns-then-r-eq2 : goal.returns-then-r-eq2
-returns-then-r-eq2 c = origin_extern _ _ _ _ _ _ _ _ c.requires _ c.row_of-r.ensures c.if-r-eq2.true c.extern_proto.ensures
+pub returns-then-r-eq-EXTERN_PROTO : goal.returns-then-r-eq-EXTERN_PROTO
+returns-then-r-eq-EXTERN_PROTO c = origin_extern _ _ _ _ _ _ _ _ c.requires _ c.row_of-r.ensures c.if-r-eq-EXTERN_PROTO.true c.extern_proto.ensures
 
 pub returns : goal.returns
-returns c = origin_other _ _ _ _ _ _ _ _ c.requires _ c.row_of-r.ensures c.if-r-eq2.false refl
+returns c = origin_other _ _ _ _ _ _ _ _ c.requires _ c.row_of-r.ensures c.if-r-eq-EXTERN_PROTO.false refl

@@ -6,9 +6,6 @@ use Rattle.expander_fields.proofs.Fields.{field_refused, stays_keepable, field_s
 use Rattle.expander_bindings.proofs.Associations.{then_standing, then_env}
 use Rattle.expander_fields.proofs.is_field.Goals as goal
 
-pub associate-requires : goal.associate-requires
-associate-requires c = record { standing = c.requires.standing; env_at = c.requires.env_at }
-
 pub returns-in_err-associate : goal.returns-in_err-associate
 returns-in_err-associate c = rw (exit c.from_residual.ensures.1) (rw c.in_err-associate.was at (field_refused _ _ _ _ _ c.args.r _ c.requires.standing c.requires.env_at c.requires.handle_at c.associate.ensures (ap (done_given _) c.in_err-associate.was)))
 

@@ -1,25 +1,16 @@
 use mathlib.Core.Path.{refl}
 use Rattle.sheet_rows.specs.Rows.{rows}
-use Rattle.expander_parts.proofs.Lending.{findable, found_low, enterable}
+use Rattle.expander_parts.proofs.Lending.{found_low}
 use Rattle.expander_parts.proofs.Counts.{counted}
 use Rattle.expander_parts.proofs.Externs.{externs_few, rows_few, extern_row, extern_found, extern_missing, extern_full, extern_done}
 use native.Mathlib.Omega.{arith}
 use Rattle.expander_parts.proofs.extern_proto.Goals as goal
-
-pub number-document-requires : goal.number-document-requires
-number-document-requires c = omega (arith, c.requires.slot.upto, c.requires.lent.sourced.directory.few, c.requires.lent.sourced.directory.long)
-
-pub find-requires : goal.find-requires
-find-requires c = record { rows = c.requires.standing.ready.rows; findable = findable c.requires.standing 2 refl }
 
 pub word-requires : goal.word-requires
 word-requires c = (omega (arith, found_low _ _ _ _ _ c.find.ensures c.in-Some.is, c.requires.standing.ready.room, c.requires.standing.sound.charges), omega arith)
 
 pub returns-in-Some : goal.returns-in-Some
 returns-in-Some c = extern_found _ c.args.sources.now.root.now c.args.sources.now.library.now _ _ _ _ _ _ c.number-document.ensures c.requires.standing.sound c.find.ensures c.in-Some.is _ c.word.ensures
-
-pub extern_proto-requires : goal.extern_proto-requires
-extern_proto-requires c = (rw c.lent.ensures c.requires.lent.sourced, c.requires.slot)
 
 pub returns-in_default-extern_proto : goal.returns-in_default-extern_proto
 returns-in_default-extern_proto c = extern_missing _ _ _ _ _ _ _ _ _ c.number-document.ensures c.requires.standing.sound c.find.ensures c.in_default.is c.extern_proto.ensures c.in_default-extern_proto.is
@@ -33,9 +24,6 @@ overflow_add-at-2 c = omega (arith, rows_few c.requires.lent c.number-document.r
 pub overflow_add-n : goal.overflow_add-n
 overflow_add-n c = omega (arith, rows_few c.requires.lent c.number-document.result c.select-sheet.ensures, (counted {R = rows c.select-sheet.result.now} c.count.ensures).few, (counted {R = rows c.select-sheet.result.now} c.count-2.ensures).few)
 
-pub overflow_sub-lim : goal.overflow_sub-lim
-overflow_sub-lim c = omega (arith, c.requires.standing.sound.charges)
-
 pub returns-then-lim-c : goal.returns-then-lim-c
 returns-then-lim-c c = extern_full _ _ _ _ _ _ _ _ _ c.number-document.ensures c.requires.standing.sound c.find.ensures c.in_default.is c.extern_proto.ensures c.in-At.is c.select-sheet.ensures (counted c.count.ensures) (counted c.count-2.ensures) c.if-lim-c.true refl
 
@@ -45,29 +33,5 @@ overflow_cast-out c = omega (arith, externs_few c.requires.standing.sound, c.req
 pub overflow_cast-row : goal.overflow_cast-row
 overflow_cast-row c = omega (arith, rows_few c.requires.lent c.number-document.result c.select-sheet.ensures, extern_row c.requires.lent c.number-document.result c.select-sheet.ensures c.args.slot c.number-document.ensures c.extern_proto.ensures c.in-At.is)
 
-pub mark-mark-requires : goal.mark-mark-requires
-mark-mark-requires c = (rw c.lent-2.ensures c.requires.lent.sourced, c.requires.slot)
-
-pub overflow_mul-lim : goal.overflow_mul-lim
-overflow_mul-lim c = omega (arith, c.requires.standing.ready.rows)
-
-pub enter-requires : goal.enter-requires
-enter-requires c = rw c.extern_entry.ensures (enterable c.requires.standing (omega (arith, c.if-lim-c.false, c.requires.standing.sound.charges)) _ refl)
-
-pub overflow_add-c : goal.overflow_add-c
-overflow_add-c c = omega (arith, c.if-lim-c.false, c.requires.standing.sound.charges, c.requires.standing.ready.rows)
-
-pub paid-requires : goal.paid-requires
-paid-requires c = omega (arith, c.if-lim-c.false, c.requires.standing.sound.charges, c.requires.standing.ready.room, c.enter.auto.work)
-
-pub overflow_add-journal : goal.overflow_add-journal
-overflow_add-journal c = omega (arith, externs_few c.requires.standing.sound, c.requires.standing.sound.charges, c.requires.standing.ready.rows)
-
-pub overflow_add-journal-2 : goal.overflow_add-journal-2
-overflow_add-journal-2 c = omega (arith, c.if-lim-c.false, c.requires.standing.sound.charges, c.requires.standing.ready.rows)
-
-pub overflow_add-journal-3 : goal.overflow_add-journal-3
-overflow_add-journal-3 c = omega (arith, c.if-lim-c.false, c.requires.standing.sound.charges, c.requires.standing.ready.rows)
-
 pub returns : goal.returns
-returns c = extern_done _ _ _ _ _ _ _ _ _ c.number-document.ensures c.requires.standing.sound c.find.ensures c.in_default.is c.extern_proto.ensures c.in-At.is c.select-sheet.ensures (counted c.count.ensures) (counted c.count-2.ensures) c.mark-mark.ensures c.if-lim-c.false c.enter.auto.work c.paid.auto.work (rw c.extern_entry.ensures at c.enter.ensures) c.paid.ensures
+returns c = extern_done _ _ _ _ _ _ _ _ _ c.number-document.ensures c.requires.standing.sound c.find.ensures c.in_default.is c.extern_proto.ensures c.in-At.is c.select-sheet.ensures (counted c.count.ensures) (counted c.count-2.ensures) c.mark-mark.ensures c.if-lim-c.false c.enter.auto.work c.paid.auto.work (rw (c.heads.ensures.at, c.heads.ensures.slots, c.extern_entry.ensures) at c.enter.ensures) c.paid.ensures

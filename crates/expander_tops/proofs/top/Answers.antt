@@ -4,26 +4,22 @@ use mathlib.Core.Path.{ap, refl}
 use Rattle.sheet_rows.specs.declared.part.Part.TheVariants.{Tops}
 use Rattle.sheet_walks.proofs.WalkLaws.{stands, missing}
 use Rattle.expander_contracts.proofs.TopLaws.{top_few, top_standing, top_stop, top_here, top_none, top_all}
-use native.Mathlib.Omega.{arith}
 use Rattle.expander_tops.proofs.top.Goals as goal
 
 pub returns-then-lim-lt3 : goal.returns-then-lim-lt3
 returns-then-lim-lt3 c = top_few _ _ _ _ _ _ c.requires c.if-lim-lt3.true refl
 
-pub paid-requires : goal.paid-requires
-paid-requires c = omega (arith, c.requires.standing.ready.room, c.if-lim-lt3.false)
-
 pub open-requires : goal.open-requires
 open-requires c = top_standing _ _ _ _ _ c.args.depth c.requires c.if-lim-lt3.false c.paid.auto.work c.paid.ensures
 
 pub returns : goal.returns
-returns c = top_all _ _ _ _ _ _ c.requires c.if-lim-lt3.false c.paid.auto.work c.paid.ensures c.open.ensures (ap (scope_given _) c.in_ok-opened.was) _ refl refl refl refl refl (stands Tops _ 1 c.seek.ensures c.in-At.is) c.tops.ensures
+returns c = top_all _ _ _ _ _ _ c.requires c.if-lim-lt3.false c.paid.auto.work c.paid.ensures c.open.ensures (ap (scope_given _) c.in_ok-opened.was) _ refl refl refl refl (stands Tops _ 1 c.seek.ensures c.in-At.is) c.tops.ensures
 
 pub returns-in_err-opened : goal.returns-in_err-opened
 returns-in_err-opened c = rw (exit c.from_residual.ensures.1) (top_stop _ _ _ _ _ _ c.requires c.if-lim-lt3.false c.paid.auto.work c.paid.ensures (rw c.in_err-opened.was at c.open.ensures) refl)
 
 pub returns-in_default : goal.returns-in_default
-returns-in_default c = top_none _ _ _ _ _ _ c.requires c.if-lim-lt3.false c.paid.auto.work c.paid.ensures c.open.ensures (ap (scope_given _) c.in_ok-opened.was) _ refl refl refl refl refl (missing Tops _ 1 c.seek.ensures c.in_default.is)
+returns-in_default c = top_none _ _ _ _ _ _ c.requires c.if-lim-lt3.false c.paid.auto.work c.paid.ensures c.open.ensures (ap (scope_given _) c.in_ok-opened.was) _ refl refl refl refl (missing Tops _ 1 c.seek.ensures c.in_default.is)
 
 pub tops-requires : goal.tops-requires
-tops-requires c = record { here = top_here _ _ _ _ _ c.args.depth c.requires c.if-lim-lt3.false c.paid.auto.work c.paid.ensures c.open.ensures (ap (scope_given _) c.in_ok-opened.was) _ refl refl refl refl refl; slot_value = refl; row_in_bounds = (stands Tops _ 1 c.seek.ensures c.in-At.is).below }
+tops-requires c = record { here = top_here _ _ _ _ _ c.args.depth c.requires c.if-lim-lt3.false c.paid.auto.work c.paid.ensures c.open.ensures (ap (scope_given _) c.in_ok-opened.was) _ refl refl refl refl; slot_value = refl; row_in_bounds = (stands Tops _ 1 c.seek.ensures c.in-At.is).below }

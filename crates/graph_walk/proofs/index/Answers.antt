@@ -8,14 +8,14 @@ use Rattle.graph_walk.proofs.index.Goals as goal
 pub loop-at-init : goal.loop-at-init
 loop-at-init c = indexing_start (rows c.args.sheet.now) c.args.from c.args.work.now
 
-pub returns-then-kind-eq11 : goal.returns-then-kind-eq11
-returns-then-kind-eq11 c = indexed_stop c.loop-at.invariant c.requires (omega (arith, rows_count c.args.sheet.now)) c.row_at-kind.ensures c.if-kind-eq11.true
+pub returns-then-kind-eq-TOP : goal.returns-then-kind-eq-TOP
+returns-then-kind-eq-TOP c = indexed_stop c.loop-at.invariant c.requires (omega (arith, rows_count c.args.sheet.now)) c.row_at-kind.ensures c.if-kind-eq-TOP.true
 
-pub loop-at-preserved-then-kind-ne2 : goal.loop-at-preserved-then-kind-ne2
-loop-at-preserved-then-kind-ne2 c = indexing_pass c.loop-at.invariant c.requires (omega (arith, rows_count c.args.sheet.now)) c.row_at-kind.ensures c.if-kind-eq11.false c.if-kind-ne2.true
+pub loop-at-preserved-then-kind-ne-NODE : goal.loop-at-preserved-then-kind-ne-NODE
+loop-at-preserved-then-kind-ne-NODE c = indexing_pass c.loop-at.invariant c.requires (omega (arith, rows_count c.args.sheet.now)) c.row_at-kind.ensures c.if-kind-eq-TOP.false c.if-kind-ne-NODE.true
 
 pub loop-at-preserved : goal.loop-at-preserved
-loop-at-preserved c = indexing_node c.loop-at.invariant c.requires (omega (arith, rows_count c.args.sheet.now)) c.row_at-kind.ensures c.if-kind-eq11.false c.if-kind-ne2.false c.put_pair.ensures c.put_pair-in-loop-at.ensures
+loop-at-preserved c = indexing_node c.loop-at.invariant c.requires (omega (arith, rows_count c.args.sheet.now)) c.row_at-kind.ensures c.if-kind-eq-TOP.false c.if-kind-ne-NODE.false c.put_pair.ensures c.put_pair-in-loop-at.ensures
 
 pub returns : goal.returns
 returns c =

@@ -7,27 +7,24 @@ use Rattle.graph_walk.specs.Scan.{starts_from}
 use Rattle.graph_walk.proofs.ScanLaws.{starts_end, starts_stop, starts_node, starts_pass, end_end, end_stop, end_pass}
 use Rattle.graph_walk.proofs.LoopLaws.{scan_start, scan_same, scan_end, scan_ready, scan_more}
 use native.Mathlib.Omega.{arith}
-use Rattle.graph_walk.proofs.start.Goals.{then-r-eq0, else-r-eq0}
+use Rattle.graph_walk.proofs.start.Goals.{then-r-eq-NODE, else-r-eq-NODE}
 use Rattle.graph_walk.proofs.start.Goals as goal
 
-pub loop-at-init : goal.loop-at-init
-loop-at-init c = (omega arith, scan_start c.args.nodes 0 c.args.work.now (starts_from (drop c.args.from (rows c.args.sheet.now))), refl)
-
-pub returns-then-r-ne5 : goal.returns-then-r-ne5
-returns-then-r-ne5 c = record { mentioned = scan_end c.loop-at.invariant.1 (starts_stop (rows c.args.sheet.now) c.loop-at.at (omega (arith, rows_count c.args.sheet.now)) c.row_at-r.ensures c.if-r-ne5.true); next = sym (c.loop-at.invariant.2 ∙ end_stop (rows c.args.sheet.now) c.loop-at.at (omega (arith, rows_count c.args.sheet.now)) c.row_at-r.ensures c.if-r-ne5.true) }
+pub returns-then-r-ne-STATEMENT : goal.returns-then-r-ne-STATEMENT
+returns-then-r-ne-STATEMENT c = record { mentioned = scan_end c.loop-at.invariant.1 (starts_stop (rows c.args.sheet.now) c.loop-at.at (omega (arith, rows_count c.args.sheet.now)) c.row_at-r.ensures c.if-r-ne-STATEMENT.true); next = sym (c.loop-at.invariant.2 ∙ end_stop (rows c.args.sheet.now) c.loop-at.at (omega (arith, rows_count c.args.sheet.now)) c.row_at-r.ensures c.if-r-ne-STATEMENT.true) }
 
 pub mention-tail-requires : goal.mention-tail-requires
-mention-tail-requires c = scan_ready c.loop-at.invariant.1 (starts_node (rows c.args.sheet.now) c.loop-at.at (omega (arith, rows_count c.args.sheet.now)) c.row_at-r.ensures c.if-r-ne5.false c.if-r-eq0.true) c.requires
+mention-tail-requires c = scan_ready c.loop-at.invariant.1 (starts_node (rows c.args.sheet.now) c.loop-at.at (omega (arith, rows_count c.args.sheet.now)) c.row_at-r.ensures c.if-r-ne-STATEMENT.false c.if-r-eq-NODE.true) c.requires
 
 pub loop-at-preserved : goal.loop-at-preserved
 loop-at-preserved c =
     let R = rows c.args.sheet.now in
     let l = c.loop-at in
     let h : l.at < length R = omega (arith, rows_count c.args.sheet.now) in
-    let next = l.invariant.2 ∙ end_pass R l.at h c.row_at-r.ensures c.if-r-ne5.false in
-    elim c.if-r-eq0.branch [
-      | then-r-eq0 w ↦ (omega (arith, h), rw (w.tail-is, w.work-is) (scan_more l.invariant.1 (starts_node R l.at h c.row_at-r.ensures c.if-r-ne5.false w.if-r-eq0.true) w.mention-tail.ensures w.mention-tail.auto.work), next)
-      | else-r-eq0 w ↦ (omega (arith, h), rw (w.tail-is, w.work-is) (scan_same l.invariant.1 (starts_pass R l.at h c.row_at-r.ensures c.if-r-ne5.false w.if-r-eq0.false)), next)
+    let next = l.invariant.2 ∙ end_pass R l.at h c.row_at-r.ensures c.if-r-ne-STATEMENT.false in
+    elim c.if-r-eq-NODE.branch [
+      | then-r-eq-NODE w ↦ (omega (arith, h), rw (w.tail-is, w.work-is) (scan_more l.invariant.1 (starts_node R l.at h c.row_at-r.ensures c.if-r-ne-STATEMENT.false w.if-r-eq-NODE.true) w.mention-tail.ensures w.mention-tail.auto.work), next)
+      | else-r-eq-NODE w ↦ (omega (arith, h), rw (w.tail-is, w.work-is) (scan_same l.invariant.1 (starts_pass R l.at h c.row_at-r.ensures c.if-r-ne-STATEMENT.false w.if-r-eq-NODE.false)), next)
     ]
 
 pub returns : goal.returns

@@ -1,19 +1,15 @@
 use mathlib.Core.Path.{refl}
 use Rattle.refine_nodes.proofs.Reserving.{reserve_most, reserve_full, reserve_enter, reserve_done}
-use native.Mathlib.Omega.{arith}
 use Rattle.refine_nodes.proofs.reserve.Goals as goal
 
-pub returns-then-lim-wide : goal.returns-then-lim-wide
-returns-then-lim-wide c = reserve_most _ _ _ _ _ c.requires.standing c.requires.env_at _ c.wide.ensures.same c.if-lim-wide.true
+pub returns-then-lim-new : goal.returns-then-lim-new
+returns-then-lim-new c = reserve_most _ _ _ _ _ c.requires.standing c.requires.env_at _ refl c.if-lim-new.true
 
 pub returns-then-lim-c-lt2 : goal.returns-then-lim-c-lt2
-returns-then-lim-c-lt2 c = reserve_full _ _ _ _ _ c.requires.standing c.requires.env_at _ c.wide.ensures.same c.if-lim-wide.false c.if-lim-c-lt2.true _ refl
+returns-then-lim-c-lt2 c = reserve_full _ _ _ _ _ c.requires.standing c.requires.env_at _ refl c.if-lim-new.false c.if-lim-c-lt2.true _ refl
 
 pub enter-requires : goal.enter-requires
-enter-requires c = rw c.map_entry.ensures (reserve_enter _ _ _ c.args.env _ c.requires.standing c.requires.env_at _ c.wide.ensures.same c.if-lim-wide.false c.if-lim-c-lt2.false _ c.push.auto.work (rw c.reserved.ensures at c.push.ensures))
-
-pub overflow_add-journal : goal.overflow_add-journal
-overflow_add-journal c = omega (arith, c.requires.standing.ready.nodes, c.if-lim-wide.false, c.wide.ensures.same)
+enter-requires c = rw (c.heads.ensures.at, c.heads.ensures.slots, c.map_entry.ensures) (reserve_enter _ _ _ c.args.env _ c.requires.standing c.requires.env_at _ refl c.if-lim-new.false c.if-lim-c-lt2.false _ c.push.auto.work (rw c.reserved.ensures at c.push.ensures))
 
 pub returns : goal.returns
-returns c = reserve_done _ _ _ _ _ c.requires.standing c.requires.env_at _ c.wide.ensures.same c.if-lim-wide.false c.if-lim-c-lt2.false _ c.push.auto.work (rw c.reserved.ensures at c.push.ensures) _ c.enter.auto.work (rw c.map_entry.ensures at c.enter.ensures)
+returns c = reserve_done _ _ _ _ _ c.requires.standing c.requires.env_at _ refl c.if-lim-new.false c.if-lim-c-lt2.false _ c.push.auto.work (rw c.reserved.ensures at c.push.ensures) _ c.enter.auto.work (rw (c.heads.ensures.at, c.heads.ensures.slots, c.map_entry.ensures) at c.enter.ensures)

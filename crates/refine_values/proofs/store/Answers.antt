@@ -1,12 +1,12 @@
 use mathlib.Core.Path.{refl}
-use Rattle.refine_values.proofs.Storing.{store_full, store_joinable, store_done}
+use Rattle.refine_records.proofs.Exits.{exit}
+use Rattle.refine_values.proofs.Storing.{store_full, store_done}
 use Rattle.refine_values.proofs.store.Goals as goal
 
-pub returns-then-lim-c : goal.returns-then-lim-c
-returns-then-lim-c c = store_full _ _ _ _ _ _ _ _ c.if-lim-c.true _ refl
-
-pub join-requires : goal.join-requires
-join-requires c = rw c.stored.ensures (store_joinable _ _ _ _ _ _ _ _ c.requires.standing c.requires.storable c.if-lim-c.false)
+pub returns-in_err-c : goal.returns-in_err-c
+returns-in_err-c c = store_full _ _ _ _ _ _ _ _ c.in_err-c.ensures.1 _ (rw (exit c.from_residual.ensures.1, c.in_err-c.ensures.0) refl)
 
 pub returns : goal.returns
-returns c = store_done _ _ _ _ _ _ _ _ c.requires.standing c.requires.storable c.if-lim-c.false _ c.join.auto.work (rw c.stored.ensures at c.join.ensures) _ c.charged-journal.ensures
+returns c =
+    let e = c.in_ok-c.ensures in
+    rw e.0 (store_done _ _ _ _ _ _ _ _ c.requires.standing c.requires.storable (rw e.0 at e.1) _ c.join.auto.work (rw (e.0, c.heads.ensures.at, c.heads.ensures.slots, c.stored.ensures) at c.join.ensures) _ refl)

@@ -1,19 +1,10 @@
-use mathlib.Core.Path.{◌≡◌}
 use lib.ListN.{length-set}
-use native.Mathlib.Omega.{arith}
+use Rattle.sheet_rows.specs.Rows.{rows}
+use Rattle.source_directory.proofs.DirectoryLaws.{stored_more}
 use Rattle.source_directory.proofs.store.Goals as goal
 
-pub bounds-dir-65 : goal.bounds-dir-65
-bounds-dir-65 c = simp length-set (omega arith)
-
-pub bounds-dir-194 : goal.bounds-dir-194
-bounds-dir-194 c = simp length-set (omega arith)
-
-pub bounds-dir-slot-in-loop-j : goal.bounds-dir-slot-in-loop-j
-bounds-dir-slot-in-loop-j c = simp length-set (omega arith)
-
-pub bounds-dir-j : goal.bounds-dir-j
-bounds-dir-j c = simp length-set (omega arith)
-
-pub returns : goal.returns
-returns c = let z : c.loop-j.j ≡ 64 = omega (arith, c.loop-j-test.false, c.loop-j.auto.j-end) in (simp length-set at c.loop-j.invariant.1, rw z at c.loop-j.invariant.2)
+pub loop-j-preserved : goal.loop-j-preserved
+loop-j-preserved c =
+    let i = c.loop-j.invariant in
+    let e = c.words_of-number.ensures in
+    (simp length-set i.0, simp length-set (simp length-set at i.1), rw e.0 (stored_more (rows c.args.library.now) c.args.table c.loop-j.dir i.0 c.loop-j.j c.words_of-number.result.1 c.loop-j-test.true i.2 e.1))

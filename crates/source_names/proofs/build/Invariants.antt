@@ -6,4 +6,4 @@ use Rattle.source_names.specs.Names.{TablesGrown}
 use Rattle.source_names.proofs.build.Given as goal
 
 abbrev pub invariant-loop-node : goal.invariant-loop-node
-invariant-loop-node l = Over Nodes (rows (sheet_of l.root l.library l.number)) l.node-iterator × TablesGrown l.root l.library l.free l.at l.many l.place l.end l.next l.initial.work l.work
+invariant-loop-node l = Over Nodes (rows (sheet_of l.root l.library l.number)) l.node-iterator × TablesGrown l.root l.library l.room.free l.room.at l.room.many l.place l.room.end l.next l.initial.work l.work

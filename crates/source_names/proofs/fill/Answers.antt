@@ -1,4 +1,3 @@
-use Rattle.sheet_rows.specs.Rows.{rows}
 use Rattle.sheet_rows.proofs.RowLaws.{rows_length}
 use Rattle.sheet_walks.proofs.OverLaws.{over_none, over_at, over_next}
 use Rattle.source_names.proofs.NameLaws.{fill_start, fill_more, fill_full, fill_end}

@@ -1,7 +1,7 @@
 use Rattle.std.proofs.Common.{◌≡◌, ◌∙◌, sym, ap, ◌+◌, ◌-◌, ◌*◌, ◌/◌, length, take, drop, arith}
 use Rattle.std.proofs.lemmas.List.Edits.{sets}
 use Rattle.text_lines.specs.Read.{numbers}
-use Rattle.text_lines.proofs.ListLaws.{mid_sets}
+use Rattle.text_decimal.proofs.StoreLaws.{mid_sets}
 use Rattle.text_lines.proofs.ReadLaws.{uneven, too_many, first_bad, all_good, numbers_front, rows_left, rows_turn, rows_end}
 use Rattle.text_lines.proofs.read_lines.Goals as goal
 use Rattle.text_lines.proofs.read_lines.Goals.{then-lines-ne0-via-then-lines-ne0, then-lines-ne0-via-else-lines-ne0+then-words-rows}

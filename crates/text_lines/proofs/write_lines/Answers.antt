@@ -2,7 +2,7 @@ use Rattle.std.proofs.Common.{◌≡◌, ◌∙◌, sym, ap, ◌+◌, ◌-◌, �
 use lib.ListN.{length-take, length-drop}
 use Rattle.std.proofs.lemmas.List.Edits.{sets}
 use Rattle.text_lines.specs.Write.{line}
-use Rattle.text_lines.proofs.ListLaws.{mid_sets}
+use Rattle.text_decimal.proofs.StoreLaws.{mid_sets}
 use Rattle.text_lines.proofs.WriteLaws.{uneven, too_few, all_fit, line_length, lines_left, lines_turn, lines_end}
 use Rattle.text_lines.proofs.write_lines.Goals as goal
 use Rattle.text_lines.proofs.write_lines.Goals.{then-words-ne0-via-then-words-ne0, then-words-ne0-via-else-words-ne0+then-lines-rows}

@@ -1,10 +1,10 @@
-use mathlib.Core.Path.{refl}
-use Rattle.writer_lists.proofs.Chains.{count_again, count_stop}
-use native.Mathlib.Omega.{arith}
+use mathlib.Core.Path.{◌∙◌}
+use Rattle.std.proofs.lemmas.Iterator.Consumers.{count_from_yields_List}
+use Rattle.journal_records.proofs.Handles.{yields}
+use Rattle.writer_lists.proofs.Chains.{ids_count}
 use Rattle.writer_lists.proofs.count_ids.Goals as goal
 
-pub loop-cur-preserved : goal.loop-cur-preserved
-loop-cur-preserved c = count_again _ _ c.loop-cur.invariant c.loop-cur-test.true c.before-cur.ensures refl
-
 pub returns : goal.returns
-returns c = count_stop _ _ c.loop-cur.invariant (omega arith)
+returns c =
+    let e = c.records.ensures in
+    count_from_yields_List _ c.count.result c.count.ensures.ran (yields c.records.result) ∙ rw (e.work, e.next) (ids_count c.args.work.now c.args.h)

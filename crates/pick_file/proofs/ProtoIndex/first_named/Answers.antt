@@ -1,6 +1,5 @@
 use mathlib.Core.Path.{◌∙◌}
-use Rattle.sheet_rows.specs.Rows.{rows}
-use Rattle.pick_file.proofs.FileLaws.{pass_start, first_none, first_here, first_pass}
+use Rattle.pick_file.proofs.FileLaws.{first_none, first_here, first_pass}
 use Rattle.pick_file.proofs.ProtoIndex.first_named.Goals as goal
 
 pub returns : goal.returns

@@ -7,4 +7,4 @@ use Rattle.pick_table.proofs.ListedLaws.{Listing}
 use Rattle.pick_table.proofs.table.list.Given as goal
 
 abbrev pub invariant-loop-q : goal.invariant-loop-q
-invariant-loop-q l = Over Files (rows l.library) l.q-iterator × (length l.slots ≡ length l.initial.slots) × Listing (rows l.library) l.slots l.from l.n l.q-iterator.next
+invariant-loop-q l = Over Files (rows l.library) l.q-iterator × (length l.slots ≡ length l.initial.slots) × Listing (rows l.library) l.slots l.n l.q-iterator.next

@@ -1,9 +1,12 @@
 use mathlib.Core.Path.{refl}
+use Rattle.refine_records.proofs.Exits.{exit}
 use Rattle.refine_records.proofs.Keeping.{keep_full, keep_done}
 use Rattle.refine_records.proofs.Journal.keep.Goals as goal
 
-pub returns-then-lim-c : goal.returns-then-lim-c
-returns-then-lim-c c = keep_full _ _ _ _ c.if-lim-c.true _ refl
+pub returns-in_err-c : goal.returns-in_err-c
+returns-in_err-c c = keep_full _ _ _ _ c.in_err-c.ensures.1 _ (rw (exit c.from_residual.ensures.1, c.in_err-c.ensures.0) refl)
 
 pub returns : goal.returns
-returns c = keep_done _ _ _ _ c.requires.standing c.requires.keepable c.if-lim-c.false _ c.push.auto.work c.push.ensures _ c.charged-self.ensures
+returns c =
+    let e = c.in_ok-c.ensures in
+    rw e.0 (keep_done _ _ _ _ c.requires.standing c.requires.keepable (rw e.0 at e.1) _ c.push.auto.work (rw e.0 at c.push.ensures) _ refl)

@@ -1,30 +1,26 @@
-use Prim.Native.Nat.{◌<◌, ◌/◌}
-use Rattle.source_directory.specs.Directory.{size}
-use Rattle.words_lent.proofs.WordLaws.{stays, stays_on}
-use Rattle.source_directory.proofs.GroupLaws.{indexing_start, indexing_more, all_grouped}
+use Prim.Native.Nat.{◌<◌}
+use Rattle.source_directory.proofs.GroupLaws.{after_nodes, after_protos, slot_grouped, all_grouped}
 use native.Mathlib.Omega.{arith}
 use Rattle.source_directory.proofs.indexes.index_all.Goals as goal
 
-pub bounds-dir-194 : goal.bounds-dir-194
-bounds-dir-194 c = omega (arith, c.requires.0.long)
-
-pub overflow_add-count : goal.overflow_add-count
-overflow_add-count c = omega (arith, c.requires.0.few, c.wide.ensures.same)
-
-pub overflow_mul-count : goal.overflow_mul-count
-overflow_mul-count c = omega (arith, c.requires.0.few, c.wide.ensures.same)
-
-pub loop-k-init : goal.loop-k-init
-loop-k-init c = (c.requires.1, stays _, stays _, indexing_start _ _ c.requires.0)
+pub index_one-externs-requires : goal.index_one-externs-requires
+index_one-externs-requires c =
+    let few : c.loop-slot.slot < 65 = omega (arith, c.requires.0.few) in
+    let x = after_nodes few c.loop-slot.invariant c.index_one-protos.ensures in
+    (x.indexing.directory, few, x.upto, omega (arith, x.work_stays.long), c.requires.3)
 
 pub index_one-place-requires : goal.index_one-place-requires
-index_one-place-requires c = (c.loop-k.invariant.3.directory, omega (arith, c.requires.0.few, c.wide.ensures.same), omega arith, c.loop-k.invariant.0, omega (arith, c.loop-k.invariant.2.long), c.requires.3)
+index_one-place-requires c =
+    let few : c.loop-slot.slot < 65 = omega (arith, c.requires.0.few) in
+    let x = after_protos few c.loop-slot.invariant c.index_one-protos.ensures c.index_one-externs.ensures in
+    (x.indexing.directory, few, x.upto, omega (arith, x.work_stays.long), c.requires.3)
 
-pub loop-k-preserved : goal.loop-k-preserved
-loop-k-preserved c =
-    let g = c.index_one-place.ensures in
-    let few : c.loop-k.k / 3 < 65 = omega (arith, c.requires.0.few, c.wide.ensures.same) in
-    (g.upto, stays_on 200 size c.loop-k.invariant.1 g.dir_stays (omega arith) (omega arith) (omega arith) (omega arith), stays_on c.args.at c.args.end c.loop-k.invariant.2 g.work_stays (omega arith) (omega (arith, c.loop-k.invariant.3.after)) (omega arith) g.upto, indexing_more c.loop-k.invariant.3 g few (omega arith) (omega arith))
+pub loop-slot-preserved : goal.loop-slot-preserved
+loop-slot-preserved c =
+    let few : c.loop-slot.slot < 65 = omega (arith, c.requires.0.few) in
+    slot_grouped few c.loop-slot.invariant c.index_one-protos.ensures c.index_one-externs.ensures c.index_one-place.ensures
 
-pub returns : goal.returns
-returns c = all_grouped c.loop-k.invariant.3 c.loop-k.invariant.0 (omega (arith, c.wide.ensures.same)) c.loop-k.invariant.1 c.loop-k.invariant.2
+pub returns-2 : goal.returns-2
+returns-2 c =
+    let few : c.loop-slot.slot < 65 = omega (arith, c.requires.0.few) in
+    all_grouped (slot_grouped few c.loop-slot.invariant c.index_one-protos.ensures c.index_one-externs.ensures c.index_one-place.ensures) (omega arith)

@@ -1,9 +1,8 @@
 use Rattle.source_directory.proofs.GroupLaws.{node_at_lem}
-use native.Mathlib.Omega.{arith}
 use Rattle.source_lookup.proofs.Sources.node.Goals as goal
 
 pub locate-requires : goal.locate-requires
-locate-requires c = (c.requires.0, c.requires.1, omega arith)
+locate-requires c = c.requires
 
 pub returns : goal.returns
 returns c = node_at_lem c.args.self.now.root.now c.args.self.now.library.now _ _ (c.requires.0.directory.begins c.args.slot c.requires.1) c.locate.ensures

@@ -1,4 +1,6 @@
-use mathlib.Core.Path.{subst, sym, ◌∙◌}
+use Rattle.std.specs.Prelude.{get_or}
+use mathlib.Core.Path.{◌≡◌, refl, subst, sym, ◌∙◌}
+use Prim.Native.Nat.{◌+◌, ◌*◌}
 use lib.Seq.{length-take-le}
 use Rattle.sheet_rows.specs.Rows.{rows}
 use Rattle.sheet_lookup.specs.Lookup.{sheet_of}
@@ -9,14 +11,13 @@ use Rattle.source_lookup.proofs.PickedLaws.{row_settled, row_picked}
 use Rattle.source_setup.proofs.CacheLaws.{packs, add_start, sourced_now, lent_within, add_more}
 use Rattle.source_lookup.specs.Instance.{target_in}
 use native.Mathlib.Omega.{arith}
-use borrow.Author.Rules.{rules}
 use Rattle.source_setup.proofs.cache.of_slot.Goals as goal
 
-pub number-requires : goal.number-requires
-number-requires c = omega (arith, c.requires.1, c.requires.0.sourced.directory.few, c.requires.0.sourced.directory.long)
+pub document-requires : goal.document-requires
+document-requires c = omega (arith, c.requires.1, c.requires.0.sourced.directory.few, c.requires.0.sourced.directory.long)
 
-pub returns-then-number-eq0 : goal.returns-then-number-eq0
-returns-then-number-eq0 c = add_start c.requires.0
+pub returns-then-is_none : goal.returns-then-is_none
+returns-then-is_none c = add_start c.requires.0
 
 pub bounds-sources-198 : goal.bounds-sources-198
 bounds-sources-198 c = omega (arith, c.requires.1, c.requires.0.sourced.directory.few, c.requires.0.sourced.directory.long)
@@ -24,39 +25,31 @@ bounds-sources-198 c = omega (arith, c.requires.1, c.requires.0.sourced.director
 pub bounds-sources-199 : goal.bounds-sources-199
 bounds-sources-199 c = omega (arith, c.requires.1, c.requires.0.sourced.directory.few, c.requires.0.sourced.directory.long)
 
-pub overflow_add-at : goal.overflow_add-at
-overflow_add-at c = omega (arith, c.loop-at.invariant.2.upto, c.wide-end.ensures.same, c.wide-end.ensures.small)
+pub overflow_sub-room : goal.overflow_sub-room
+overflow_sub-room c = omega (arith, c.requires.0.upto)
 
-pub slot_extern-requires : goal.slot_extern-requires
-slot_extern-requires c = (sourced_now c.requires.0 c.loop-at.invariant.2, c.loop-at.invariant.0)
+pub overflow_cast-i : goal.overflow_cast-i
+overflow_cast-i c = omega arith
+
+pub extern_proto-requires : goal.extern_proto-requires
+extern_proto-requires c = (sourced_now c.requires.0 c.loop-i.invariant.1, c.loop-i.invariant.0)
 
 pub returns-in_default : goal.returns-in_default
-returns-in_default c = c.loop-at.invariant.2
+returns-in_default c = c.loop-i.invariant.1
 
 pub slice_bounds-pick_row-end : goal.slice_bounds-pick_row-end
-slice_bounds-pick_row-end c = omega (arith, lent_within c.requires.0 c.loop-at.invariant.2 c.wide-from.ensures.same)
-
-pub slice_bounds-pick_row-end-in-loop-at : goal.slice_bounds-pick_row-end-in-loop-at
-slice_bounds-pick_row-end-in-loop-at c = let z = length-take-le c.wide-from.result c.loop-at.work (lent_within c.requires.0 c.loop-at.invariant.2 c.wide-from.ensures.same) in search rules
+slice_bounds-pick_row-end c = omega (arith, lent_within c.requires.0 c.loop-i.invariant.1 refl)
 
 pub pick_row-pick-requires : goal.pick_row-pick-requires
-pick_row-pick-requires c = record { directory = (c.requires.0.sourced.directory, c.loop-at.invariant.0, subst (Below (rows (sheet_of c.args.sources.now.root.now c.args.sources.now.library.now (number_of c.args.sources.now.dir.now c.args.slot)))) c.in-At.is c.slot_extern.ensures.below); row_value = (row_settled c.requires.0.sourced.directory c.loop-at.invariant.0 c.slot_extern.ensures c.in-At.is, rw c.wide-from.ensures.same c.loop-at.invariant.2.memo) }
+pick_row-pick-requires c = record { directory = (c.requires.0.sourced.directory, c.loop-i.invariant.0, subst (Below (rows (sheet_of c.args.sources.now.root.now c.args.sources.now.library.now (number_of c.args.sources.now.dir.now c.args.slot)))) c.in-At.is c.extern_proto.ensures.below); row_value = (row_settled c.requires.0.sourced.directory c.loop-i.invariant.0 c.loop-i.i c.extern_proto.ensures c.in-At.is, c.loop-i.invariant.1.memo) }
 
 pub keep-requires : goal.keep-requires
 keep-requires c =
-    let e = c.pick_row-pick.auto.slots ∙ length-take-le c.wide-from.result c.loop-at.work (lent_within c.requires.0 c.loop-at.invariant.2 c.wide-from.ensures.same) in
-    (omega (arith, c.loop-at-test.true, c.wide-end.ensures.same, (sourced_now c.requires.0 c.loop-at.invariant.2).within, (stays_front c.loop-at.work c.pick_row-pick.new.slots c.wide-from.result (lent_within c.requires.0 c.loop-at.invariant.2 c.wide-from.ensures.same) e).long), packs (target_in c.pick_row-pick.result) c.requires.0.sourced.directory c.pick_row-pick.ensures.1 c.pick_row-pick.ensures.0)
+    let e = c.pick_row-pick.auto.slots ∙ length-take-le (get_or c.args.sources.now.dir.now 198 0) c.loop-i.work (lent_within c.requires.0 c.loop-i.invariant.1 refl) in
+    (omega (arith, c.loop-i-test.true, (sourced_now c.requires.0 c.loop-i.invariant.1).within, (stays_front c.loop-i.work c.pick_row-pick.new.slots (get_or c.args.sources.now.dir.now 198 0) (lent_within c.requires.0 c.loop-i.invariant.1 refl) e).long), packs (target_in c.pick_row-pick.result) c.requires.0.sourced.directory c.pick_row-pick.ensures.1 c.pick_row-pick.ensures.0)
 
-pub overflow_add-i : goal.overflow_add-i
-overflow_add-i c = omega (arith, c.loop-at.invariant.1, c.loop-at-test.true, c.wide-end.ensures.small)
-
-pub overflow_add-at-in-loop-at : goal.overflow_add-at-in-loop-at
-overflow_add-at-in-loop-at c = omega (arith, c.loop-at.invariant.2.upto, c.wide-end.ensures.same, c.wide-end.ensures.small)
-
-pub loop-at-preserved : goal.loop-at-preserved
-loop-at-preserved c =
-    let e = c.pick_row-pick.auto.slots ∙ length-take-le c.wide-from.result c.loop-at.work (lent_within c.requires.0 c.loop-at.invariant.2 c.wide-from.ensures.same) in
-    (c.loop-at.invariant.0, omega (arith, c.loop-at.invariant.1), add_more c.requires.0 c.loop-at.invariant.2 c.loop-at.i c.pick_row-pick.new.slots c.keep.new.work c.loop-at.invariant.1 c.loop-at-test.true c.wide-end.ensures.same c.wide-from.ensures.same e c.pick_row-pick.ensures.2 (rw (sym (row_picked c.requires.0.sourced.directory c.loop-at.invariant.0 c.slot_extern.ensures c.in-At.is)) c.pick_row-pick.ensures.0) c.keep.ensures)
-
-pub returns : goal.returns
-returns c = c.loop-at.invariant.2
+pub loop-i-preserved : goal.loop-i-preserved
+loop-i-preserved c =
+    let e = c.pick_row-pick.auto.slots ∙ length-take-le (get_or c.args.sources.now.dir.now 198 0) c.loop-i.work (lent_within c.requires.0 c.loop-i.invariant.1 refl) in
+    let z : c.args.place + 2 * c.loop-i.i + 2 ≡ c.args.place + 2 * (c.loop-i.i + 1) = omega arith in
+    (c.loop-i.invariant.0, rw z at (add_more c.requires.0 c.loop-i.invariant.1 c.loop-i.i c.pick_row-pick.new.slots c.keep.new.work refl (omega (arith, c.loop-i-test.true)) refl refl e c.pick_row-pick.ensures.2 (rw (sym (row_picked c.requires.0.sourced.directory c.loop-i.invariant.0 c.loop-i.i c.extern_proto.ensures c.in-At.is)) c.pick_row-pick.ensures.0) c.keep.ensures))

@@ -1,4 +1,3 @@
-use Prim.Native.Nat.{◌+◌, ◌-◌, ◌≤◌}
 use Rattle.source_setup.proofs.CacheLaws.{Remembering}
 use Rattle.source_setup.proofs.cache.remember.Given as goal
 

@@ -1,7 +1,7 @@
-use mathlib.Core.Path.{◌≡◌, refl}
+use mathlib.Core.Path.{◌≡◌, refl, sym, ◌∙◌}
 use Prim.Native.Nat.{◌+◌, ◌/◌}
 use lib.ListN.{length-take}
-use Rattle.test_vectors.proofs.CasesLaws.{no_form, check_bad, check_few, check_all}
+use Rattle.test_vectors.proofs.CasesLaws.{formless, no_form, check_bad, check_few, check_all}
 use native.Mathlib.Omega.{arith}
 use Rattle.test_vectors.proofs.cases.check.Goals as goal
 
@@ -15,6 +15,9 @@ returns g c =
 
 pub returns-then-h-gt2 : goal.returns-then-h-gt2
 returns-then-h-gt2 g c = no_form c.args.input.now _ c.args.h c.args.words.now c.if-h-gt2.true
+
+pub returns-in_default : goal.returns-in_default
+returns-in_default g c = no_form c.args.input.now _ c.args.h c.args.words.now (formless c.args.h.a (sym c.in_default.is ∙ c.try_from.ensures))
 
 pub returns-in_err-next : goal.returns-in_err-next
 returns-in_err-next g c =

@@ -17,11 +17,11 @@ unfolding externs_of
 loop-r-init c = log_begin extern_proto_rows (externs_at c.args.root.now c.args.library.now c.args.work.now) c.requires.rows_fit
 
 pub declaration-p-requires : goal.declaration-p-requires
-declaration-p-requires c = record { rows_fit = rw (c.select-sheet.ensures, c.word-then-word-eq-TAG_EXTERN.ensures, c.wide-at.ensures.same, c.word-then-word-eq-TAG_EXTERN-2.ensures, c.wide-taken.ensures.same, c.word-then-word-eq-TAG_EXTERN-3.ensures) (extern_room c.args.root.now c.args.library.now c.args.work.now c.loop-r.r c.loop-r.p (rw c.word.ensures at c.if-word-eq-TAG_EXTERN.true) (log_room extern_proto_rows (externs_at c.args.root.now c.args.library.now c.args.work.now) c.loop-r.invariant c.loop-r-test.true (of_tag_lem c.args.work.now tag_extern (extern_rec c.args.root.now c.args.library.now c.args.work.now) c.loop-r.r (rw c.word.ensures at c.if-word-eq-TAG_EXTERN.true)))); at_bound = omega (arith, c.wide-at.ensures.small) }
+declaration-p-requires c = record { rows_fit = rw (c.select-sheet.ensures, c.word-then-word-eq-TAG_EXTERN.ensures, c.word-at.ensures, c.word-taken.ensures) (extern_room c.args.root.now c.args.library.now c.args.work.now c.loop-r.r c.loop-r.p (rw c.word.ensures at c.if-word-eq-TAG_EXTERN.true) (log_room extern_proto_rows (externs_at c.args.root.now c.args.library.now c.args.work.now) c.loop-r.invariant c.loop-r-test.true (of_tag_lem c.args.work.now tag_extern (extern_rec c.args.root.now c.args.library.now c.args.work.now) c.loop-r.r (rw c.word.ensures at c.if-word-eq-TAG_EXTERN.true)))); at_bound = omega arith }
 
 pub loop-r-preserved : goal.loop-r-preserved
 loop-r-preserved c = elim c.if-word-eq-TAG_EXTERN.branch [
-  | then-word-eq-TAG_EXTERN w ↦ rw (w.out-is, w.p-is) (log_more extern_proto_rows (externs_at c.args.root.now c.args.library.now c.args.work.now) c.loop-r.invariant c.loop-r-test.true (of_tag_lem c.args.work.now tag_extern (extern_rec c.args.root.now c.args.library.now c.args.work.now) c.loop-r.r (rw c.word.ensures at w.if-word-eq-TAG_EXTERN.true)) (rw (extern_at c.args.root.now c.args.library.now c.args.work.now c.loop-r.r (rw c.word.ensures at w.if-word-eq-TAG_EXTERN.true)) (rw (w.select-sheet.ensures, w.word-then-word-eq-TAG_EXTERN.ensures, w.wide-at.ensures.same, w.word-then-word-eq-TAG_EXTERN-2.ensures, w.wide-taken.ensures.same, w.word-then-word-eq-TAG_EXTERN-3.ensures) at w.declaration-p.ensures)))
+  | then-word-eq-TAG_EXTERN w ↦ rw (w.out-is, w.p-is) (log_more extern_proto_rows (externs_at c.args.root.now c.args.library.now c.args.work.now) c.loop-r.invariant c.loop-r-test.true (of_tag_lem c.args.work.now tag_extern (extern_rec c.args.root.now c.args.library.now c.args.work.now) c.loop-r.r (rw c.word.ensures at w.if-word-eq-TAG_EXTERN.true)) (rw (extern_at c.args.root.now c.args.library.now c.args.work.now c.loop-r.r (rw c.word.ensures at w.if-word-eq-TAG_EXTERN.true)) (rw (w.select-sheet.ensures, w.word-then-word-eq-TAG_EXTERN.ensures, w.word-at.ensures, w.word-taken.ensures) at w.declaration-p.ensures)))
   | else-word-eq-TAG_EXTERN w ↦ rw (w.out-is, w.p-is) (log_skip extern_proto_rows (externs_at c.args.root.now c.args.library.now c.args.work.now) c.loop-r.invariant c.loop-r-test.true (of_other c.args.work.now tag_extern (extern_rec c.args.root.now c.args.library.now c.args.work.now) c.loop-r.r (rw c.word.ensures at w.if-word-eq-TAG_EXTERN.false)))
 ]
 

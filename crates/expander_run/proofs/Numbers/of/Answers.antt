@@ -1,7 +1,0 @@
-use Rattle.expander_run.proofs.Numbers.of.Goals as goal
-
-pub returns-in-Ok : goal.returns-in-Ok
-returns-in-Ok c = rw c.in-Ok.is
-
-pub returns-in-Err : goal.returns-in-Err
-returns-in-Err c = rw (c.in-Err.is, c.into.ensures, c.places-first_place.ensures.first, c.places-first_place.ensures.second)
