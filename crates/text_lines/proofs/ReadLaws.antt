@@ -50,6 +50,10 @@ fields_all : (k : ℕ) (l : List ℕ) → list_all is_field (parts 11 k l) ≡ a
 fields_all zero l = refl
 fields_all (suc k) l = ap₂ (λ a b. a && b) (some_number (column_read (take 11 l))) (fields_all k (drop 11 l))
 
+-- past the eighth field none is left
+pub line_end_lem : (l : List ℕ) (at i : ℕ) → 8 ≤ i → are_numbers (8 - i) (drop (at + 11 * i) l) ≡ true
+line_end_lem l at i h = rw (over 8 i h)
+
 pub line_told : (l : List ℕ) → true ≡ list_all is_field (parts 11 8 l) → eqb (get_or l 88 0) 10 ≡ good_line l
 unfolding good_line
 line_told l h = let e = h ∙ fields_all 8 l in ap (λ t. t && eqb (get_or l 88 0) 10) e

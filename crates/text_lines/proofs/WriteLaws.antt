@@ -50,8 +50,12 @@ module _ (w : List ℕ) where
       (rw (add-one, drop-cons w i 0, append_assoc (column (get_or w i 0)))
       (sets_append l (11 * i) (11 * suc i) (column (get_or w i 0)) (line (drop (suc i) w)) (omega arith)))
 
-  pub line_end_lem : (l : List ℕ) → length w ≡ 8 → line_left 8 l ≡ set l 88 10
-  line_end_lem l h = let e : drop 8 w ≡ [] = rw (← h) (drop-length w) in rw e
+  -- past the eighth field only the line's end is left, from any place of the words and of the text
+  pub line_end_lem : (from at i : ℕ) (l : List ℕ) → 8 ≤ i → i ≤ 8 → sets l (at + 11 * i) (line (take (8 - i) (drop (from + i) w))) ≡ set l (at + 88) 10
+  line_end_lem from at i l h k = let e : i ≡ 8 = omega arith in rw e
+
+  pub line_ended : (l : List ℕ) → length w ≡ 8 → line_left 8 l ≡ set l 88 10
+  line_ended l h = let e : drop 8 w ≡ [] = rw (← h) (drop-length w) in rw e
 
   abbrev pub lines_left : ℕ → ℕ → List ℕ → List ℕ
   lines_left n i l = sets l (89 * i) (lines_of (n - i) (drop (8 * i) w))
