@@ -3,22 +3,23 @@ use mathlib.Core.Path.{◌≡◌, refl, sym, ap, ◌∙◌}
 use mathlib.Core.Bool.{Bool, true, false}
 use mathlib.Core.List.{List, [], ◌∷◌, map}
 use mathlib.Core.Option.{Option, none, some}
-use Prim.Native.Nat.{ℕ, suc, ◌+◌, ◌-◌, ◌≤◌, ◌<◌}
+use Prim.Native.Nat.{ℕ, zero, suc, ◌+◌, ◌-◌, ◌≤◌, ◌<◌}
 use native.Mathlib.Numerals.{add-one}
 use native.Mathlib.Omega.{arith}
-use lib.ListN.{length, get_or, drop}
+use native.Mathlib.Decide.{ℕ_discrete}
+use lib.ListN.{length, get_or, drop, length-drop}
 use lib.Seq.{get_or-set_same}
 use lib.Dec.{eqb}
-use borrow.Author.Tests.{lt-ltb, le-ltb}
+use borrow.Author.Tests.{lt-ltb, le-ltb, ne_eqb}
 use Rattle.ast.specs.Ast.{Url, ExternProtoDecl, File}
 use Rattle.ast.specs.Choice.{choose, and_then}
 use Rattle.sheet_rows.specs.declared.row.Row.{Row}
 use Rattle.sheet_rows.specs.declared.part.Part.TheVariants.{Externs, Urls}
 use Rattle.sheet_rows.specs.Rows.{blank}
-use Rattle.sheet_rows.specs.Parse.{elements, optional, url_of, extern_proto_of, document_of, files_of}
+use Rattle.sheet_rows.specs.Parse.{passes, elements, optional, url_of, extern_proto_of, document_of, files_of}
 use Rattle.sheet_walks.specs.Walk.{Stands}
 use Rattle.sheet_lookup.specs.Lookup.{document_at}
-use Rattle.sheet_walks.proofs.WalkLaws.{elements_end, each_at, each_none, front_drop, rest_drop}
+use Rattle.sheet_walks.proofs.WalkLaws.{elements_take, elements_pass, elements_stop, elements_end, each_at, each_none, front_drop, rest_drop}
 use Rattle.std.specs.Prelude.{Option as Maybe, Some, None}
 use Rattle.std.specs.Option.{is_some}
 use Rattle.pick_table.specs.declared.table.Source.{Source}
@@ -26,7 +27,7 @@ use Rattle.pick_table.specs.declared.table.Table.{Table}
 use Rattle.pick_table.specs.declared.Chosen.{Chosen}
 use Rattle.pick_definition.specs.Picks.{Bases, Picked, library_file, pick_from, pick_url, or_next, member, remember, pick_urls, bases_from, Walked, fetched, walk_fetched, walk_files, walk, final_bases}
 use Rattle.pick_table.specs.Table.{bases_of, source_at, Empty, TableSound, StandsAt, Position, BaseAdded, IsFileOf}
-use Rattle.pick_table.specs.Chosen.{prototype_by, Leads, Placed, UrlTried, UrlsTried, Tried, after_file, FileTried, Final}
+use Rattle.pick_table.specs.Chosen.{prototype_by, Leads, Placed, UrlTried, UrlsTried, NoExtern, Tried, after_file, FileTried, Final}
 use Rattle.pick_table.proofs.TableLaws.{position_known, position_new, stands_low, stands_here, count_is, base_at, sound_added, bases_added}
 use Rattle.pick_definition.proofs.WalkedLaws.{walk_past}
 
@@ -68,6 +69,47 @@ module _ (bases : List ℕ) {base : ℕ} {x : Maybe ℕ} where
 
 abbrev externs_from : List Row → ℕ → List ExternProtoDecl
 externs_from sheet p = map extern_proto_of (elements Externs (drop p sheet))
+
+-- a row that may stand before a url may stand before an extern
+passed : (k : ℕ) → passes Urls k ≡ true → (passes Externs k ≡ true) × (k ≡ 8 → ⊥)
+passed k e = go (ℕ_discrete k 4) (ℕ_discrete k 9)
+  where
+    go : Dec (k ≡ 4) → Dec (k ≡ 9) → (passes Externs k ≡ true) × (k ≡ 8 → ⊥)
+    go (yes z) d = (rw z, λ y. omega arith)
+    go (no y) (yes z) = (rw z, λ y. omega arith)
+    go (no y) (no z) =
+        let f : false ≡ true = rw (ne_eqb k 4 y, ne_eqb k 9 z) at e in
+        let i : ◌≡◌ {A = ℕ} 0 1 = cc in
+        absurd (omega arith)
+
+-- up to a url of an extern no extern begins
+externs_past : (sheet : List Row) (n p q : ℕ) → q ≡ p + n → Stands Urls sheet p q → elements Externs (drop p sheet) ≡ elements Externs (drop (q + 1) sheet)
+externs_past sheet zero p q z h =
+    let e : q ≡ p = omega arith in
+    let k : (get_or sheet p blank).kind ≡ 10 = rw e at h.kind in
+    rw (e, add-one p) (elements_pass Externs sheet p (omega (arith, h.below)) (λ i. omega arith) (rw k))
+externs_past sheet (suc n) p q z h = go (externs_past sheet n (suc p) q (omega arith)) (ℕ_discrete (get_or sheet p blank).kind 10) (passes Urls (get_or sheet p blank).kind) refl
+  where
+    low : p < length sheet
+    low = omega (arith, h.below)
+
+    go : (Stands Urls sheet (suc p) q → elements Externs (drop (suc p) sheet) ≡ elements Externs (drop (q + 1) sheet)) → Dec ((get_or sheet p blank).kind ≡ 10) → (b : Bool) → passes Urls (get_or sheet p blank).kind ≡ b → elements Externs (drop p sheet) ≡ elements Externs (drop (q + 1) sheet)
+    go f (yes k) b e =
+        let c = sym (elements_take Urls sheet p low k) ∙ h.here in
+        let d : drop p sheet ≡ drop q sheet = cc in
+        absurd (omega (arith, ap length d, length-drop p sheet, length-drop q sheet, h.below))
+    go f (no k) false e =
+        let c = sym (elements_stop Urls sheet p low k e) ∙ h.here in
+        let i : ◌≡◌ {A = ℕ} 0 1 = cc in
+        absurd (omega arith)
+    go f (no k) true e =
+        let c = passed (get_or sheet p blank).kind e in
+        elements_pass Externs sheet p low c.1 c.0 ∙
+        f (record { from = omega arith; below = h.below; kind = h.kind; here = sym (elements_pass Urls sheet p low k e) ∙ h.here })
+
+-- so the next extern may be sought behind it
+pub behind_next : {sheet : List Row} {at p q : ℕ} → NoExtern sheet at p → Stands Urls sheet p q → NoExtern sheet at (q + 1)
+behind_next {sheet} {at} {p} {q} n h = record { from = omega (arith, n.from, h.from); same = n.same ∙ externs_past sheet (q - p) p q (omega (arith, h.from)) h }
 
 -- ---- one url
 
@@ -169,10 +211,10 @@ module _ {sheet : List Row} {document : ℕ} {R : List Row} {before t : Table} {
   unfolding bases_from
   gather_none e = record { sound = w.sound; bases = sym (w.is ∙ rw (each_none extern_proto_of Externs sheet p e)) }
 
-  -- the urls of the next extern were tried
-  pub gather_next : {q : ℕ} {u : Table} → Stands Externs sheet p q → UrlsTried sheet (q + 1) R t u → Gathering sheet document R before u (q + 1)
+  -- the urls of the next extern were tried, and the walk goes on behind them
+  pub gather_next : {q b : ℕ} {u : Table} → Stands Externs sheet p q → UrlsTried sheet (q + 1) R t u → NoExtern sheet (q + 1) b → Gathering sheet document R before u b
   unfolding bases_from
-  gather_next {q} h y = record { sound = y.sound; is = w.is ∙ rw (each_at extern_proto_of h, extern_urls sheet q, y.bases) }
+  gather_next {q} h y n = record { sound = y.sound; is = w.is ∙ rw (each_at extern_proto_of h, extern_urls sheet q, y.bases, n.same) }
 
 -- ---- the fetched files
 

@@ -1,10 +1,10 @@
 -- What the code answers, as picks.
-use Rattle.std.specs.Prelude.{Option as Maybe, Some, None, ◌≡◌, Bool, List, ℕ, ◌<◌, get_or, drop, map}
+use Rattle.std.specs.Prelude.{Option as Maybe, Some, None, ◌≡◌, Bool, List, ℕ, ◌≤◌, ◌<◌, get_or, drop, map}
 use Rattle.std.proofs.Math.Option.{Option, none, some}
 use Rattle.ast.specs.Ast.{File}
 use Rattle.ast.specs.Choice.{choose, and_then}
 use Rattle.sheet_rows.specs.declared.row.Row.{Row}
-use Rattle.sheet_rows.specs.declared.part.Part.TheVariants.{Urls}
+use Rattle.sheet_rows.specs.declared.part.Part.TheVariants.{Externs, Urls}
 use Rattle.sheet_rows.specs.Parse.{elements, url_of, document_of, files_of}
 use Rattle.sheet_lookup.specs.Lookup.{document_at}
 use Rattle.sheet_rows.specs.Rows.{rows}
@@ -52,6 +52,11 @@ pub record UrlTried (R : List Row) (base : ℕ) (fragment : Option ℕ) (t u : T
 pub record UrlsTried (sheet : List Row) (at : ℕ) (R : List Row) (t u : Table) : Type 0 where
   pub sound : TableSound R u
   pub bases : bases_of u ≡ (pick_urls (files_of R) 0 (map url_of (elements Urls (drop at sheet))) (bases_of t)).1
+
+-- from row p of a sheet up to row q no extern begins
+pub record NoExtern (sheet : List Row) (p q : ℕ) : Type 0 where
+  pub from : p ≤ q
+  pub same : elements Externs (drop p sheet) ≡ elements Externs (drop q sheet)
 
 -- the table once the urls of the externs of the document at a row of a sheet were tried
 pub record Tried (sheet : List Row) (document : ℕ) (R : List Row) (t u : Table) : Type 0 where

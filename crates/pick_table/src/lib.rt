@@ -7,7 +7,7 @@ ghost use Rattle.sheet_rows.specs.Rows.{rows};
 ghost use Rattle.pick_file.specs.File.{Capped, option_of};
 ghost use Rattle.pick_table.specs.Table.{TableSound};
 ghost use Rattle.pick_memo.specs.Memo.{MemoSound};
-ghost use Rattle.pick_table.specs.Chosen.{Leads, Scratch, Placed, UrlTried, UrlsTried, Tried, FileTried, Final};
+ghost use Rattle.pick_table.specs.Chosen.{Leads, Scratch, Placed, UrlTried, UrlsTried, NoExtern, Tried, FileTried, Final};
 
 use ast::ProtoId;
 use pick_memo::Memo;
@@ -93,17 +93,21 @@ impl Walk<'_> {
         led.is_some()
     }
 
-    // Tries the urls of an extern, in order, up to its pick.
-    fn try_urls(&mut self, sheet: &[u32], at: usize)
+    // Tries the urls of an extern, in order, up to its pick. Gives the row behind the last that was tried, from which the next
+    // extern is sought.
+    fn try_urls(&mut self, sheet: &[u32], at: usize) -> usize
         requires { TableSound (rows self.old.library.now) self.old.table × Scratch self.old.library.now self.old.files.now self.old.slots.now self.old.memo }
-        ensures { UrlsTried (rows sheet.now) at (rows self.old.library.now) self.old.table self.new.table × Scratch self.old.library.now self.new.files.now self.new.slots.now self.new.memo × (self.new.library.now ≡ self.old.library.now) }
+        ensures { UrlsTried (rows sheet.now) at (rows self.old.library.now) self.old.table self.new.table × Scratch self.old.library.now self.new.files.now self.new.slots.now self.new.memo × (self.new.library.now ≡ self.old.library.now) × NoExtern (rows sheet.now) at result }
     {
+        let mut behind = at;
         for q in walk::elements(sheet, Part::Urls, at) {
             let r = row::row_at(sheet, q);
+            behind = q + 1;
             if self.try_url(r.a, pick_file::optional(r.b)) {
-                return;
+                break;
             }
         }
+        behind
     }
 
     // Tries the urls of the externs of the document that begins at a row of a sheet.
@@ -114,8 +118,10 @@ impl Walk<'_> {
         if sheet.len() / 8 <= document {
             return;
         }
-        for q in walk::elements(sheet, Part::Externs, document + 1) {
-            self.try_urls(sheet, q + 1);
+        let mut externs = walk::elements(sheet, Part::Externs, document + 1);
+        // Kept: the next extern is sought behind the urls that were tried; a `for` over the externs would read these again.
+        while let Some(q) = externs.next() {
+            externs.next = self.try_urls(sheet, q + 1);
         }
     }
 
