@@ -15,6 +15,7 @@ use Rattle.journal_reading.specs.Reading.{below, scope_rec, values_at}
 use Rattle.journal_reading.specs.WellFormed.{HandleAt, AllWellFormed}
 use Rattle.refine_records.specs.declared.Limits.{Limits}
 use Rattle.refine_records.specs.declared.Counts.{Counts}
+use Rattle.refine_records.specs.declared.Journal.{Journal}
 use Rattle.refine_records.specs.declared.Env as code
 
 -- what a run reads: the sheets, and D
@@ -56,6 +57,11 @@ pub record Ready (L : Limits) (w : List ℕ) : Type 0 where
 pub record Standing (L : Limits) (w : List ℕ) (t : Counts) : Type 0 where
   pub ready : Ready L w
   pub sound : JournalSound L w t
+
+-- from j to j', after a refusal too: the words are still those that the caller lent, and as many
+pub record StillLent (j j' : Journal) : Type 0 where
+  pub same_reference : j'.work.ghost_name ≡ j.work.ghost_name
+  pub long : length j'.work.now ≡ length j.work.now
 
 -- a record that a scope's body gives
 abbrev pub OfBody : ℕ → Type 0

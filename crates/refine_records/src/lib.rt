@@ -5,7 +5,7 @@ ghost use Rattle.journal_records.specs.Records.{cell};
 ghost use Rattle.journal_index.specs.Index.{Findable, found_of, newest};
 ghost use Rattle.refine_records.specs.Refusals.{refusal_number, PlacesOf};
 ghost use Rattle.refine_records.specs.Does.{number_given, done_given, scope_given};
-ghost use Rattle.refine_records.specs.Sound.{Standing};
+ghost use Rattle.refine_records.specs.Sound.{Standing, StillLent};
 ghost use Rattle.refine_records.specs.Contract.{charged as counted, RoomFor, Keepable, RecordKept, Ownership, RecordOwned, ScopeOpened};
 
 use ast::{NodeId, ProtoId};
@@ -184,19 +184,21 @@ impl Journal<'_> {
     pub fn keep(&mut self, lim: Limits, r: Record) -> Result<u32, Refusal>
         requires standing { Standing lim self.old.work.now self.old.counts }
         requires keepable { Keepable self.old.work.now self.old.counts.charges r }
-        ensures { RecordKept lim self.old.work.now self.old.counts r self.new.work.now (number_given self.new.counts result) }
+        ensures kept { RecordKept lim self.old.work.now self.old.counts r self.new.work.now (number_given self.new.counts result) }
+        ensures still_lent { StillLent self.old self.new }
     {
-        let c = self.room(lim)?;
-        journal_records::push(self.work, c, r);
+        let at = self.room(lim)?;
+        journal_records::push(self.work, at, r);
         self.counts.charges += 1;
-        Ok((c + 1) as u32)
+        Ok((at + 1) as u32)
     }
 
     // A charge and a record of a scope's own lists: an extra root, a route, an association.
     pub fn own(&mut self, lim: Limits, env: Env, r: Record) -> Result<(), Refusal>
         requires standing { Standing lim self.old.work.now self.old.counts }
         requires ownership { Ownership self.old.work.now self.old.counts.charges env r }
-        ensures { RecordOwned lim self.old.work.now self.old.counts env r self.new.work.now (done_given self.new.counts result) }
+        ensures owned { RecordOwned lim self.old.work.now self.old.counts env r self.new.work.now (done_given self.new.counts result) }
+        ensures still_lent { StillLent self.old self.new }
     {
         let c = self.room(lim)?;
         journal_lists::append(self.work, env.place, c, r);
@@ -216,7 +218,8 @@ impl Journal<'_> {
         opener: u32,
     ) -> Result<Opened, Refusal>
         requires { Standing lim self.old.work.now self.old.counts }
-        ensures { ScopeOpened lim self.old.work.now self.old.counts kind document proto.0 index opener self.new.work.now (scope_given self.new.counts result) }
+        ensures opened { ScopeOpened lim self.old.work.now self.old.counts kind document proto.0 index opener self.new.work.now (scope_given self.new.counts result) }
+        ensures still_lent { StillLent self.old self.new }
     {
         let c = self.room(lim)?;
         let n = self.counts.scopes;
