@@ -6,7 +6,7 @@ ghost use Rattle.std.specs.Prelude.{◌≡◌, ◌<◌, [], ◌∷◌, length};
 ghost use Rattle.sheet_rows.specs.Rows.{rows};
 ghost use Rattle.sheet_rows.specs.Parse.{statement_of};
 ghost use Rattle.refine_records.specs.Does.{number_given};
-ghost use Rattle.refine_records.specs.Sound.{Standing, EnvAt, env_of};
+ghost use Rattle.refine_records.specs.Sound.{Standing, StillLent, EnvAt, env_of};
 ghost use Rattle.expander_marks.specs.Positions.{MarkAt, AtMark, Stepped};
 ghost use Rattle.expander_marks.specs.Kept.{kept_statement, field_kept, kept_fields, kept_statements};
 ghost use Rattle.expander_marks.specs.Contract.{RunFrom, Fits, reach_after, Knows, Takes, Ordered};
@@ -61,7 +61,7 @@ fn field_kept(journal: &Journal<'_>, lim: Limits, env: Env, r: Row) -> bool
     let Some(values) = env.values else {
         return true;
     };
-    refine_values::value_of(journal, lim, values, r.c).is_some()
+    refine_values::value_of(journal.work, lim, journal.counts, values, r.c).is_some()
 }
 
 #[tactic(auto, unfolding(sheet_rows::specs::Parse::statement_of))]
@@ -187,7 +187,8 @@ pub fn order(
     requires standing { Standing lim journal.old.work.now journal.old.counts }
     requires env_at { EnvAt journal.old.work.now journal.old.counts.charges env }
     requires row_in_bounds { row < length (rows sheet.now) }
-    ensures { Ordered lim (rows sheet.now) journal.old.work.now journal.old.counts env row journal.new.work.now (number_given journal.new.counts result) }
+    ensures ordered { Ordered lim (rows sheet.now) journal.old.work.now journal.old.counts env row journal.new.work.now (number_given journal.new.counts result) }
+    ensures still_lent { StillLent journal.old journal.new }
 {
     let mut h: u32 = 0;
     let unread = Reach {

@@ -6,13 +6,14 @@ ghost use Rattle.std.specs.Prelude.{◌+◌, ◌-◌};
 ghost use Rattle.journal_records.specs.Records.{Pushed};
 ghost use Rattle.journal_reading.specs.WellFormed.{NodeAt};
 ghost use Rattle.refine_records.specs.Does.{copy_given};
-ghost use Rattle.refine_records.specs.Sound.{Standing, EnvAt};
+ghost use Rattle.refine_records.specs.Sound.{Standing, StillLent, EnvAt};
 ghost use Rattle.refine_records.specs.Contract.{Mapped, Reserved, CopyLooked, EndOf, contents_of, Fillable};
 
 use ast::NodeId;
+use journal_index::Key;
 use journal_records;
 use journal_records::{Record, words};
-use refine_records::{Env, Journal, Limits, NodeCopy, Refusal};
+use refine_records::{Counts, Env, Journal, Limits, NodeCopy, Refusal};
 use sheet_rows::row::NONE;
 
 // A charge and a map entry: the node whose record is before `place`.
@@ -26,7 +27,8 @@ pub fn map(
     requires standing { Standing lim journal.old.work.now journal.old.counts }
     requires env_at { EnvAt journal.old.work.now journal.old.counts.charges env }
     requires node_at { NodeAt journal.old.work.now journal.old.counts.charges out.id.0 out.place }
-    ensures { Mapped lim journal.old.work.now journal.old.counts env.scope id.0 out.id.0 out.place journal.new.work.now (copy_given journal.new.counts result) }
+    ensures mapped { Mapped lim journal.old.work.now journal.old.counts env.scope id.0 out.id.0 out.place journal.new.work.now (copy_given journal.new.counts result) }
+    ensures still_lent { StillLent journal.old journal.new }
 {
     let at = journal.room(lim)?;
     journal_index::enter(
@@ -48,7 +50,8 @@ pub fn reserve(
 ) -> Result<NodeCopy, Refusal>
     requires standing { Standing lim journal.old.work.now journal.old.counts }
     requires env_at { EnvAt journal.old.work.now journal.old.counts.charges env }
-    ensures { Reserved lim journal.old.work.now journal.old.counts env id.0 journal.new.work.now (copy_given journal.new.counts result) }
+    ensures reserved { Reserved lim journal.old.work.now journal.old.counts env id.0 journal.new.work.now (copy_given journal.new.counts result) }
+    ensures still_lent { StillLent journal.old journal.new }
 {
     let c = journal.counts.charges;
     let new = journal.counts.nodes;
@@ -75,29 +78,38 @@ pub fn reserve(
 }
 
 // The map entry of a source id in a scope.
-pub fn look(journal: &Journal<'_>, lim: Limits, env: Env, id: NodeId) -> Option<usize>
-    requires standing { Standing lim journal.now.work.now journal.now.counts }
-    requires env_at { EnvAt journal.now.work.now journal.now.counts.charges env }
-    ensures { CopyLooked journal.now.work.now journal.now.counts.charges env.scope id.0 result }
+pub fn look(work: &[u32], lim: Limits, counts: Counts, env: Env, id: NodeId) -> Option<usize>
+    requires standing { Standing lim work.now counts }
+    requires env_at { EnvAt work.now counts.charges env }
+    ensures { CopyLooked work.now counts.charges env.scope id.0 result }
 {
-    journal.find(lim, journal_records::TAG_MAP, env.place as u32, id.0)
+    journal_index::find(
+        work,
+        lim.heads(),
+        counts.charges,
+        Key {
+            tag: journal_records::TAG_MAP,
+            x: env.place as u32,
+            y: id.0,
+        },
+    )
 }
 
 // A route's end: its copy in the scope, or none.
 // Kept: NONE for none and no Option: an end is read from a column or a word and written to one, so that each call would turn it
 // to an Option and back.
-pub fn remap(journal: &Journal<'_>, lim: Limits, env: Env, id: NodeId) -> NodeId
-    requires standing { Standing lim journal.now.work.now journal.now.counts }
-    requires env_at { EnvAt journal.now.work.now journal.now.counts.charges env }
-    ensures { EndOf journal.now.work.now journal.now.counts.charges env.scope id.0 result.0 }
+pub fn remap(work: &[u32], lim: Limits, counts: Counts, env: Env, id: NodeId) -> NodeId
+    requires standing { Standing lim work.now counts }
+    requires env_at { EnvAt work.now counts.charges env }
+    ensures { EndOf work.now counts.charges env.scope id.0 result.0 }
 {
     if id.0 == NONE {
         return NodeId(NONE);
     }
-    let Some(r) = look(journal, lim, env, id) else {
+    let Some(r) = look(work, lim, counts, env, id) else {
         return NodeId(NONE);
     };
-    NodeId(journal.word(r, words::map::COPY))
+    NodeId(journal_records::word(work, r, words::map::COPY))
 }
 
 // The contents of the node whose record is before `place`.

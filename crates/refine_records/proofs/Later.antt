@@ -27,8 +27,16 @@ use Rattle.journal_reading.specs.RecordsStay.{Unrecorded}
 use Rattle.journal_reading.proofs.States.{scope_lasting}
 use Rattle.refine_records.specs.declared.Limits.{Limits}
 use Rattle.refine_records.specs.declared.Counts.{Counts}
+use Rattle.refine_records.specs.declared.Journal.{Journal}
 use Rattle.refine_records.specs.declared.Env as code
-use Rattle.refine_records.specs.Sound.{JournalSound, Standing, OfBody, Later, ValuesBelow, EnvAt, env_of}
+use Rattle.refine_records.specs.Sound.{JournalSound, Standing, StillLent, OfBody, Later, ValuesBelow, EnvAt, env_of}
+
+-- the lent words, over no step and over two
+pub lent_same : {j : Journal} → StillLent j j
+lent_same = record { same_reference = refl; long = refl }
+
+pub lent_more : {j j' j'' : Journal} → StillLent j j' → StillLent j' j'' → StillLent j j''
+lent_more x y = record { same_reference = y.same_reference ∙ x.same_reference; long = y.long ∙ x.long }
 
 -- an Env's scope is one of the journal's
 pub env_known : {w : List ℕ} {c : ℕ} {e : code.Env} → Owned w c → EnvAt w c e → e.scope < below w tag_scope c

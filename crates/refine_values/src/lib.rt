@@ -7,14 +7,14 @@ ghost use Rattle.journal_records.specs.Records.{tag_id, tag_stored};
 ghost use Rattle.journal_reading.specs.Reading.{ids_at};
 ghost use Rattle.journal_reading.specs.WellFormed.{HandleAt, Walkable};
 ghost use Rattle.refine_records.specs.Does.{number_given};
-ghost use Rattle.refine_records.specs.Sound.{Standing};
+ghost use Rattle.refine_records.specs.Sound.{Standing, StillLent};
 ghost use Rattle.refine_records.specs.Contract.{Storable, ValueKept, ValueFound, Cloned};
 
 use journal_index::Key;
 use journal_records;
 use journal_records::list::records;
 use journal_records::{Record, words};
-use refine_records::{Journal, Limits, Refusal};
+use refine_records::{Counts, Journal, Limits, Refusal};
 use sheet_rows::codes;
 
 // A charge and the stored value of a name, behind those of `h`; the value is its handle.
@@ -29,7 +29,8 @@ pub fn store(
 ) -> Result<u32, Refusal>
     requires standing { Standing lim journal.old.work.now journal.old.counts }
     requires storable { Storable journal.old.work.now journal.old.counts.charges class payload h }
-    ensures { ValueKept lim journal.old.work.now journal.old.counts name ty class payload h journal.new.work.now (number_given journal.new.counts result) }
+    ensures stored { ValueKept lim journal.old.work.now journal.old.counts name ty class payload h journal.new.work.now (number_given journal.new.counts result) }
+    ensures still_lent { StillLent journal.old journal.new }
 {
     let c = journal.room(lim)?;
     journal_lists::join(
@@ -47,27 +48,27 @@ const FEW: usize = 8;
 
 // The stored value of a name, newest first: one by one for the first few, then family by family.
 // Kept: the second loop by hand: it goes from family to family, and no list links these.
-pub fn value_of(journal: &Journal<'_>, lim: Limits, values: u32, name: u32) -> Option<usize>
-    requires standing { Standing lim journal.now.work.now journal.now.counts }
-    requires handle_at { HandleAt journal.now.work.now journal.now.counts.charges tag_stored values }
-    ensures { ValueFound journal.now.work.now values name result }
+pub fn value_of(work: &[u32], lim: Limits, counts: Counts, values: u32, name: u32) -> Option<usize>
+    requires standing { Standing lim work.now counts }
+    requires handle_at { HandleAt work.now counts.charges tag_stored values }
+    ensures { ValueFound work.now values name result }
 {
-    let mut list = records(journal.work, values as usize);
+    let mut list = records(work, values as usize);
     for looked in 0..FEW {
         let Some(r) = list.next() else {
             return None;
         };
-        if journal.word(r, words::stored::NAME) == name {
+        if journal_records::word(work, r, words::stored::NAME) == name {
             return Some(r);
         }
     }
     let mut cur = list.next;
     while 0 < cur {
-        let f = journal.word(cur - 1, words::stored::FAMILY);
+        let f = journal_records::word(work, cur - 1, words::stored::FAMILY);
         let x = journal_index::find_below(
-            journal.work,
+            work,
             lim.heads(),
-            journal.counts.charges,
+            counts.charges,
             cur,
             Key {
                 tag: journal_records::TAG_STORED,
@@ -78,7 +79,7 @@ pub fn value_of(journal: &Journal<'_>, lim: Limits, values: u32, name: u32) -> O
         if x.is_some() {
             return x;
         }
-        cur = journal.word(f as usize, words::BEFORE) as usize;
+        cur = journal_records::word(work, f as usize, words::BEFORE) as usize;
     }
     None
 }
@@ -100,7 +101,8 @@ pub fn clone(
 ) -> Result<u32, Refusal>
     requires standing { Standing lim journal.old.work.now journal.old.counts }
     requires handle_at { class ≡ 2 → HandleAt journal.old.work.now journal.old.counts.charges tag_id payload }
-    ensures { Cloned lim journal.old.work.now journal.old.counts class payload journal.new.work.now (number_given journal.new.counts result) }
+    ensures cloned { Cloned lim journal.old.work.now journal.old.counts class payload journal.new.work.now (number_given journal.new.counts result) }
+    ensures still_lent { StillLent journal.old journal.new }
 {
     if class != codes::class::NODES {
         return Ok(payload);
