@@ -5,14 +5,14 @@
 ghost use Rattle.journal_records.specs.Records.{tag_stored};
 ghost use Rattle.journal_reading.specs.WellFormed.{HandleAt};
 ghost use Rattle.refine_records.specs.Does.{done_given, number_given};
-ghost use Rattle.refine_records.specs.Sound.{Standing, EnvAt};
+ghost use Rattle.refine_records.specs.Sound.{Standing, StillLent, EnvAt};
 ghost use Rattle.expander_bindings.specs.Contract.{ClassRead, Associated, TargetValueGiven, HasValue, GivenDone};
 
 use ast::NodeId;
 use journal_records;
 use journal_records::{Record, words};
 use refine_records;
-use refine_records::{Env, Journal, Limits, Refusal};
+use refine_records::{Counts, Env, Journal, Limits, Refusal};
 use sheet_rows::codes;
 
 // An IS adds an association to its scope.
@@ -26,7 +26,8 @@ pub fn associate(
 ) -> Result<(), Refusal>
     requires standing { Standing lim journal.old.work.now journal.old.counts }
     requires env_at { EnvAt journal.old.work.now journal.old.counts.charges env }
-    ensures { Associated lim journal.old.work.now journal.old.counts env interface node.0 field journal.new.work.now (done_given journal.new.counts result) }
+    ensures associated { Associated lim journal.old.work.now journal.old.counts env interface node.0 field journal.new.work.now (done_given journal.new.counts result) }
+    ensures still_lent { StillLent journal.old journal.new }
 {
     let scope = env.scope;
     journal.own(
@@ -65,12 +66,13 @@ pub fn target_value(
 ) -> Result<Given, Refusal>
     requires standing { Standing lim journal.old.work.now journal.old.counts }
     requires env_at { EnvAt journal.old.work.now journal.old.counts.charges env }
-    ensures { TargetValueGiven lim journal.old.work.now journal.old.counts env target journal.new.work.now journal.new.counts result }
+    ensures given { TargetValueGiven lim journal.old.work.now journal.old.counts env target journal.new.work.now journal.new.counts result }
+    ensures still_lent { StillLent journal.old journal.new }
 {
     let Some(values) = env.values else {
         return Ok(Given::Outside);
     };
-    let Some(v) = refine_values::value_of(journal, lim, values, target) else {
+    let Some(v) = refine_values::value_of(journal.lent(), lim, journal.counts, values, target) else {
         return Ok(Given::Without);
     };
     let ty = journal.word(v, words::value::TYPE);
@@ -81,15 +83,15 @@ pub fn target_value(
 }
 
 // Whether an IS target has a value in a scope.
-pub fn has_value(journal: &Journal<'_>, lim: Limits, env: Env, target: u32) -> bool
-    requires standing { Standing lim journal.now.work.now journal.now.counts }
-    requires env_at { EnvAt journal.now.work.now journal.now.counts.charges env }
-    ensures { HasValue journal.now.work.now env target result }
+pub fn has_value(work: &[u32], lim: Limits, counts: Counts, env: Env, target: u32) -> bool
+    requires standing { Standing lim work.now counts }
+    requires env_at { EnvAt work.now counts.charges env }
+    ensures { HasValue work.now env target result }
 {
     let Some(values) = env.values else {
         return false;
     };
-    refine_values::value_of(journal, lim, values, target).is_some()
+    refine_values::value_of(work, lim, counts, values, target).is_some()
 }
 
 // The value that an IS target has in the instance's scope, stored under an interface's name.
@@ -104,7 +106,8 @@ pub fn is_given(
     requires standing { Standing lim journal.old.work.now journal.old.counts }
     requires env_at { EnvAt journal.old.work.now journal.old.counts.charges env }
     requires handle_at { HandleAt journal.old.work.now journal.old.counts.charges tag_stored h }
-    ensures { GivenDone lim journal.old.work.now journal.old.counts env target name h journal.new.work.now (number_given journal.new.counts result) }
+    ensures stored { GivenDone lim journal.old.work.now journal.old.counts env target name h journal.new.work.now (number_given journal.new.counts result) }
+    ensures still_lent { StillLent journal.old journal.new }
 {
     match target_value(journal, lim, env, target)? {
         Given::Outside | Given::Without => Ok(h),

@@ -5,7 +5,7 @@ ghost use Rattle.std.specs.Prelude.{◌≡◌};
 ghost use Rattle.journal_records.specs.Records.{tag_field, tag_interface};
 ghost use Rattle.journal_reading.specs.WellFormed.{HandleAt};
 ghost use Rattle.refine_records.specs.Does.{number_given};
-ghost use Rattle.refine_records.specs.Sound.{Standing, EnvAt};
+ghost use Rattle.refine_records.specs.Sound.{Standing, StillLent, EnvAt};
 ghost use Rattle.expander_bindings.specs.Contract.{FieldDone, InterfaceDone};
 
 use ast::NodeId;
@@ -28,7 +28,8 @@ pub fn is_field(
     requires standing { Standing lim journal.old.work.now journal.old.counts }
     requires env_at { EnvAt journal.old.work.now journal.old.counts.charges env }
     requires handle_at { HandleAt journal.old.work.now journal.old.counts.charges tag_field h }
-    ensures { FieldDone lim journal.old.work.now journal.old.counts env new.0 r h journal.new.work.now (number_given journal.new.counts result) }
+    ensures added { FieldDone lim journal.old.work.now journal.old.counts env new.0 r h journal.new.work.now (number_given journal.new.counts result) }
+    ensures still_lent { StillLent journal.old journal.new }
 {
     expander_bindings::associate(journal, lim, env, r.c, new, r.a)?;
     match expander_bindings::target_value(journal, lim, env, r.c)? {
@@ -54,7 +55,8 @@ pub fn is_interface(
     requires env_at { EnvAt journal.old.work.now journal.old.counts.charges env }
     requires handle_at { HandleAt journal.old.work.now journal.old.counts.charges tag_interface h }
     requires fact { r.d ≡ 4294967295 → ⊥ }
-    ensures { InterfaceDone lim journal.old.work.now journal.old.counts env new.0 r h journal.new.work.now (number_given journal.new.counts result) }
+    ensures added { InterfaceDone lim journal.old.work.now journal.old.counts env new.0 r h journal.new.work.now (number_given journal.new.counts result) }
+    ensures still_lent { StillLent journal.old journal.new }
 {
     expander_bindings::associate(journal, lim, env, r.d, new, r.c)?;
     match expander_bindings::target_value(journal, lim, env, r.d)? {

@@ -1,5 +1,5 @@
 use Rattle.expander_bindings.proofs.Associations.{associated}
 use Rattle.expander_bindings.proofs.associate.Goals as goal
 
-pub returns : goal.returns
-returns c = associated (rw c.association.ensures at c.own.ensures)
+pub returns-clause-associated : goal.returns-clause-associated
+returns-clause-associated c = associated (rw c.association.ensures at c.own.ensures.owned)
