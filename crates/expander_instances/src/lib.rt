@@ -6,7 +6,7 @@ ghost use Rattle.std.specs.Prelude.{◌≡◌};
 ghost use Rattle.ast.specs.Choice.{or_else};
 ghost use Rattle.sheet_rows.specs.Parse.{optional};
 ghost use Rattle.refine_records.specs.Does.{copy_given};
-ghost use Rattle.refine_records.specs.Sound.{Standing};
+ghost use Rattle.refine_records.specs.Sound.{Standing, StillLent};
 ghost use Rattle.expander_bindings.specs.Contract.{Remappable, Remapped, Recordable, Recorded};
 
 use ast::NodeId;
@@ -20,19 +20,21 @@ use sheet_rows::row::NONE;
 fn remap_routes(journal: &mut Journal<'_>, lim: Limits, env: Env)
     requires standing { Standing lim journal.old.work.now journal.old.counts }
     requires remappable { Remappable journal.old.work.now journal.old.counts.charges env }
-    ensures { Remapped lim journal.old.work.now journal.old.counts env.scope journal.new.work.now × (journal.new.counts ≡ journal.old.counts) }
+    ensures remapped { Remapped lim journal.old.work.now journal.old.counts env.scope journal.new.work.now × (journal.new.counts ≡ journal.old.counts) }
+    ensures still_lent { StillLent journal.old journal.new }
 {
     // Kept: the loop writes into the records that it walks; an iterator over them would hold the journal borrowed.
     let mut cur = journal.word(env.place, words::scope::ROUTES) as usize;
     while 0 < cur {
         let r = cur - 1;
         let from = refine_nodes::remap(
-            journal,
+            journal.lent(),
             lim,
+            journal.counts,
             env,
             NodeId(journal.word(r, words::route::FROM)),
         );
-        let to = refine_nodes::remap(journal, lim, env, NodeId(journal.word(r, words::route::TO)));
+        let to = refine_nodes::remap(journal.lent(), lim, journal.counts, env, NodeId(journal.word(r, words::route::TO)));
         journal_records::set(journal.work, r, words::route::REMAPPED_FROM, from.0);
         journal_records::set(journal.work, r, words::route::REMAPPED_TO, to.0);
         cur = journal.word(r, words::BEFORE) as usize;
@@ -60,7 +62,8 @@ pub fn record_instance(
 ) -> Result<NodeCopy, Refusal>
     requires standing { Standing lim journal.old.work.now journal.old.counts }
     requires recordable { Recordable journal.old.work.now journal.old.counts.charges inner out.id.0 out.place }
-    ensures { Recorded lim journal.old.work.now journal.old.counts inner name def out.id.0 out.place journal.new.work.now (copy_given journal.new.counts result) }
+    ensures recorded { Recorded lim journal.old.work.now journal.old.counts inner name def out.id.0 out.place journal.new.work.now (copy_given journal.new.counts result) }
+    ensures still_lent { StillLent journal.old journal.new }
 {
     let c = journal.counts.charges;
     if lim.rows <= c {
