@@ -11,7 +11,7 @@ ghost use Rattle.journal_reading.specs.WellFormed.{HandleAt};
 ghost use Rattle.source_directory.specs.Directory.{number_of, Slot};
 ghost use Rattle.sheet_lookup.specs.Lookup.{sheet_of};
 ghost use Rattle.refine_records.specs.Does.{number_given};
-ghost use Rattle.refine_records.specs.Sound.{Standing, EnvAt};
+ghost use Rattle.refine_records.specs.Sound.{Standing, StillLent, EnvAt};
 ghost use Rattle.expander_parts.specs.Contract.{Lent, Declared, Routed, ExternStated, StatementCopied, StatementsCopied, OrderCopied};
 
 use ast::{ExternProtoId, NodeId};
@@ -49,7 +49,8 @@ pub fn extern_proto(
     requires standing { Standing lim journal.old.work.now journal.old.counts }
     requires lent { Lent lim sources.now.root.now sources.now.library.now sources.now.dir.now journal.old.work.now }
     requires slot { Slot sources.now.dir.now slot }
-    ensures { Declared lim sources.now.root.now sources.now.library.now sources.now.dir.now journal.old.work.now journal.old.counts slot id.0 journal.new.work.now (number_given journal.new.counts result) }
+    ensures declared { Declared lim sources.now.root.now sources.now.library.now sources.now.dir.now journal.old.work.now journal.old.counts slot id.0 journal.new.work.now (number_given journal.new.counts result) }
+    ensures still_lent { StillLent journal.old journal.new }
 {
     let document = source_directory::number(sources.dir, slot);
     let c = journal.counts.charges;
@@ -90,10 +91,11 @@ pub fn route(
     requires standing { Standing lim journal.old.work.now journal.old.counts }
     requires env_at { EnvAt journal.old.work.now journal.old.counts.charges env }
     requires handle_at { HandleAt journal.old.work.now journal.old.counts.charges tag_statement h }
-    ensures { Routed lim journal.old.work.now journal.old.counts env.scope r h journal.new.work.now (number_given journal.new.counts result) }
+    ensures routed { Routed lim journal.old.work.now journal.old.counts env.scope r h journal.new.work.now (number_given journal.new.counts result) }
+    ensures still_lent { StillLent journal.old journal.new }
 {
-    let from = refine_nodes::remap(journal, lim, env, NodeId(r.f));
-    let to = refine_nodes::remap(journal, lim, env, NodeId(r.g));
+    let from = refine_nodes::remap(journal.lent(), lim, journal.counts, env, NodeId(r.f));
+    let to = refine_nodes::remap(journal.lent(), lim, journal.counts, env, NodeId(r.g));
     journal.keep(
         lim,
         Record::route_statement(r.b, r.c, r.d, r.e, from.0, to.0, h),
@@ -113,7 +115,8 @@ pub fn extern_statement(
     requires lent { Lent lim sources.now.root.now sources.now.library.now sources.now.dir.now journal.old.work.now }
     requires slot { Slot sources.now.dir.now slot }
     requires handle_at { HandleAt journal.old.work.now journal.old.counts.charges tag_statement h }
-    ensures { ExternStated lim sources.now.root.now sources.now.library.now sources.now.dir.now journal.old.work.now journal.old.counts slot id.0 h journal.new.work.now (number_given journal.new.counts result) }
+    ensures stated { ExternStated lim sources.now.root.now sources.now.library.now sources.now.dir.now journal.old.work.now journal.old.counts slot id.0 h journal.new.work.now (number_given journal.new.counts result) }
+    ensures still_lent { StillLent journal.old journal.new }
 {
     let value = extern_proto(sources, journal, lim, slot, id)?;
     journal.keep(
@@ -136,7 +139,8 @@ fn statement(
     requires lent { Lent lim sources.now.root.now sources.now.library.now sources.now.dir.now journal.old.work.now }
     requires slot { Slot sources.now.dir.now env.slot }
     requires handle_at { HandleAt journal.old.work.now journal.old.counts.charges tag_statement h }
-    ensures { StatementCopied lim sources.now.root.now sources.now.library.now sources.now.dir.now journal.old.work.now journal.old.counts env r h journal.new.work.now (number_given journal.new.counts result) }
+    ensures copied { StatementCopied lim sources.now.root.now sources.now.library.now sources.now.dir.now journal.old.work.now journal.old.counts env r h journal.new.work.now (number_given journal.new.counts result) }
+    ensures still_lent { StillLent journal.old journal.new }
 {
     match r.a {
         codes::statement::ROUTE => route(journal, lim, env, r, h),
@@ -161,7 +165,8 @@ pub fn statements(
     requires lent { Lent lim sources.now.root.now sources.now.library.now sources.now.dir.now journal.old.work.now }
     requires slot { Slot sources.now.dir.now env.slot }
     requires row_in_bounds { row < length (rows (sheet_of sources.now.root.now sources.now.library.now (number_of sources.now.dir.now env.slot))) }
-    ensures { StatementsCopied lim sources.now.root.now sources.now.library.now sources.now.dir.now journal.old.work.now journal.old.counts env row journal.new.work.now (number_given journal.new.counts result) }
+    ensures copied { StatementsCopied lim sources.now.root.now sources.now.library.now sources.now.dir.now journal.old.work.now journal.old.counts env row journal.new.work.now (number_given journal.new.counts result) }
+    ensures still_lent { StillLent journal.old journal.new }
 {
     let sheet = sheet_of(sources, env.slot);
     let mut h: u32 = 0;
@@ -184,7 +189,8 @@ pub fn order(
     requires slot { Slot sources.now.dir.now env.slot }
     requires env_at { EnvAt journal.old.work.now journal.old.counts.charges env }
     requires row_in_bounds { row < length (rows (sheet_of sources.now.root.now sources.now.library.now (number_of sources.now.dir.now env.slot))) }
-    ensures { OrderCopied lim sources.now.root.now sources.now.library.now sources.now.dir.now journal.old.work.now journal.old.counts env row journal.new.work.now (number_given journal.new.counts result) }
+    ensures ordered { OrderCopied lim sources.now.root.now sources.now.library.now sources.now.dir.now journal.old.work.now journal.old.counts env row journal.new.work.now (number_given journal.new.counts result) }
+    ensures still_lent { StillLent journal.old journal.new }
 {
     let sheet = sheet_of(sources, env.slot);
     expander_marks::order(sheet, journal, lim, env, row)

@@ -7,11 +7,11 @@ use Rattle.expander_parts.proofs.extern_statement.Goals as goal
 pub extern_proto-requires : goal.extern_proto-requires
 extern_proto-requires c = record { standing = c.requires.standing; lent = c.requires.lent; slot = c.requires.slot }
 
-pub returns-in_err-value : goal.returns-in_err-value
-returns-in_err-value c = rw (exit c.from_residual.ensures.1) (rw c.in_err-value.was at (extern_stopped _ _ _ _ _ _ _ _ _ c.requires.standing.sound c.requires.handle_at c.extern_proto.ensures (ap (number_given _) c.in_err-value.was)))
+pub returns-in_err-value-clause-stated : goal.returns-in_err-value-clause-stated
+returns-in_err-value-clause-stated c = rw (exit c.from_residual.ensures.1) (rw c.in_err-value.was at (extern_stopped _ _ _ _ _ _ _ _ _ c.requires.standing.sound c.requires.handle_at c.extern_proto.ensures.declared (ap (number_given _) c.in_err-value.was)))
 
 pub keep-requires : goal.keep-requires
-keep-requires c = record { standing = extern_standing _ _ _ _ _ _ _ _ c.args.h c.requires.standing.sound c.requires.handle_at c.extern_proto.ensures (ap (number_given _) c.in_ok-value.was) c.requires.standing; keepable = rw c.statement.ensures (extern_keepable _ _ _ _ (extern_handle _ _ _ _ _ _ _ _ _ c.requires.standing.sound c.requires.handle_at c.extern_proto.ensures (ap (number_given _) c.in_ok-value.was))) }
+keep-requires c = record { standing = extern_standing _ _ _ _ _ _ _ _ c.args.h c.requires.standing.sound c.requires.handle_at c.extern_proto.ensures.declared (ap (number_given _) c.in_ok-value.was) c.requires.standing; keepable = rw c.statement.ensures (extern_keepable _ _ _ _ (extern_handle _ _ _ _ _ _ _ _ _ c.requires.standing.sound c.requires.handle_at c.extern_proto.ensures.declared (ap (number_given _) c.in_ok-value.was))) }
 
-pub returns : goal.returns
-returns c = extern_stated _ _ _ _ _ _ _ _ _ c.requires.standing.sound c.requires.handle_at c.extern_proto.ensures (ap (number_given _) c.in_ok-value.was) _ (rw c.statement.ensures at c.keep.ensures)
+pub returns-clause-stated : goal.returns-clause-stated
+returns-clause-stated c = extern_stated _ _ _ _ _ _ _ _ _ c.requires.standing.sound c.requires.handle_at c.extern_proto.ensures.declared (ap (number_given _) c.in_ok-value.was) _ (rw c.statement.ensures at c.keep.ensures.kept)
