@@ -72,7 +72,8 @@ pub fn target_value(
     let Some(values) = env.values else {
         return Ok(Given::Outside);
     };
-    let Some(v) = refine_values::value_of(journal.lent(), lim, journal.counts, values, target) else {
+    let Some(v) = refine_values::value_of(journal.lent(), lim, journal.counts, values, target)
+    else {
         return Ok(Given::Without);
     };
     let ty = journal.word(v, words::value::TYPE);

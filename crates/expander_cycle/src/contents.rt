@@ -3,7 +3,7 @@ ghost use Rattle.journal_records.specs.Records.{tag_field, tag_interface};
 ghost use Rattle.journal_records.specs.Made.{field_record};
 ghost use Rattle.journal_reading.specs.WellFormed.{HandleAt};
 ghost use Rattle.refine_records.specs.Does.{number_given};
-ghost use Rattle.refine_records.specs.Sound.{Standing};
+ghost use Rattle.refine_records.specs.Sound.{Standing, StillLent};
 ghost use Rattle.refine_records.specs.Contract.{Keepable, RecordKept};
 ghost use Rattle.expander_contracts.specs.Contract.{Here, AtRow, FieldsCopied, FieldAdded, InterfacesCopied, InterfaceAdded};
 
@@ -33,7 +33,8 @@ pub fn fields(
 ) -> Result<u32, Refusal>
     requires here { Here sources.now.root.now sources.now.library.now sources.now.dir.now journal.old.work.now lim journal.old.counts env }
     requires at_row { AtRow sources.now.root.now sources.now.library.now sources.now.dir.now env.slot row }
-    ensures { FieldsCopied sources.now.root.now sources.now.library.now sources.now.dir.now journal.old.work.now lim journal.old.counts env new.0 row depth journal.new.work.now (number_given journal.new.counts result) }
+    ensures copied { FieldsCopied sources.now.root.now sources.now.library.now sources.now.dir.now journal.old.work.now lim journal.old.counts env new.0 row depth journal.new.work.now (number_given journal.new.counts result) }
+    ensures still_lent { StillLent journal.old journal.new }
 {
     let sheet = expander_parts::sheet_of(sources, env.slot);
     let mut h: u32 = 0;
@@ -53,7 +54,8 @@ pub fn add_field(
 ) -> Result<u32, Refusal>
     requires standing { Standing lim journal.old.work.now journal.old.counts }
     requires keepable { Keepable journal.old.work.now journal.old.counts.charges (field_record r.a 0 0 r.d r.e r.f v h) }
-    ensures { RecordKept lim journal.old.work.now journal.old.counts (field_record r.a 0 0 r.d r.e r.f v h) journal.new.work.now (number_given journal.new.counts result) }
+    ensures kept { RecordKept lim journal.old.work.now journal.old.counts (field_record r.a 0 0 r.d r.e r.f v h) journal.new.work.now (number_given journal.new.counts result) }
+    ensures still_lent { StillLent journal.old journal.new }
 {
     journal.keep(lim, Record::field(r.a, r.d, r.e, r.f, v, h))
 }
@@ -72,7 +74,8 @@ pub fn field(
     requires here { Here sources.now.root.now sources.now.library.now sources.now.dir.now journal.old.work.now lim journal.old.counts env }
     requires at_row { AtRow sources.now.root.now sources.now.library.now sources.now.dir.now env.slot row }
     requires handle_at { HandleAt journal.old.work.now journal.old.counts.charges tag_field h }
-    ensures { FieldAdded sources.now.root.now sources.now.library.now sources.now.dir.now journal.old.work.now lim journal.old.counts env new.0 row h depth journal.new.work.now (number_given journal.new.counts result) }
+    ensures added { FieldAdded sources.now.root.now sources.now.library.now sources.now.dir.now journal.old.work.now lim journal.old.counts env new.0 row h depth journal.new.work.now (number_given journal.new.counts result) }
+    ensures still_lent { StillLent journal.old journal.new }
 {
     let r = elements::row_of(sources, env.slot, row);
     if r.b == codes::field::IS {
@@ -102,7 +105,8 @@ pub fn interfaces(
 ) -> Result<u32, Refusal>
     requires here { Here sources.now.root.now sources.now.library.now sources.now.dir.now journal.old.work.now lim journal.old.counts env }
     requires at_row { AtRow sources.now.root.now sources.now.library.now sources.now.dir.now env.slot row }
-    ensures { InterfacesCopied sources.now.root.now sources.now.library.now sources.now.dir.now journal.old.work.now lim journal.old.counts env new.0 row depth journal.new.work.now (number_given journal.new.counts result) }
+    ensures copied { InterfacesCopied sources.now.root.now sources.now.library.now sources.now.dir.now journal.old.work.now lim journal.old.counts env new.0 row depth journal.new.work.now (number_given journal.new.counts result) }
+    ensures still_lent { StillLent journal.old journal.new }
 {
     let sheet = expander_parts::sheet_of(sources, env.slot);
     let mut h: u32 = 0;
@@ -126,7 +130,8 @@ pub fn interface(
     requires here { Here sources.now.root.now sources.now.library.now sources.now.dir.now journal.old.work.now lim journal.old.counts env }
     requires at_row { AtRow sources.now.root.now sources.now.library.now sources.now.dir.now env.slot row }
     requires handle_at { HandleAt journal.old.work.now journal.old.counts.charges tag_interface h }
-    ensures { InterfaceAdded sources.now.root.now sources.now.library.now sources.now.dir.now journal.old.work.now lim journal.old.counts env new.0 row h depth journal.new.work.now (number_given journal.new.counts result) }
+    ensures added { InterfaceAdded sources.now.root.now sources.now.library.now sources.now.dir.now journal.old.work.now lim journal.old.counts env new.0 row h depth journal.new.work.now (number_given journal.new.counts result) }
+    ensures still_lent { StillLent journal.old journal.new }
 {
     let r = elements::row_of(sources, env.slot, row);
     if r.d != NONE {

@@ -7,6 +7,7 @@ ghost use Rattle.source_directory.specs.Directory.{number_of, Slot};
 ghost use Rattle.journal_records.specs.Records.{tag_stored};
 ghost use Rattle.journal_reading.specs.WellFormed.{HandleAt};
 ghost use Rattle.refine_records.specs.Does.{copy_given, number_given};
+ghost use Rattle.refine_records.specs.Sound.{StillLent};
 ghost use Rattle.expander_contracts.specs.Contract.{Here, AtRow, Instantiated, ValuesStored, ValueStored, InBody, BodyCopied, BodyStatementCopied, root_id, root_place, root_given, Rooted};
 
 use super::{elements, values};
@@ -38,7 +39,8 @@ pub fn instantiate(
     requires here { Here sources.now.root.now sources.now.library.now sources.now.dir.now journal.old.work.now lim journal.old.counts env }
     requires at_row { AtRow sources.now.root.now sources.now.library.now sources.now.dir.now env.slot row }
     requires slot { Slot sources.now.dir.now target.slot }
-    ensures { Instantiated sources.now.root.now sources.now.library.now sources.now.dir.now journal.old.work.now lim journal.old.counts env id.0 row target.slot target.proto.0 depth journal.new.work.now (copy_given journal.new.counts result) }
+    ensures instantiated { Instantiated sources.now.root.now sources.now.library.now sources.now.dir.now journal.old.work.now lim journal.old.counts env id.0 row target.slot target.proto.0 depth journal.new.work.now (copy_given journal.new.counts result) }
+    ensures still_lent { StillLent journal.old journal.new }
 {
     let document = source_directory::number(sources.dir, target.slot);
     let Found::At(decl) = sources.proto(journal.lent(), target.slot, target.proto) else {
@@ -85,7 +87,8 @@ pub fn values(
     requires slot { Slot sources.now.dir.now target.slot }
     requires at_row_2 { AtRow sources.now.root.now sources.now.library.now sources.now.dir.now target.slot decl }
     requires proto_part { ProtoPart (sheet_of sources.now.root.now sources.now.library.now (number_of sources.now.dir.now target.slot)) decl part.now }
-    ensures { ValuesStored sources.now.root.now sources.now.library.now sources.now.dir.now journal.old.work.now lim journal.old.counts env row target.slot target.proto.0 decl depth journal.new.work.now (number_given journal.new.counts result) }
+    ensures stored { ValuesStored sources.now.root.now sources.now.library.now sources.now.dir.now journal.old.work.now lim journal.old.counts env row target.slot target.proto.0 decl depth journal.new.work.now (number_given journal.new.counts result) }
+    ensures still_lent { StillLent journal.old journal.new }
 {
     let mut h: u32 = 0;
     for (k, q) in walk::elements(part, Part::Interfaces, 1).enumerate() {
@@ -125,7 +128,8 @@ pub fn given(
     requires slot { Slot sources.now.dir.now target.slot }
     requires at_row_2 { AtRow sources.now.root.now sources.now.library.now sources.now.dir.now target.slot q }
     requires handle_at { HandleAt journal.old.work.now journal.old.counts.charges tag_stored h }
-    ensures { ValueStored sources.now.root.now sources.now.library.now sources.now.dir.now journal.old.work.now lim journal.old.counts env row target.slot target.proto.0 q k h depth journal.new.work.now (number_given journal.new.counts result) }
+    ensures stored { ValueStored sources.now.root.now sources.now.library.now sources.now.dir.now journal.old.work.now lim journal.old.counts env row target.slot target.proto.0 q k h depth journal.new.work.now (number_given journal.new.counts result) }
+    ensures still_lent { StillLent journal.old journal.new }
 {
     let d = elements::row_of(sources, target.slot, q);
     if let Found::At(f) = sources.last_field(journal.lent(), env.slot, row, d.c) {
@@ -134,7 +138,7 @@ pub fn given(
             let value = values::value(sources, journal, lim, env, f, depth)?;
             return refine_values::store(journal, lim, d.c, r.e, r.f, value, h);
         }
-        if expander_bindings::has_value(journal, lim, env, r.c) {
+        if expander_bindings::has_value(journal.lent(), lim, journal.counts, env, r.c) {
             return expander_bindings::is_given(journal, lim, env, r.c, d.c, h);
         }
     }
@@ -175,6 +179,7 @@ pub fn body(
     requires in_body { InBody sources.now.root.now sources.now.library.now sources.now.dir.now journal.old.work.now lim journal.old.counts env inner 0 0 }
     ensures copied { BodyCopied sources.now.root.now sources.now.library.now journal.old.work.now lim journal.old.counts env id.0 inner (rows part.now) depth journal.new.work.now (root_given journal.new.counts result) }
     ensures rooted { IfOk result Rooted }
+    ensures still_lent { StillLent journal.old journal.new }
 {
     let mut root = None;
     for q in walk::elements(part, Part::Statements, 1) {
@@ -200,6 +205,7 @@ pub fn statement(
     requires rooted { Rooted root }
     ensures copied { BodyStatementCopied sources.now.root.now sources.now.library.now journal.old.work.now lim journal.old.counts env id.0 inner (rows part.now) row (root_id root) (root_place root) depth journal.new.work.now (root_given journal.new.counts result) }
     ensures rooted { IfOk result Rooted }
+    ensures still_lent { StillLent journal.old journal.new }
 {
     let r = row::row_at(part, row);
     let scope = inner.scope;

@@ -8,6 +8,7 @@ mod instances;
 mod values;
 
 ghost use Rattle.refine_records.specs.Does.{copy_given, number_given};
+ghost use Rattle.refine_records.specs.Sound.{StillLent};
 ghost use Rattle.expander_contracts.specs.Contract.{Here, AtRow, Copied, PlainNodeCopied, OriginCopied};
 
 use ast::{ExternProtoId, NodeId};
@@ -27,7 +28,8 @@ fn origin(
     row: usize,
 ) -> Result<u32, Refusal>
     requires { Here sources.now.root.now sources.now.library.now sources.now.dir.now journal.old.work.now lim journal.old.counts env }
-    ensures { OriginCopied sources.now.root.now sources.now.library.now sources.now.dir.now journal.old.work.now lim journal.old.counts env row journal.new.work.now (number_given journal.new.counts result) }
+    ensures copied { OriginCopied sources.now.root.now sources.now.library.now sources.now.dir.now journal.old.work.now lim journal.old.counts env row journal.new.work.now (number_given journal.new.counts result) }
+    ensures still_lent { StillLent journal.old journal.new }
 {
     let r = elements::row_of(sources, env.slot, row);
     if r.c == codes::origin::EXTERN_PROTO {
@@ -48,9 +50,10 @@ pub fn copy(
     depth: usize,
 ) -> Result<NodeCopy, Refusal>
     requires { Here sources.now.root.now sources.now.library.now sources.now.dir.now journal.old.work.now lim journal.old.counts env }
-    ensures { Copied sources.now.root.now sources.now.library.now journal.old.work.now lim journal.old.counts env id.0 depth journal.new.work.now (copy_given journal.new.counts result) }
+    ensures copied { Copied sources.now.root.now sources.now.library.now journal.old.work.now lim journal.old.counts env id.0 depth journal.new.work.now (copy_given journal.new.counts result) }
+    ensures still_lent { StillLent journal.old journal.new }
 {
-    if let Some(r) = refine_nodes::look(journal, lim, env, id) {
+    if let Some(r) = refine_nodes::look(journal.lent(), lim, journal.counts, env, id) {
         return Ok(NodeCopy {
             id: NodeId(journal.word(r, words::map::COPY)),
             place: journal.word(r, words::map::PAST),
@@ -86,7 +89,8 @@ fn plain(
 ) -> Result<NodeCopy, Refusal>
     requires here { Here sources.now.root.now sources.now.library.now sources.now.dir.now journal.old.work.now lim journal.old.counts env }
     requires at_row { AtRow sources.now.root.now sources.now.library.now sources.now.dir.now env.slot row }
-    ensures { PlainNodeCopied sources.now.root.now sources.now.library.now sources.now.dir.now journal.old.work.now lim journal.old.counts env id.0 row depth journal.new.work.now (copy_given journal.new.counts result) }
+    ensures copied { PlainNodeCopied sources.now.root.now sources.now.library.now sources.now.dir.now journal.old.work.now lim journal.old.counts env id.0 row depth journal.new.work.now (copy_given journal.new.counts result) }
+    ensures still_lent { StillLent journal.old journal.new }
 {
     let new = refine_nodes::reserve(journal, lim, env, id)?;
     let from = origin(sources, journal, lim, env, row)?;

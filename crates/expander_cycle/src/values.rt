@@ -1,5 +1,6 @@
 // A value, with the nodes of its ids.
 ghost use Rattle.refine_records.specs.Does.{number_given};
+ghost use Rattle.refine_records.specs.Sound.{StillLent};
 ghost use Rattle.expander_contracts.specs.Contract.{Here, AtRow, ValueCopied};
 
 use super::elements;
@@ -23,7 +24,8 @@ pub fn value(
 ) -> Result<u32, Refusal>
     requires here { Here sources.now.root.now sources.now.library.now sources.now.dir.now journal.old.work.now lim journal.old.counts env }
     requires at_row { AtRow sources.now.root.now sources.now.library.now sources.now.dir.now env.slot row }
-    ensures { ValueCopied sources.now.root.now sources.now.library.now sources.now.dir.now journal.old.work.now lim journal.old.counts env row depth journal.new.work.now (number_given journal.new.counts result) }
+    ensures copied { ValueCopied sources.now.root.now sources.now.library.now sources.now.dir.now journal.old.work.now lim journal.old.counts env row depth journal.new.work.now (number_given journal.new.counts result) }
+    ensures still_lent { StillLent journal.old journal.new }
 {
     let r = elements::row_of(sources, env.slot, row);
     if r.f != codes::class::NODES {

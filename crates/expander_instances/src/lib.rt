@@ -34,7 +34,13 @@ fn remap_routes(journal: &mut Journal<'_>, lim: Limits, env: Env)
             env,
             NodeId(journal.word(r, words::route::FROM)),
         );
-        let to = refine_nodes::remap(journal.lent(), lim, journal.counts, env, NodeId(journal.word(r, words::route::TO)));
+        let to = refine_nodes::remap(
+            journal.lent(),
+            lim,
+            journal.counts,
+            env,
+            NodeId(journal.word(r, words::route::TO)),
+        );
         journal_records::set(journal.work, r, words::route::REMAPPED_FROM, from.0);
         journal_records::set(journal.work, r, words::route::REMAPPED_TO, to.0);
         cur = journal.word(r, words::BEFORE) as usize;

@@ -3,6 +3,7 @@ use lib.ListN.{length}
 use Rattle.std.specs.Iterator.Adapters.{enumerate_source, enumerate_count}
 use Rattle.sheet_rows.specs.declared.part.Part.TheVariants.{Ids, Fields, Interfaces, Statements}
 use Rattle.sheet_walks.proofs.OverLaws.{Over}
+use Rattle.refine_records.specs.Sound.{StillLent}
 use Rattle.expander_contracts.proofs.ValueLaws.{Valuing}
 use Rattle.expander_contracts.proofs.FieldLaws.{Fielding}
 use Rattle.expander_parts.specs.Contract.{rows_of}
@@ -50,17 +51,17 @@ abbrev pub decreases-values::value : goal.decreases-values::value
 decreases-values::value l = l.depth * 16 + 1
 
 abbrev pub invariant-contents::fields-loop-q : goal.invariant-contents::fields-loop-q
-invariant-contents::fields-loop-q l = Over Fields (rows_of l.sources.root.now l.sources.library.now l.sources.dir.now l.env.slot) l.q-iterator × Fielding l.sources.root.now l.sources.library.now l.sources.dir.now l.initial.journal.work.now l.lim l.initial.journal.counts l.env l.new.0 l.row l.depth l.journal.work.now l.journal.counts l.h l.q-iterator.next
+invariant-contents::fields-loop-q l = Over Fields (rows_of l.sources.root.now l.sources.library.now l.sources.dir.now l.env.slot) l.q-iterator × Fielding l.sources.root.now l.sources.library.now l.sources.dir.now l.initial.journal.work.now l.lim l.initial.journal.counts l.env l.new.0 l.row l.depth l.journal.work.now l.journal.counts l.h l.q-iterator.next × StillLent l.initial.journal l.journal
 
 abbrev pub invariant-contents::interfaces-loop-q : goal.invariant-contents::interfaces-loop-q
-invariant-contents::interfaces-loop-q l = Over Interfaces (rows_of l.sources.root.now l.sources.library.now l.sources.dir.now l.env.slot) l.q-iterator × Interfacing l.sources.root.now l.sources.library.now l.sources.dir.now l.initial.journal.work.now l.lim l.initial.journal.counts l.env l.new.0 l.row l.depth l.journal.work.now l.journal.counts l.h l.q-iterator.next
+invariant-contents::interfaces-loop-q l = Over Interfaces (rows_of l.sources.root.now l.sources.library.now l.sources.dir.now l.env.slot) l.q-iterator × Interfacing l.sources.root.now l.sources.library.now l.sources.dir.now l.initial.journal.work.now l.lim l.initial.journal.counts l.env l.new.0 l.row l.depth l.journal.work.now l.journal.counts l.h l.q-iterator.next × StillLent l.initial.journal l.journal
 
 abbrev pub invariant-instances::body-loop-q : goal.invariant-instances::body-loop-q
-invariant-instances::body-loop-q l = Over Statements (rows l.part) l.q-iterator × Bodying l.sources.root.now l.sources.library.now l.sources.dir.now l.initial.journal.work.now l.lim l.initial.journal.counts l.env l.id.0 l.inner (rows l.part) l.depth l.journal.work.now l.journal.counts (root_id l.root) (root_place l.root) l.q-iterator.next × Rooted l.root
+invariant-instances::body-loop-q l = Over Statements (rows l.part) l.q-iterator × Bodying l.sources.root.now l.sources.library.now l.sources.dir.now l.initial.journal.work.now l.lim l.initial.journal.counts l.env l.id.0 l.inner (rows l.part) l.depth l.journal.work.now l.journal.counts (root_id l.root) (root_place l.root) l.q-iterator.next × Rooted l.root × StillLent l.initial.journal l.journal
 
 abbrev pub invariant-instances::values-loop-k : goal.invariant-instances::values-loop-k
 invariant-instances::values-loop-k l =
-    Over Interfaces (rows l.part) (enumerate_source l.k-iterator) × ((enumerate_source l.k-iterator).next ≤ length (rows l.part)) × Storing l.sources.root.now l.sources.library.now l.sources.dir.now l.initial.journal.work.now l.lim l.initial.journal.counts l.env l.row l.target.slot l.target.proto.0 l.decl l.depth l.journal.work.now l.journal.counts l.h (l.decl + (enumerate_source l.k-iterator).next) (enumerate_count l.k-iterator)
+    Over Interfaces (rows l.part) (enumerate_source l.k-iterator) × ((enumerate_source l.k-iterator).next ≤ length (rows l.part)) × Storing l.sources.root.now l.sources.library.now l.sources.dir.now l.initial.journal.work.now l.lim l.initial.journal.counts l.env l.row l.target.slot l.target.proto.0 l.decl l.depth l.journal.work.now l.journal.counts l.h (l.decl + (enumerate_source l.k-iterator).next) (enumerate_count l.k-iterator) × StillLent l.initial.journal l.journal
 
 abbrev pub invariant-values::value-loop-q : goal.invariant-values::value-loop-q
-invariant-values::value-loop-q l = Over Ids (rows_of l.sources.root.now l.sources.library.now l.sources.dir.now l.env.slot) l.q-iterator × Valuing l.sources.root.now l.sources.library.now l.sources.dir.now l.initial.journal.work.now l.lim l.initial.journal.counts l.env l.row l.depth l.journal.work.now l.journal.counts l.h l.q-iterator.next
+invariant-values::value-loop-q l = Over Ids (rows_of l.sources.root.now l.sources.library.now l.sources.dir.now l.env.slot) l.q-iterator × Valuing l.sources.root.now l.sources.library.now l.sources.dir.now l.initial.journal.work.now l.lim l.initial.journal.counts l.env l.row l.depth l.journal.work.now l.journal.counts l.h l.q-iterator.next × StillLent l.initial.journal l.journal

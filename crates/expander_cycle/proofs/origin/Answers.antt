@@ -9,8 +9,8 @@ row_of-r-requires c = slot_within c.requires.lent.sourced c.requires.slot
 pub extern_proto-requires : goal.extern_proto-requires
 extern_proto-requires c = record { standing = c.requires.standing; lent = c.requires.lent; slot = c.requires.slot }
 
-pub returns-then-r-eq-EXTERN_PROTO : goal.returns-then-r-eq-EXTERN_PROTO
-returns-then-r-eq-EXTERN_PROTO c = origin_extern _ _ _ _ _ _ _ _ c.requires _ c.row_of-r.ensures c.if-r-eq-EXTERN_PROTO.true c.extern_proto.ensures
+pub returns-then-r-eq-EXTERN_PROTO-clause-copied : goal.returns-then-r-eq-EXTERN_PROTO-clause-copied
+returns-then-r-eq-EXTERN_PROTO-clause-copied c = origin_extern _ _ _ _ _ _ _ _ c.requires _ c.row_of-r.ensures c.if-r-eq-EXTERN_PROTO.true c.extern_proto.ensures.declared
 
-pub returns : goal.returns
-returns c = origin_other _ _ _ _ _ _ _ _ c.requires _ c.row_of-r.ensures c.if-r-eq-EXTERN_PROTO.false refl
+pub returns-clause-copied : goal.returns-clause-copied
+returns-clause-copied c = origin_other _ _ _ _ _ _ _ _ c.requires _ c.row_of-r.ensures c.if-r-eq-EXTERN_PROTO.false refl
