@@ -6,6 +6,7 @@ ghost use Rattle.sheet_rows.specs.Rows.{rows};
 ghost use Rattle.journal_records.specs.Records.{tag_statement};
 ghost use Rattle.journal_reading.specs.WellFormed.{HandleAt};
 ghost use Rattle.refine_records.specs.Does.{number_given};
+ghost use Rattle.refine_records.specs.Sound.{StillLent};
 ghost use Rattle.expander_contracts.specs.Contract.{Here, StatementAdded, TopsCopied, NothingRecorded, TopStatementsCopied};
 
 use ast::{ExternProtoId, NodeId, ProtoId};
@@ -36,7 +37,8 @@ fn top_statement(
     requires here { Here sources.now.root.now sources.now.library.now sources.now.dir.now journal.old.work.now lim journal.old.counts env }
     requires slot_value { env.slot ≡ 0 }
     requires handle_at { HandleAt journal.old.work.now journal.old.counts.charges tag_statement h }
-    ensures { StatementAdded sources.now.root.now sources.now.library.now journal.old.work.now lim journal.old.counts env row h depth journal.new.work.now (number_given journal.new.counts result) }
+    ensures added { StatementAdded sources.now.root.now sources.now.library.now journal.old.work.now lim journal.old.counts env row h depth journal.new.work.now (number_given journal.new.counts result) }
+    ensures still_lent { StillLent journal.old journal.new }
 {
     let r = row::row_at(sources.root, row);
     match r.a {
@@ -63,7 +65,8 @@ pub fn top(
     depth: usize,
 ) -> Result<u32, Refusal>
     requires { NothingRecorded sources.now.root.now sources.now.library.now sources.now.dir.now journal.old.work.now lim }
-    ensures { TopStatementsCopied sources.now.root.now sources.now.library.now journal.old.work.now lim depth journal.new.work.now (number_given journal.new.counts result) }
+    ensures copied { TopStatementsCopied sources.now.root.now sources.now.library.now journal.old.work.now lim depth journal.new.work.now (number_given journal.new.counts result) }
+    ensures still_lent { StillLent journal.old journal.new }
 {
     if lim.rows < 3 {
         return Err(Refusal::TooManyRows);
@@ -100,7 +103,8 @@ fn tops(
     requires here { Here sources.now.root.now sources.now.library.now sources.now.dir.now journal.old.work.now lim journal.old.counts env }
     requires slot_value { env.slot ≡ 0 }
     requires row_in_bounds { row < length (rows sources.now.root.now) }
-    ensures { TopsCopied sources.now.root.now sources.now.library.now journal.old.work.now lim journal.old.counts env row depth journal.new.work.now (number_given journal.new.counts result) }
+    ensures copied { TopsCopied sources.now.root.now sources.now.library.now journal.old.work.now lim journal.old.counts env row depth journal.new.work.now (number_given journal.new.counts result) }
+    ensures still_lent { StillLent journal.old journal.new }
 {
     let mut h: u32 = 0;
     for q in walk::elements(sources.root, Part::Statements, row + 1) {
