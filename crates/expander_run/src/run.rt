@@ -11,20 +11,20 @@ use source_lookup::Sources;
 pub fn write<'a>(
     root: &'a [u32],
     library: &'a [u32],
-    journal: &Journal<'_>,
+    work: &[u32],
+    counts: Counts,
     tops: u32,
     out: &mut [u32],
     ledger: &mut [u32],
     scopes: &mut [u32],
 ) -> Expanded
-    requires { Writable root.now library.now journal.now.work.now journal.now.counts tops out.old ledger.old scopes.old }
-    ensures { after_of (Ok result) out.new ledger.new scopes.new ≡ written root.now library.now journal.now.work.now journal.now.counts tops out.old ledger.old scopes.old }
+    requires { Writable root.now library.now work.now counts tops out.old ledger.old scopes.old }
+    ensures { after_of (Ok result) out.new ledger.new scopes.new ≡ written root.now library.now work.now counts tops out.old ledger.old scopes.old }
 {
-    let counts = journal.counts;
     let rows = writer_pass::document::write(
         root,
         library,
-        journal.work,
+        work,
         counts.charges,
         counts.externs,
         tops,
@@ -76,5 +76,14 @@ pub fn run<'a>(
         },
     };
     let tops = expander_tops::top(&sources, &mut journal, lim, depth)?;
-    Ok(write(root, library, &journal, tops, out, ledger, scopes))
+    Ok(write(
+        root,
+        library,
+        journal.lent(),
+        journal.counts,
+        tops,
+        out,
+        ledger,
+        scopes,
+    ))
 }

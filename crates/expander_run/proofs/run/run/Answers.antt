@@ -7,10 +7,10 @@ pub top-requires : goal.top-requires
 top-requires c = blank _ _ _ _ _ _ _ _ _ c.requires c.prepare.ensures
 
 pub write-requires : goal.write-requires
-write-requires c = writable _ _ _ _ _ _ _ _ _ c.requires c.prepare.ensures (rw c.in_ok-tops.was at c.top.ensures)
+write-requires c = rw c.lent.ensures (writable _ _ _ _ _ _ _ _ _ c.requires c.prepare.ensures (rw c.in_ok-tops.was at c.top.ensures.copied))
 
 pub returns : goal.returns
-returns c = run_written _ _ _ _ _ _ _ _ _ c.requires c.prepare.ensures (rw c.in_ok-tops.was at c.top.ensures) (Ok c.write.result) c.write.ensures
+returns c = run_written _ _ _ _ _ _ _ _ _ c.requires c.prepare.ensures (rw c.in_ok-tops.was at c.top.ensures.copied) (Ok c.write.result) (rw c.lent.ensures at c.write.ensures)
 
 pub returns-in_err-tops : goal.returns-in_err-tops
-returns-in_err-tops c = rw (exit c.from_residual.ensures.1) (run_refused _ _ _ _ _ _ _ _ _ c.requires c.prepare.ensures (rw c.in_err-tops.was at c.top.ensures))
+returns-in_err-tops c = rw (exit c.from_residual.ensures.1) (run_refused _ _ _ _ _ _ _ _ _ c.requires c.prepare.ensures (rw c.in_err-tops.was at c.top.ensures.copied))
