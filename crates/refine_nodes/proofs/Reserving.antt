@@ -71,7 +71,7 @@ module _ (L : Limits) (w : List ℕ) (t : Counts) (e : code.Env) (id : ℕ) (st 
   count : length (nodes_of w c) ≡ t.nodes
   count = nodes_length w c ∙ sym so.nodes
 
-  pub reserve_most : (n : ℕ) → n ≡ t.nodes → L.nodes ≤ n → Reserved L w t e id w (Err TooManyNodes)
+  pub reserve_most : (n : ℕ) → n ≡ t.nodes → L.nodes ≤ n → {w' : List ℕ} → Reserved L w t e id w' (Err TooManyNodes)
   reserve_most n en h = record { does = λ S young. record { same = sym (reserve_8 (input_of S L) (env_of w e) id (at S w t) (omega (arith, count))); later = tt }; done = tt }
 
   module _ (n : ℕ) (en : n ≡ t.nodes) (h8 : n < L.nodes) where

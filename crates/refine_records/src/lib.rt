@@ -187,10 +187,10 @@ impl Journal<'_> {
         ensures kept { RecordKept lim self.old.work.now self.old.counts r self.new.work.now (number_given self.new.counts result) }
         ensures still_lent { StillLent self.old self.new }
     {
-        let at = self.room(lim)?;
-        journal_records::push(self.work, at, r);
+        let c = self.room(lim)?;
+        journal_records::push(self.work, c, r);
         self.counts.charges += 1;
-        Ok((at + 1) as u32)
+        Ok((c + 1) as u32)
     }
 
     // A charge and a record of a scope's own lists: an extra root, a route, an association.

@@ -83,7 +83,7 @@ module _ (L : Limits) (w : List ℕ) (t : Counts) (class payload : ℕ) (st : St
     clone_walk = walkable so.fair (omega (arith, so.charges, st.ready.room)) refl h
 
     module _ (n : ℕ) (en : n ≡ length (ids_at w payload)) where
-      pub clone_full : L.rows - t.charges < n → (a : Answer) → a ≡ Err TooManyRows → Cloned L w t class payload w a
+      pub clone_full : L.rows - t.charges < n → {w' : List ℕ} → (a : Answer) → a ≡ Err TooManyRows → Cloned L w t class payload w' a
       unfolding clone bind_r
       clone_full l a q = rw q (record { does = λ S young ty. record { same = rw (eq-eqb class 2 e, each_full (input_of S L) (ids_at w payload) (at S w t) (omega arith)); later = tt }; done = tt })
 
