@@ -1,12 +1,18 @@
--- What an export says by its cases.
-use mathlib.Core.Path.{◌≡◌, ap, ◌∙◌}
+-- The numbers of an answer one by one, and what an export says by its cases.
+use mathlib.Core.Path.{◌≡◌, refl, ap, ◌∙◌}
 use mathlib.Core.List.{List}
-use Prim.Native.Nat.{ℕ, ◌≤◌, ◌<◌}
-use lib.ListN.{length}
+use Prim.Native.Nat.{ℕ, zero, suc, ◌≤◌, ◌<◌}
+use lib.ListN.{length, get_or, get_or-replicate}
 use borrow.Author.Tests.{lt-ltb, le-ltb}
 use Rattle.std.specs.Prelude.{Result}
 use Rattle.words_lent.specs.Words.{over}
-use Rattle.words_answer.specs.Answer.{Said, refusal_of, words_of, answer_words, exported}
+use Rattle.words_answer.specs.Answer.{Said, unless_refused, numbers_after, refusal_of, words_of, answer_words, exported}
+
+number_at_lem : (refusal : ℕ) (numbers : List ℕ) (i : ℕ) → i < length numbers → get_or (numbers_after refusal numbers) i 0 ≡ unless_refused refusal (get_or numbers i 0)
+number_at_lem zero numbers i h = refl
+number_at_lem (suc n) numbers i h = get_or-replicate (length numbers) i 0 0 h
+
+-- ---- an export
 
 module _ (short n : ℕ) (lent answer : List ℕ) (s : Said) where
   pub exported_short : length answer < n → record { result = short; lent = lent; answer = answer } ≡ exported short n lent answer s
