@@ -1,15 +1,14 @@
 // The lines that the program writes.
 ghost use Rattle.std.specs.Prelude.{◌≡◌};
 ghost use Rattle.text_lines.specs.Write.{line as line_bytes};
-ghost use Rattle.test_cases.specs.Answer.{answer_numbers, malformed_numbers};
+ghost use Rattle.test_cases.specs.Answer.{answer_numbers, line_numbers, malformed_numbers};
 
 use expander_run::{Expanded, Numbers, Refusal};
 
 // Refusal, two place numbers, nodes, scopes, charges, rows of out, and the sum.
-fn numbers(answer: Result<Expanded, Refusal>, sum: u32) -> [u32; 8]
-    ensures { result ≡ answer_numbers answer sum }
+fn numbers(n: Numbers, sum: u32) -> [u32; 8]
+    ensures { result ≡ line_numbers n sum }
 {
-    let n = Numbers::of(answer);
     [
         n.refusal,
         n.first_place,
@@ -22,12 +21,19 @@ fn numbers(answer: Result<Expanded, Refusal>, sum: u32) -> [u32; 8]
     ]
 }
 
+// The line of a case whose answer is in numbers.
+pub fn line_of(n: Numbers, sum: u32) -> [u8; 89]
+    ensures { result ≡ line_bytes (line_numbers n sum) }
+{
+    let words = numbers(n, sum);
+    text_lines::line_of(&words)
+}
+
 // The line of a case.
 pub fn line(answer: Result<Expanded, Refusal>, sum: u32) -> [u8; 89]
     ensures { result ≡ line_bytes (answer_numbers answer sum) }
 {
-    let words = numbers(answer, sum);
-    text_lines::line_of(&words)
+    line_of(Numbers::of(answer), sum)
 }
 
 // The line of a case that is malformed: 99, which is no refusal, and the number of the case.

@@ -2,6 +2,7 @@
 // Kept: a count of lines beside the lent words; the words behind those that are read stay, for the cases to come.
 ghost use Rattle.std.specs.Prelude.{◌≡◌};
 ghost use Rattle.test_cases.specs.Frame.{call_read, or_stay, Text, Lines, SheetRead};
+ghost use Rattle.test_cases.specs.declared.frame.FrameError.TheVariants.{Lines as LinesRefused};
 
 use std::io;
 use text_lines::{LINE, ReadError, WORDS};
@@ -18,6 +19,8 @@ pub enum FrameError {
 }
 
 impl From<ReadError> for FrameError {
+    ghost from_gives = { λ error frame. frame ≡ LinesRefused error };
+
     fn from(error: ReadError) -> FrameError {
         FrameError::Lines(error)
     }
