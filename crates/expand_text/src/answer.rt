@@ -1,8 +1,7 @@
 // What the program writes of an answer: the first line, and how many rows of out come after it.
 ghost use Rattle.std.specs.Prelude.{◌≡◌};
-ghost use Rattle.text_lines.specs.Read.{read_number};
 ghost use Rattle.expander_run.specs.Calls.{told};
-ghost use Rattle.expand_text.specs.Answer.{refused_numbers, scene_numbers, first_line, answer_rows, Few};
+ghost use Rattle.expand_text.specs.Answer.{refused_numbers, scene_numbers, line_of, first_line, answer_rows, Few};
 ghost use Rattle.expand_text.specs.declared.answer.SceneError.TheVariants.{Expand};
 
 use expander_run::{Expanded, Numbers, Refusal};
@@ -26,12 +25,12 @@ impl From<Refusal> for SceneError {
     }
 }
 
-// A refusal of Read lines, which the program answers itself.
-fn refused(error: ReadError, place: u32) -> Numbers
-    ensures { told result ≡ refused_numbers (read_number error) place }
+// A refusal of the program's own, with its place.
+pub fn refused(number: u32, place: u32) -> Numbers
+    ensures { told result ≡ refused_numbers number place }
 {
     Numbers {
-        refusal: u32::from(error),
+        refusal: number,
         first_place: place,
         second_place: 0,
         nodes: 0,
@@ -48,23 +47,20 @@ fn numbers(answer: Result<Expanded, SceneError>) -> Numbers
     match answer {
         Ok(expanded) => Numbers::of(Ok(expanded)),
         Err(SceneError::Expand(refusal)) => Numbers::of(Err(refusal)),
-        Err(SceneError::WrongLength) => refused(ReadError::WrongLength, 0),
+        Err(SceneError::WrongLength) => refused(u32::from(ReadError::WrongLength), 0),
         Err(SceneError::BadLine { line }) => {
-            refused(
-                ReadError::BadLine {
-                    line: line as usize,
-                },
-                line,
-            )
+            let error = ReadError::BadLine {
+                line: line as usize,
+            };
+            refused(u32::from(error), line)
         }
     }
 }
 
-// The first line: refusal or 0, two place numbers, 0, nodes, scopes, charges, 0.
-pub fn line(answer: Result<Expanded, SceneError>) -> [u32; 8]
-    ensures { result ≡ first_line answer }
+// The first line of an answer in numbers: refusal or 0, two place numbers, 0, nodes, scopes, charges, 0.
+pub fn line_of(n: Numbers) -> [u32; 8]
+    ensures { result ≡ line_of (told n) }
 {
-    let n = numbers(answer);
     [
         n.refusal,
         n.first_place,
@@ -77,13 +73,24 @@ pub fn line(answer: Result<Expanded, SceneError>) -> [u32; 8]
     ]
 }
 
+// The first line.
+pub fn line(answer: Result<Expanded, SceneError>) -> [u32; 8]
+    ensures { result ≡ first_line answer }
+{
+    line_of(numbers(answer))
+}
+
+// How many rows of out come with an answer in numbers.
+pub fn rows_of(n: Numbers) -> usize
+    ensures { result ≡ (told n).rows }
+{
+    n.rows as usize
+}
+
 // How many rows of out are written: all that the answer has.
 pub fn rows(answer: Result<Expanded, SceneError>) -> usize
     requires { Few answer }
     ensures { result ≡ answer_rows answer }
 {
-    match answer {
-        Ok(expanded) => expanded.rows as usize,
-        Err(_) => 0,
-    }
+    rows_of(numbers(answer))
 }
