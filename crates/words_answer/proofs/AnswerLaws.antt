@@ -2,11 +2,15 @@
 use mathlib.Core.Path.{◌≡◌, refl, ap, ◌∙◌}
 use mathlib.Core.List.{List}
 use Prim.Native.Nat.{ℕ, zero, suc, ◌≤◌, ◌<◌}
-use lib.ListN.{length, get_or, get_or-replicate}
+use lib.ListN.{length, get_or, length-replicate, get_or-replicate}
 use borrow.Author.Tests.{lt-ltb, le-ltb}
 use Rattle.std.specs.Prelude.{Result}
 use Rattle.words_lent.specs.Words.{over}
 use Rattle.words_answer.specs.Answer.{Said, unless_refused, numbers_after, refusal_of, words_of, answer_words, exported}
+
+numbers_length : (refusal : ℕ) (numbers : List ℕ) → length (numbers_after refusal numbers) ≡ length numbers
+numbers_length zero numbers = refl
+numbers_length (suc n) numbers = length-replicate (length numbers) 0
 
 number_at_lem : (refusal : ℕ) (numbers : List ℕ) (i : ℕ) → i < length numbers → get_or (numbers_after refusal numbers) i 0 ≡ unless_refused refusal (get_or numbers i 0)
 number_at_lem zero numbers i h = refl
